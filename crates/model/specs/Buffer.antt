@@ -1,0 +1,192 @@
+-- Document 01, "The buffer of records": the layout, the rules of a store as a test that computes, and what preparing leaves.
+-- A buffer is the list of its words. The rules as statements, and the theorem that the test says yes exactly when they hold, are in proofs/Store.antt.
+use mathlib.Core.Bool.{Bool, true, false, cond, not, _&&_, _||_}
+use mathlib.Core.List.{List, [], _∷_, _++_, map}
+use mathlib.Core.Option.{Option, none, some}
+use mathlib.Core.Path.{_≡_}
+use Prim.Native.Nat.{ℕ, zero, suc, _+_, _-_, _*_, _/_, _≤_, Ordering, Ordering·lt, Ordering·eq, Ordering·gt}
+use lib.Dec.{eqb, leb, ltb}
+use lib.ListN.{length, getD, drop}
+use Rattle.model.specs.Keys.{Key, Tuple, spaceKey, nodeKey, edgeKey, isNode, isEdge, compareKeys, sameKey}
+use Rattle.model.specs.Tuples.{State, present}
+
+-- ---- the layout
+
+abbrev pub word : List ℕ → ℕ → ℕ
+word b i = getD b i 0
+
+-- words before the first record; words of a record
+abbrev pub headWords : ℕ
+headWords = 4
+
+abbrev pub recordWords : ℕ
+recordWords = 6
+
+-- "a length outside 10 to 12,297 words"
+abbrev pub leastLength : ℕ
+leastLength = 10
+
+abbrev pub mostLength : ℕ
+mostLength = 12297
+
+-- "C = (length − 4) / 6 rounded down"
+unfoldable pub capacityOf : List ℕ → ℕ
+capacityOf b = (length b - headWords) / recordWords
+
+-- "Record i, 1 to C, starts at word 4 + 6 × (i − 1): next index, s, n, g, m, value."
+unfoldable pub recordStart : ℕ → ℕ
+recordStart i = headWords + recordWords * (i - 1)
+
+unfoldable pub next : List ℕ → ℕ → ℕ
+next b i = word b (recordStart i)
+
+unfoldable pub keyAt : List ℕ → ℕ → Key
+keyAt b i =
+    record { s = word b (recordStart i + 1); n = word b (recordStart i + 2); g = word b (recordStart i + 3); m = word b (recordStart i + 4) }
+
+unfoldable pub tupleAt : List ℕ → ℕ → Tuple
+tupleAt b i = record { key = keyAt b i; value = word b (recordStart i + 5) }
+
+-- "Words past record C are never touched."
+unfoldable pub pastRecords : List ℕ → List ℕ
+pastRecords b = drop (headWords + recordWords * capacityOf b) b
+
+-- ---- chains
+
+-- a record before the records that were met after it
+abbrev pub before : ℕ → Option (List ℕ) → Option (List ℕ)
+before i none = none
+before i (some is) = some (i ∷ is)
+
+-- "A next of 0 ends a chain": the records that a chain meets from its start, where it ends within so many records
+unfoldable pub walk : (ℕ → ℕ) → ℕ → ℕ → Option (List ℕ)
+walk link zero zero = some []
+walk link zero (suc i) = none
+walk link (suc most) zero = some []
+walk link (suc most) (suc i) = before (suc i) (walk link most (link (suc i)))
+
+unfoldable pub ends : Option (List ℕ) → Bool
+ends none = false
+ends (some is) = true
+
+unfoldable pub orNothing : Option (List ℕ) → List ℕ
+orNothing none = []
+orNothing (some is) = is
+
+-- "word 1 heads the used chain, word 2 the free chain"
+unfoldable pub usedChain : List ℕ → Option (List ℕ)
+usedChain b = walk (next b) (capacityOf b) (word b 1)
+
+unfoldable pub freeChain : List ℕ → Option (List ℕ)
+freeChain b = walk (next b) (capacityOf b) (word b 2)
+
+unfoldable pub usedOf : List ℕ → List ℕ
+usedOf b = orNothing (usedChain b)
+
+unfoldable pub freeOf : List ℕ → List ℕ
+freeOf b = orNothing (freeChain b)
+
+-- "A used record holds the tuple that its key and value give": the tuples that a store holds, in chain order
+unfoldable pub tuplesOf : List ℕ → State
+tuplesOf b = map (tupleAt b) (usedOf b)
+
+-- how often an index stands in a list of indices
+unfoldable pub count : ℕ → List ℕ → ℕ
+count i [] = 0
+count i (j ∷ js) = cond (eqb i j) 1 0 + count i js
+
+-- does a test pass at each of the records 1 to C
+unfoldable pub everyRecord : (ℕ → Bool) → ℕ → Bool
+everyRecord p zero = true
+everyRecord p (suc i) = p (suc i) && everyRecord p i
+
+-- ---- the rules on the tuples of a store
+
+abbrev pub isLess : Ordering → Bool
+isLess Ordering·lt = true
+isLess Ordering·eq = false
+isLess Ordering·gt = false
+
+-- "used keys strictly ascend, s first"
+unfoldable pub ascendsFrom : Key → State → Bool
+ascendsFrom k [] = true
+ascendsFrom k (t ∷ ts) = isLess (compareKeys k (t .key)) && ascendsFrom (t .key) ts
+
+-- ".. the first is (0,0,0,0)"
+unfoldable pub ascendsFromUniverse : State → Bool
+ascendsFromUniverse [] = false
+ascendsFromUniverse (t ∷ ts) = sameKey (t .key) (spaceKey 0) && ascendsFrom (t .key) ts
+
+-- "key words are at most 65,535"
+abbrev pub mostName : ℕ
+mostName = 65535
+
+unfoldable pub smallKey : Key → Bool
+smallKey k = leb (k .s) mostName && (leb (k .n) mostName && (leb (k .g) mostName && leb (k .m) mostName))
+
+-- "n = 0 makes g and m 0"
+unfoldable pub nodeNamed : Key → Bool
+nodeNamed k = not (eqb (k .n) 0) || (eqb (k .g) 0 && eqb (k .m) 0)
+
+-- "g is 0 exactly when m is"
+unfoldable pub bothEnds : Key → Bool
+bothEnds k = cond (eqb (k .g) 0) (eqb (k .m) 0) (not (eqb (k .m) 0))
+
+-- "each node tuple has its space and its tuple in 0"
+unfoldable pub nodeSupported : State → Key → Bool
+nodeSupported ts k = not (isNode k) || (present (spaceKey (k .s)) ts && present (nodeKey 0 (k .n)) ts)
+
+-- "each edge tuple has its two node tuples in s and its tuple in 0"
+unfoldable pub edgeSupported : State → Key → Bool
+edgeSupported ts k =
+    not (isEdge k)
+    || (present (nodeKey (k .s) (k .n)) ts && (present (nodeKey (k .s) (k .m)) ts && present (edgeKey 0 (k .n) (k .g) (k .m)) ts))
+
+unfoldable pub everyKey : (Key → Bool) → State → Bool
+everyKey p [] = true
+everyKey p (t ∷ ts) = p (t .key) && everyKey p ts
+
+-- the rules on the tuples together
+unfoldable pub sound : State → Bool
+sound ts =
+    ascendsFromUniverse ts
+    && (everyKey smallKey ts
+    && (everyKey nodeNamed ts && (everyKey bothEnds ts && (everyKey (nodeSupported ts) ts && everyKey (edgeSupported ts) ts))))
+
+-- ---- a store
+
+-- "A store is a buffer of 10 to 12,297 words where: word 0 fits; both heads and every next are at most C;
+-- the two chains together meet each record exactly once; word 3 is right; .." and the rules on the tuples
+unfoldable pub isStore : List ℕ → Bool
+isStore b =
+    leb leastLength (length b)
+    && (leb (length b) mostLength
+    && (eqb (word b 0) (capacityOf b)
+    && (leb (word b 1) (capacityOf b)
+    && (leb (word b 2) (capacityOf b)
+    && (everyRecord (λ (i : ℕ). leb (next b i) (capacityOf b)) (capacityOf b)
+    && (ends (usedChain b)
+    && (ends (freeChain b)
+    && (everyRecord (λ (i : ℕ). eqb (count i (usedOf b ++ freeOf b)) 1) (capacityOf b)
+    && (eqb (word b 3) (length (usedOf b)) && sound (tuplesOf b))))))))))
+
+-- ---- preparing
+
+-- the next free record in ascending order, 0 after the last
+unfoldable pub follower : ℕ → ℕ → ℕ
+follower C i = cond (ltb i C) (suc i) 0
+
+-- "Preparing uses record 1 for UNIVERSE, chains 2 to C as free in ascending order": what it leaves of a buffer of 10 to 12,297 words.
+-- Left to the builder: the words of free records besides next.
+pub record Prepared (before after : List ℕ) : Type 0 where
+  pub least : leastLength ≤ length before
+  pub most : length before ≤ mostLength
+  pub size : length after ≡ length before
+  pub capacity : word after 0 ≡ capacityOf before
+  pub usedHead : word after 1 ≡ 1
+  pub freeHead : word after 2 ≡ follower (capacityOf before) 1
+  pub used : word after 3 ≡ 1
+  pub universeLast : next after 1 ≡ 0
+  pub universe : tupleAt after 1 ≡ record { key = spaceKey 0; value = 0 }
+  pub free : (i : ℕ) → 2 ≤ i → i ≤ capacityOf before → next after i ≡ follower (capacityOf before) i
+  pub past : pastRecords after ≡ pastRecords before

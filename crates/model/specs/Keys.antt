@@ -1,0 +1,57 @@
+-- Document 01, "Names and tuples": keys, tuples and their order.
+-- Names are numbers here and have no upper bound: the bound of 65,535 is a rule of the store (Buffer.antt), so the order below serves names of any width.
+use mathlib.Core.Bool.{Bool, not, _&&_}
+use Prim.Native.Nat.{ℕ, compare, Ordering, Ordering·lt, Ordering·eq, Ordering·gt}
+use lib.Dec.{eqb, isEq}
+
+-- "A value is a 32-bit word; 0 is NIL."
+abbrev pub Value : Type 0
+Value = ℕ
+
+abbrev pub NIL : Value
+NIL = 0
+
+-- "A tuple has a key (s, n, g, m) .."
+pub record Key : Type 0 where
+  pub s : ℕ
+  pub n : ℕ
+  pub g : ℕ
+  pub m : ℕ
+
+-- ".. and a value"
+pub record Tuple : Type 0 where
+  pub key : Key
+  pub value : Value
+
+-- "(s,0,0,0) is space s"; "in tuples and answers UNIVERSE is written 0"
+abbrev pub spaceKey : ℕ → Key
+spaceKey s = record { s = s; n = 0; g = 0; m = 0 }
+
+-- "(s,n,0,0) is node n in s"
+abbrev pub nodeKey : ℕ → ℕ → Key
+nodeKey s n = record { s = s; n = n; g = 0; m = 0 }
+
+-- "(s,n,g,m) is edge g from n to m in s"
+abbrev pub edgeKey : ℕ → ℕ → ℕ → ℕ → Key
+edgeKey s n g m = record { s = s; n = n; g = g; m = m }
+
+-- which of the three a key is
+abbrev pub isNode : Key → Bool
+isNode k = not (eqb (k .n) 0) && eqb (k .g) 0
+
+abbrev pub isEdge : Key → Bool
+isEdge k = not (eqb (k .g) 0)
+
+-- an order of first parts, refined by one of later parts where the first are equal
+abbrev pub thenBy : Ordering → Ordering → Ordering
+thenBy Ordering·lt o = Ordering·lt
+thenBy Ordering·eq o = o
+thenBy Ordering·gt o = Ordering·gt
+
+-- "used keys strictly ascend, s first"
+unfoldable pub compareKeys : Key → Key → Ordering
+compareKeys a b =
+    thenBy (compare (a .s) (b .s)) (thenBy (compare (a .n) (b .n)) (thenBy (compare (a .g) (b .g)) (compare (a .m) (b .m))))
+
+abbrev pub sameKey : Key → Key → Bool
+sameKey a b = isEq (compareKeys a b)

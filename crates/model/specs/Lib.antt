@@ -1,0 +1,10 @@
+pub mod Keys
+pub mod Tuples
+pub mod Operators
+pub mod Pairs
+pub mod Steps
+pub mod Refusals
+pub mod Machine
+pub mod Buffer
+pub mod OneCall
+pub mod Lists

@@ -1,0 +1,38 @@
+-- Document 01, "The tuple machine": one call, and a list of calls.
+use mathlib.Core.List.{List, [], _∷_}
+use mathlib.Core.Option.{Option, none, some}
+use Prim.Native.Nat.{ℕ}
+use Rattle.model.specs.declared.Call.{Call}
+use Rattle.model.specs.Tuples.{State}
+use Rattle.model.specs.Operators.{operatorOf}
+use Rattle.model.specs.Steps.{Reply, refusal, reply, after}
+use Rattle.model.specs.Refusals.{refusalOf}
+
+-- what a call answers, and the state after it
+pub record Outcome : Type 0 where
+  pub answer : Reply
+  pub state : State
+
+-- "A call that 'Where a call is stopped' stops leaves the state as it is, and its answer is the refusal of that number."
+unfoldable pub settle : Option ℕ → State → Call → Outcome
+settle (some number) ts c = record { answer = refusal number; state = ts }
+settle none ts c = record { answer = reply (operatorOf (c .operator)) c ts; state = after (operatorOf (c .operator)) c ts }
+
+-- "Each operator is one step. It is fed only the calls: operator, fields and the length of the call's answer list."
+unfoldable pub machine : ℕ → State → Call → ℕ → Outcome
+machine C ts c room = settle (refusalOf C ts c room) ts c
+
+-- a call with the length of its answer list
+pub record Request : Type 0 where
+  pub call : Call
+  pub room : ℕ
+
+-- "the list of answers": the machine's answers to a list of calls ..
+unfoldable pub answers : ℕ → State → List Request → List Reply
+answers C ts [] = []
+answers C ts (r ∷ rs) = machine C ts (r .call) (r .room) .answer ∷ answers C (machine C ts (r .call) (r .room) .state) rs
+
+-- .. and its state after the last
+unfoldable pub final : ℕ → State → List Request → State
+final C ts [] = ts
+final C ts (r ∷ rs) = final C (machine C ts (r .call) (r .room) .state) rs

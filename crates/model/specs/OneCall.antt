@@ -1,0 +1,84 @@
+-- All that one call does, on any buffer and with any answer list: the contract of the entry.
+use mathlib.Core.Bool.{Bool, true, false}
+use mathlib.Core.List.{List, _++_, map}
+use mathlib.Core.Option.{Option, some}
+use mathlib.Core.Path.{_≡_}
+use Prim.Native.Nat.{ℕ, _+_, _*_, _/_, _%_}
+use lib.ListN.{length, take, drop}
+use Rattle.model.specs.declared.Call.{Call}
+use Rattle.model.specs.declared.Answer.{Answer}
+use Rattle.model.specs.declared.Answer.the-variants.{Refusal, Name, Value, YesNo, List as Listed}
+use Rattle.model.specs.declared.Pair.{Pair}
+use Rattle.model.specs.Operators.{Operator, create, bind, value, exists, destroy, list, operatorOf}
+use Rattle.model.specs.Pairs.{pair, edgeOf, nodeOf}
+use Rattle.model.specs.Steps.{Reply, refusal, name, valued, yesNo, pairs}
+use Rattle.model.specs.Refusals.{refusalOf}
+use Rattle.model.specs.Machine.{Outcome, machine}
+use Rattle.model.specs.Buffer.{capacityOf, tuplesOf, isStore, pastRecords}
+
+-- ---- answers in the caller's types
+
+-- document 01's number and values for each case of an answer; of a list, how many pairs it has
+unfoldable pub answerOf : Reply → Answer
+answerOf (refusal number) = Refusal number
+answerOf (name x) = Name x
+answerOf (valued v) = Value v
+answerOf (yesNo b) = YesNo b
+answerOf (pairs ps) = Listed (length ps)
+
+-- a pair in one word of the answer list
+unfoldable pub pack : Pair → ℕ
+pack p = edgeOf p * 65536 + nodeOf p
+
+unfoldable pub unpack : ℕ → Pair
+unpack w = pair (w / 65536) (w % 65536)
+
+-- "in its first k places; the rest stays": the answer list afterwards
+unfoldable pub writtenList : Reply → List ℕ → List ℕ
+writtenList (refusal number) l = l
+writtenList (name x) l = l
+writtenList (valued v) l = l
+writtenList (yesNo b) l = l
+writtenList (pairs ps) l = map pack ps ++ drop (length ps) l
+
+-- what a caller is told by an answer and the list that was lent to the call
+unfoldable pub told : Answer → List ℕ → Reply
+told (Refusal number) l = refusal number
+told (Name x) l = name x
+told (Value v) l = valued v
+told (YesNo b) l = yesNo b
+told (Listed k) l = pairs (map unpack (take k l))
+
+-- ---- one call
+
+-- C, B and D write the buffer; "Operators of V, X and S change no word."
+unfoldable pub writes : Operator → Bool
+writes (create o) = true
+writes (bind o) = true
+writes (value o) = false
+writes (exists o) = false
+writes (destroy r) = true
+writes (list l) = false
+
+-- "not a store": refusal 1, and nothing is changed
+pub record OnNoStore (b l : List ℕ) (a : Answer) (b′ l′ : List ℕ) : Type 0 where
+  pub answer : a ≡ Refusal 1
+  pub buffer : b′ ≡ b
+  pub list : l′ ≡ l
+
+-- on a store: the machine's answer, and a store of the same length with the machine's tuples.
+-- Left to the builder: which record holds a tuple, and the words of free records besides next.
+pub record OnStore (b l : List ℕ) (c : Call) (a : Answer) (b′ l′ : List ℕ) : Type 0 where
+  pub answer : a ≡ answerOf (machine (capacityOf b) (tuplesOf b) c (length l) .answer)
+  pub list : l′ ≡ writtenList (machine (capacityOf b) (tuplesOf b) c (length l) .answer) l
+  pub store : isStore b′ ≡ true
+  pub tuples : tuplesOf b′ ≡ machine (capacityOf b) (tuplesOf b) c (length l) .state
+  pub size : length b′ ≡ length b
+  pub past : pastRecords b′ ≡ pastRecords b
+  pub refused : (number : ℕ) → refusalOf (capacityOf b) (tuplesOf b) c (length l) ≡ some number → b′ ≡ b
+  pub reading : writes (operatorOf (c .operator)) ≡ false → b′ ≡ b
+
+-- the call c on the buffer b with the answer list l gives the answer a and leaves the buffer b′ and the list l′
+pub record OneCall (b l : List ℕ) (c : Call) (a : Answer) (b′ l′ : List ℕ) : Type 0 where
+  pub noStore : isStore b ≡ false → OnNoStore b l a b′ l′
+  pub onStore : isStore b ≡ true → OnStore b l c a b′ l′

@@ -1,0 +1,106 @@
+-- Document 01, "Where a call is stopped": conditions 2 to 10 in their order. "The first that applies wins; nothing is changed."
+-- Condition 1 is about the buffer (OneCall.antt), condition 11 about a script's line; neither arises in the machine.
+use mathlib.Core.Bool.{Bool, true, false, cond, not, _&&_, _||_}
+use mathlib.Core.List.{List, [], _∷_}
+use mathlib.Core.Option.{Option, none, some}
+use Prim.Native.Nat.{ℕ, _+_}
+use lib.Dec.{eqb, ltb}
+use lib.ListN.{length}
+use Rattle.model.specs.declared.Call.{Call}
+use Rattle.model.specs.declared.Reads.{Reads}
+use Rattle.model.specs.declared.Space.{Space}
+use Rattle.model.specs.declared.Space.the-variants.{Universe, Numbered}
+use Rattle.model.specs.Keys.{Key, spaceKey, nodeKey}
+use Rattle.model.specs.Tuples.{State, present, anyPresent, missing}
+use Rattle.model.specs.Operators.{Operator, create, bind, value, exists, destroy, list, operatorOf, within, readsOf}
+use Rattle.model.specs.Steps.{nOf, gOf, mOf, sOf, objectKeys, toList, toAdd}
+
+-- the number of a condition, and whether it applies
+pub record Stop : Type 0 where
+  pub number : ℕ
+  pub applies : Bool
+
+abbrev pub stop : ℕ → Bool → Stop
+stop number applies = record { number = number; applies = applies }
+
+-- "The first that applies wins."
+unfoldable pub first : List Stop → Option ℕ
+first [] = none
+first (x ∷ xs) = cond (x .applies) (some (x .number)) (first xs)
+
+-- the space of the call is a number, and that is 0
+unfoldable pub zeroSpace : Space → Bool
+zeroSpace Universe = false
+zeroSpace (Numbered s) = eqb (s .0) 0
+
+unfoldable pub isUniverse : Space → Bool
+isUniverse Universe = true
+isUniverse (Numbered s) = false
+
+-- 2, operator: "not 1 to 57"
+unfoldable pub noOperator : Call → Bool
+noOperator c = not (within 1 57 (c .operator))
+
+-- 3, names: "a name that is read is 0"
+unfoldable pub zeroName : Call → Bool
+zeroName c =
+    let r = readsOf (c .operator) in
+    (r .n && eqb (nOf c) 0) || (r .g && eqb (gOf c) 0) || (r .m && eqb (mOf c) 0) || (r .s && zeroSpace (c .s))
+
+-- 4, space: "55 on UNIVERSE"
+unfoldable pub destroysUniverse : Call → Bool
+destroysUniverse c = eqb (c .operator) 55 && isUniverse (c .s)
+
+-- 5, space: "s absent (not for 51, 54, 55)"
+unfoldable pub spaceAbsent : Call → State → Bool
+spaceAbsent c ts =
+    (readsOf (c .operator) .s) && not (eqb (c .operator) 51 || within 54 55 (c .operator)) && not (present (spaceKey (sOf c)) ts)
+
+-- 6, node: "n absent from s (1–44, 46, 47), or from 0 (57)"
+unfoldable pub nodeAbsent : Call → State → Bool
+nodeAbsent c ts =
+    ((within 1 44 (c .operator) || within 46 47 (c .operator)) && not (present (nodeKey (sOf c) (nOf c)) ts))
+    || (eqb (c .operator) 57 && not (present (nodeKey 0 (nOf c)) ts))
+
+-- 7, node: "m, where it is read, absent from s"
+unfoldable pub secondAbsent : Call → State → Bool
+secondAbsent c ts = (readsOf (c .operator) .m) && not (present (nodeKey (sOf c) (mOf c)) ts)
+
+-- the tuples in s that C, B, V and X work on
+unfoldable pub workedOn : Operator → Call → List Key
+workedOn (create o) c = objectKeys o (sOf c) c
+workedOn (bind o) c = objectKeys o (sOf c) c
+workedOn (value o) c = objectKeys o (sOf c) c
+workedOn (exists o) c = objectKeys o (sOf c) c
+workedOn (destroy r) c = []
+workedOn (list l) c = []
+
+-- 8, pair: "4–8: no such edge; 6 only if both are absent"
+unfoldable pub edgeAbsent : Call → State → Bool
+edgeAbsent c ts = within 4 8 (c .operator) && not (anyPresent (workedOn (operatorOf (c .operator)) c) ts)
+
+-- 9, answer list: "shorter than k"
+unfoldable pub listShort : Call → State → ℕ → Bool
+listShort c ts room = ltb room (length (toList (operatorOf (c .operator)) c ts))
+
+-- 10, records: "full: tuples present + tuples to add > C"
+unfoldable pub full : ℕ → Call → State → Bool
+full C c ts = ltb C (length ts + length (missing (toAdd (operatorOf (c .operator)) c) ts))
+
+-- the conditions in their order; room is the length of the call's answer list
+unfoldable pub stops : ℕ → State → Call → ℕ → List Stop
+stops C ts c room =
+    stop 2 (noOperator c)
+    ∷ stop 3 (zeroName c)
+    ∷ stop 4 (destroysUniverse c)
+    ∷ stop 5 (spaceAbsent c ts)
+    ∷ stop 6 (nodeAbsent c ts)
+    ∷ stop 7 (secondAbsent c ts)
+    ∷ stop 8 (edgeAbsent c ts)
+    ∷ stop 9 (listShort c ts room)
+    ∷ stop 10 (full C c ts)
+    ∷ []
+
+-- the number of the refusal, or none where the call is not stopped
+unfoldable pub refusalOf : ℕ → State → Call → ℕ → Option ℕ
+refusalOf C ts c room = first (stops C ts c room)

@@ -1,0 +1,57 @@
+// The types of the store that its callers see: names, the space of a call, a call, an answer, a pair of the answer list.
+// The definitions over them, in the order of document 01, are in specs/. There is no code here.
+
+// "Nodes, edges and spaces are named by 1 to 65,535 (16 bits), separately": one type for each sort of name.
+pub struct NodeName(pub u16);
+
+pub struct EdgeName(pub u16);
+
+pub struct SpaceName(pub u16);
+
+// "The space of a call is either UNIVERSE or a number."
+pub enum Space {
+    // The universal space, which has no name.
+    Universe,
+    // The space of that number.
+    Numbered(SpaceName),
+}
+
+// "Call fields, every name a field of 16 bits: n first node, g edge, m second node, v value, s space."
+pub struct Call {
+    // Any number; 1 to 57 are operators.
+    pub operator: u32,
+    pub n: NodeName,
+    pub g: EdgeName,
+    pub m: NodeName,
+    pub v: u32,
+    pub s: Space,
+}
+
+// "The number fixes the arguments that are read": which fields of a call count.
+pub struct Reads {
+    pub n: bool,
+    pub g: bool,
+    pub m: bool,
+    pub v: bool,
+    pub s: bool,
+}
+
+// "C, B and D return the first argument; V a value; X yes or no; S a count k"; a call that is stopped, its refusal's number.
+pub enum Answer {
+    // The number of the condition that stopped the call.
+    Refusal(u32),
+    // The first argument: a node's name, or a space's (0 for UNIVERSE).
+    Name(u16),
+    // A value; 0 is NIL.
+    Value(u32),
+    // Yes or no.
+    YesNo(bool),
+    // How many pairs stand in the first places of the answer list.
+    List(usize),
+}
+
+// "The answer list is a lent list of pairs (edge, node)."
+pub struct Pair {
+    pub edge: EdgeName,
+    pub node: NodeName,
+}
