@@ -1,1 +1,5 @@
+pub mod Bools
+pub mod Order
+pub mod Ordered
+pub mod Tuples
 pub mod Cases

@@ -4,10 +4,11 @@ use mathlib.Core.Bool.{Bool, true, false, cond, not, _&&_, _||_}
 use mathlib.Core.List.{List, [], _∷_, _++_, map}
 use mathlib.Core.Option.{Option, none, some}
 use mathlib.Core.Path.{_≡_}
-use Prim.Native.Nat.{ℕ, zero, suc, _+_, _-_, _*_, _/_, _≤_, Ordering, Ordering·lt, Ordering·eq, Ordering·gt}
+use Prim.Native.Nat.{ℕ, zero, suc, _+_, _-_, _*_, _/_, _≤_}
 use lib.Dec.{eqb, leb, ltb}
 use lib.ListN.{length, getD, drop}
-use Rattle.model.specs.Keys.{Key, Tuple, spaceKey, nodeKey, edgeKey, isNode, isEdge, compareKeys, sameKey}
+use Rattle.model.specs.Ordered.{ascendsFrom}
+use Rattle.model.specs.Keys.{Key, Tuple, keyOf, spaceKey, nodeKey, edgeKey, isNode, isEdge, compareKeys, sameKey}
 use Rattle.model.specs.Tuples.{State, present}
 
 -- ---- the layout
@@ -102,20 +103,10 @@ everyRecord p (suc i) = p (suc i) && everyRecord p i
 
 -- ---- the rules on the tuples of a store
 
-abbrev pub isLess : Ordering → Bool
-isLess Ordering·lt = true
-isLess Ordering·eq = false
-isLess Ordering·gt = false
-
--- "used keys strictly ascend, s first"
-unfoldable pub ascendsFrom : Key → State → Bool
-ascendsFrom k [] = true
-ascendsFrom k (t ∷ ts) = isLess (compareKeys k (t .key)) && ascendsFrom (t .key) ts
-
--- ".. the first is (0,0,0,0)"
+-- "used keys strictly ascend, s first; the first is (0,0,0,0)"
 unfoldable pub ascendsFromUniverse : State → Bool
 ascendsFromUniverse [] = false
-ascendsFromUniverse (t ∷ ts) = sameKey (t .key) (spaceKey 0) && ascendsFrom (t .key) ts
+ascendsFromUniverse (t ∷ ts) = sameKey (t .key) (spaceKey 0) && ascendsFrom keyOf compareKeys (t .key) ts
 
 -- "key words are at most 65,535"
 abbrev pub mostName : ℕ

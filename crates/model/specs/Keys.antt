@@ -1,8 +1,9 @@
 -- Document 01, "Names and tuples": keys, tuples and their order.
 -- Names are numbers here and have no upper bound: the bound of 65,535 is a rule of the store (Buffer.antt), so the order below serves names of any width.
 use mathlib.Core.Bool.{Bool, not, _&&_}
-use Prim.Native.Nat.{ℕ, compare, Ordering, Ordering·lt, Ordering·eq, Ordering·gt}
+use Prim.Native.Nat.{ℕ, compare, Ordering}
 use lib.Dec.{eqb, isEq}
+use Rattle.model.specs.Ordered.{thenBy}
 
 -- "A value is a 32-bit word; 0 is NIL."
 abbrev pub Value : Type 0
@@ -23,6 +24,9 @@ pub record Tuple : Type 0 where
   pub key : Key
   pub value : Value
 
+abbrev pub keyOf : Tuple → Key
+keyOf t = t .key
+
 -- "(s,0,0,0) is space s"; "in tuples and answers UNIVERSE is written 0"
 abbrev pub spaceKey : ℕ → Key
 spaceKey s = record { s = s; n = 0; g = 0; m = 0 }
@@ -41,12 +45,6 @@ isNode k = not (eqb (k .n) 0) && eqb (k .g) 0
 
 abbrev pub isEdge : Key → Bool
 isEdge k = not (eqb (k .g) 0)
-
--- an order of first parts, refined by one of later parts where the first are equal
-abbrev pub thenBy : Ordering → Ordering → Ordering
-thenBy Ordering·lt o = Ordering·lt
-thenBy Ordering·eq o = o
-thenBy Ordering·gt o = Ordering·gt
 
 -- "used keys strictly ascend, s first"
 unfoldable pub compareKeys : Key → Key → Ordering

@@ -1,3 +1,4 @@
+pub mod Ordered
 pub mod Keys
 pub mod Tuples
 pub mod Operators
@@ -6,5 +7,6 @@ pub mod Steps
 pub mod Refusals
 pub mod Machine
 pub mod Buffer
+pub mod Rules
 pub mod OneCall
 pub mod Lists

@@ -8,13 +8,13 @@ use Prim.Native.Nat.{ℕ, _+_, _<_}
 use lib.ListN.{length}
 use Rattle.model.specs.declared.Call.{Call}
 use Rattle.model.specs.declared.Answer.{Answer}
-use Rattle.model.specs.Keys.{Key, spaceKey, nodeKey, edgeKey, isNode, isEdge}
-use Rattle.model.specs.Tuples.{State, fresh, present, missing}
+use Rattle.model.specs.Tuples.{State, fresh, missing}
 use Rattle.model.specs.Operators.{operatorOf}
 use Rattle.model.specs.Steps.{Reply, refusal, toAdd}
 use Rattle.model.specs.Refusals.{Stop, stop, first, noOperator, zeroName, destroysUniverse, spaceAbsent, nodeAbsent, secondAbsent, edgeAbsent, listShort}
 use Rattle.model.specs.Machine.{Request, machine, answers, final}
 use Rattle.model.specs.Buffer.{capacityOf, tuplesOf, freeOf, isStore}
+use Rattle.model.specs.Rules.{NothingMissing}
 use Rattle.model.specs.OneCall.{OneCall, told}
 
 -- a call that was made: the answer list lent to it, before and after, and its answer
@@ -64,12 +64,6 @@ abbrev pub FullExactly : ℕ → State → List Request → Type 0
 FullExactly C ts [] = Unit {0}
 FullExactly C ts (r ∷ rs) =
     ((machine C ts (r .call) (r .room) .answer ≡ refusal 10) ↔ Exceeds C ts r) × FullExactly C (machine C ts (r .call) (r .room) .state) rs
-
--- "nothing names a missing node or space"
-pub record NothingMissing (ts : State) : Type 0 where
-  pub nodes : (k : Key) → present k ts ≡ true → isNode k ≡ true → (present (spaceKey (k .s)) ts ≡ true) × (present (nodeKey 0 (k .n)) ts ≡ true)
-  pub edges : (k : Key) → present k ts ≡ true → isEdge k ≡ true
-      → (present (nodeKey (k .s) (k .n)) ts ≡ true) × (present (nodeKey (k .s) (k .m)) ts ≡ true) × (present (edgeKey 0 (k .n) (k .g) (k .m)) ts ≡ true)
 
 -- demand 3, of a list of calls made from a fresh store of C records to the buffer b
 pub record WholeList (C : ℕ) (xs : List Made) (b : List ℕ) : Type 0 where

@@ -4,8 +4,9 @@ use mathlib.Core.List.{List, [], _∷_, _++_, map}
 use Prim.Native.Nat.{ℕ, compare, Ordering}
 use lib.Dec.{eqb}
 use Rattle.model.specs.declared.Pair.{Pair}
-use Rattle.model.specs.Keys.{Key, Tuple, thenBy, isNode, isEdge, edgeKey}
-use Rattle.model.specs.Tuples.{State, byOrder}
+use Rattle.model.specs.Ordered.{holds, put, thenBy}
+use Rattle.model.specs.Keys.{Key, isNode, isEdge, edgeKey}
+use Rattle.model.specs.Tuples.{State}
 use Rattle.model.specs.Operators.{Direction, outpointing, inpointing, adjacent}
 
 -- "pairs (edge, node)"
@@ -22,15 +23,17 @@ nodeOf p = p .node .0
 unfoldable pub comparePairs : Pair → Pair → Ordering
 comparePairs p q = thenBy (compare (edgeOf p) (edgeOf q)) (compare (nodeOf p) (nodeOf q))
 
--- ".. each once": a pair put at its place in an ascending list, or the list itself where it holds the pair
-unfoldable pub insert : Pair → List Pair → List Pair
-insert p [] = p ∷ []
-insert p (q ∷ qs) = byOrder (comparePairs p q) (p ∷ q ∷ qs) (q ∷ qs) (q ∷ insert p qs)
+abbrev pub itself : Pair → Pair
+itself p = p
 
--- the pairs of a list, ascending, each once
+-- does a list hold a pair
+abbrev pub member : Pair → List Pair → Bool
+member p ps = holds itself comparePairs p ps
+
+-- ".. each once": the pairs of a list, ascending, each once
 unfoldable pub ascending : List Pair → List Pair
 ascending [] = []
-ascending (p ∷ ps) = insert p (ascending ps)
+ascending (p ∷ ps) = put itself comparePairs p (ascending ps)
 
 -- what each tuple's key gives, one after the other
 unfoldable pub gather : (Key → List Pair) → State → List Pair

@@ -1,9 +1,9 @@
 -- Document 01, "The tuple machine": its state, and what a step can do to it.
 -- "Its state is a set of tuples, one value per key": a list of tuples whose keys strictly ascend.
-use mathlib.Core.Bool.{Bool, true, false, cond, not, _||_}
+use mathlib.Core.Bool.{Bool, false, cond, _||_}
 use mathlib.Core.List.{List, [], _∷_}
-use Prim.Native.Nat.{ℕ, Ordering, Ordering·lt, Ordering·eq, Ordering·gt}
-use Rattle.model.specs.Keys.{Value, NIL, Key, Tuple, spaceKey, compareKeys, sameKey}
+use Rattle.model.specs.Ordered.{holds, put}
+use Rattle.model.specs.Keys.{Value, NIL, Key, Tuple, keyOf, spaceKey, compareKeys, sameKey}
 
 abbrev pub State : Type 0
 State = List Tuple
@@ -13,9 +13,8 @@ abbrev pub fresh : State
 fresh = record { key = spaceKey 0; value = NIL } ∷ []
 
 -- is there a tuple with this key
-unfoldable pub present : Key → State → Bool
-present k [] = false
-present k (t ∷ ts) = sameKey k (t .key) || present k ts
+abbrev pub present : Key → State → Bool
+present k ts = holds keyOf compareKeys k ts
 
 -- is one of these keys present
 unfoldable pub anyPresent : List Key → State → Bool
@@ -27,29 +26,18 @@ unfoldable pub valueAt : Key → State → Value
 valueAt k [] = NIL
 valueAt k (t ∷ ts) = cond (sameKey k (t .key)) (t .value) (valueAt k ts)
 
-abbrev pub byOrder : {A : Type 0} → Ordering → A → A → A → A
-byOrder Ordering·lt less same more = less
-byOrder Ordering·eq less same more = same
-byOrder Ordering·gt less same more = more
-
 -- "add .., NIL where missing; a present one keeps its value"
-unfoldable pub add : Key → State → State
-add k [] = record { key = k; value = NIL } ∷ []
-add k (t ∷ ts) = byOrder (compareKeys k (t .key)) (record { key = k; value = NIL } ∷ t ∷ ts) (t ∷ ts) (t ∷ add k ts)
+abbrev pub add : Key → State → State
+add k ts = put keyOf compareKeys (record { key = k; value = NIL }) ts
 
 unfoldable pub addAll : List Key → State → State
 addAll [] ts = ts
 addAll (k ∷ ks) ts = addAll ks (add k ts)
 
--- does a key stand in a list of keys
-unfoldable pub among : Key → List Key → Bool
-among k [] = false
-among k (j ∷ js) = sameKey k j || among k js
-
--- "the tuples to add (the keys that the step would add and that are missing)", each once
+-- "the tuples to add (the keys that the step would add and that are missing)": each key that is missing when its turn comes, so each once
 unfoldable pub missing : List Key → State → List Key
 missing [] ts = []
-missing (k ∷ ks) ts = cond (present k ts || among k ks) (missing ks ts) (k ∷ missing ks ts)
+missing (k ∷ ks) ts = cond (present k ts) (missing ks ts) (k ∷ missing ks (add k ts))
 
 -- "set the value .. to v"; a key that is missing stays so
 unfoldable pub assign : Key → Value → State → State
