@@ -1,12 +1,13 @@
 -- Laws of sets as ascending lists (specs/Ordered.antt).
 use mathlib.Core.Bool.{Bool, true, false, cond, _&&_, _||_, false≢true, true≢false}
 use mathlib.Core.List.{List, [], _∷_}
+use mathlib.Core.Logic.{⊎-elim}
 use mathlib.Core.Path.{_≡_, refl, sym, ap, ap₂, _∙_, subst}
 use Prim.Native.Nat.{ℕ, suc, Ordering, Ordering·lt, Ordering·eq, Ordering·gt}
 use lib.Dec.{isEq}
 use lib.ListN.{length}
 use Rattle.model.specs.Ordered.{byOrder, isLess, holds, put, ascendsFrom, Above, Ascending}
-use Rattle.model.proofs.Bools.{and-left, and-right, and-both, clash}
+use Rattle.model.proofs.Bools.{or-cases, and-left, and-right, and-both, clash}
 use Rattle.model.proofs.Order.{Compares, IsOrder, opposite, lt≢eq, lt≢gt}
 
 or-again : (a b : Bool) → (a || b) ≡ (a || (a || b))
@@ -73,6 +74,15 @@ module _ {A K : Type 0} (key : A → K) (order : K → K → Ordering) (L : IsOr
   above-not-held k [] h = refl
   above-not-held k (x ∷ xs) h =
       ap₂ _||_ (ap isEq (h .0)) (above-not-held k xs (above-less k (key x) xs (h .0) (h .1)))
+
+  -- a key that is held is above
+  pub above-held : (k j : K) (xs : List A) → Above key order k xs → holds key order j xs ≡ true → order k j ≡ Ordering·lt
+  unfolding holds
+  above-held k j [] h e = absurd (false≢true e)
+  above-held k j (x ∷ xs) h e =
+      ⊎-elim (λ f. subst (λ (i : K). order k i ≡ Ordering·lt) (sym (at-element j (key x) f)) (h .0))
+      (λ f. L .compares .transitive k (key x) j (h .0) (above-held (key x) j xs (h .1) f))
+      (or-cases (isEq (order j (key x))) (holds key order j xs) e)
 
   pub put-above : (k : K) (a : A) (xs : List A) → Above key order k xs → order k (key a) ≡ Ordering·lt → Above key order k (put key order a xs)
   unfolding put

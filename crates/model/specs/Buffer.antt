@@ -8,7 +8,7 @@ use Prim.Native.Nat.{ℕ, zero, suc, _+_, _-_, _*_, _/_, _≤_}
 use lib.Dec.{eqb, leb, ltb}
 use lib.ListN.{length, getD, drop}
 use Rattle.model.specs.Ordered.{ascendsFrom}
-use Rattle.model.specs.Keys.{Key, Tuple, keyOf, spaceKey, nodeKey, edgeKey, isNode, isEdge, compareKeys, sameKey}
+use Rattle.model.specs.Keys.{mostName, Key, Tuple, keyOf, spaceKey, nodeKey, edgeKey, isNode, isEdge, compareKeys, sameKey}
 use Rattle.model.specs.Tuples.{State, present}
 
 -- ---- the layout
@@ -109,9 +109,6 @@ ascendsFromUniverse [] = false
 ascendsFromUniverse (t ∷ ts) = sameKey (t .key) (spaceKey 0) && ascendsFrom keyOf compareKeys (t .key) ts
 
 -- "key words are at most 65,535"
-abbrev pub mostName : ℕ
-mostName = 65535
-
 unfoldable pub smallKey : Key → Bool
 smallKey k = leb (k .s) mostName && (leb (k .n) mostName && (leb (k .g) mostName && leb (k .m) mostName))
 

@@ -5,6 +5,10 @@ use Prim.Native.Nat.{ℕ, compare, Ordering}
 use lib.Dec.{eqb, isEq}
 use Rattle.model.specs.Ordered.{thenBy}
 
+-- "Nodes, edges and spaces are named by 1 to 65,535 (16 bits), separately."
+abbrev pub mostName : ℕ
+mostName = 65535
+
 -- "A value is a 32-bit word; 0 is NIL."
 abbrev pub Value : Type 0
 Value = ℕ

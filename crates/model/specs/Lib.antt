@@ -8,5 +8,6 @@ pub mod Refusals
 pub mod Machine
 pub mod Buffer
 pub mod Rules
+pub mod Entries
 pub mod OneCall
 pub mod Lists

@@ -1,11 +1,12 @@
 -- Document 01, "The tuple machine": one call, and a list of calls.
 use mathlib.Core.List.{List, [], _∷_}
 use mathlib.Core.Option.{Option, none, some}
-use Prim.Native.Nat.{ℕ}
+use Prim.Native.Nat.{ℕ, _≤_}
 use Rattle.model.specs.declared.Call.{Call}
 use Rattle.model.specs.Tuples.{State}
 use Rattle.model.specs.Operators.{operatorOf}
-use Rattle.model.specs.Steps.{Reply, refusal, reply, after}
+use Rattle.model.specs.Keys.{mostName}
+use Rattle.model.specs.Steps.{Reply, refusal, nOf, gOf, mOf, sOf, reply, after}
 use Rattle.model.specs.Refusals.{refusalOf}
 
 -- what a call answers, and the state after it
@@ -21,6 +22,13 @@ settle none ts c = record { answer = reply (operatorOf (c .operator)) c ts; stat
 -- "Each operator is one step. It is fed only the calls: operator, fields and the length of the call's answer list."
 unfoldable pub machine : ℕ → State → Call → ℕ → Outcome
 machine C ts c room = settle (refusalOf C ts c room) ts c
+
+-- "every name a field of 16 bits"
+pub record FieldsFit (c : Call) : Type 0 where
+  pub n : nOf c ≤ mostName
+  pub g : gOf c ≤ mostName
+  pub m : mOf c ≤ mostName
+  pub s : sOf c ≤ mostName
 
 -- a call with the length of its answer list
 pub record Request : Type 0 where

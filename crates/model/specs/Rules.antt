@@ -8,9 +8,9 @@ use mathlib.Core.Path.{_≡_}
 use Prim.Native.Nat.{ℕ, _≤_}
 use lib.ListN.{length}
 use Rattle.model.specs.Ordered.{Ascending}
-use Rattle.model.specs.Keys.{Key, keyOf, spaceKey, nodeKey, edgeKey, compareKeys}
+use Rattle.model.specs.Keys.{mostName, Key, keyOf, spaceKey, nodeKey, edgeKey, compareKeys}
 use Rattle.model.specs.Tuples.{State, present}
-use Rattle.model.specs.Buffer.{word, leastLength, mostLength, mostName, capacityOf, next, tupleAt, count}
+use Rattle.model.specs.Buffer.{word, leastLength, mostLength, capacityOf, next, tupleAt, count}
 
 -- ---- the tuples
 
