@@ -12,7 +12,7 @@ use Rattle.model.specs.Tuples.{fresh, anyPresent, valueAt, addAll, missi
 use Rattle.model.specs.Operators.{table, operatorOf, readsOf}
 use Rattle.model.specs.Pairs.{comparePairs, ascending, gather, outPair, inPair, pairsAt, pairsOf, edgeNames, nodeNames, only, nodesIn, spacesIn, spacesWith, anyPair}
 use Rattle.model.specs.Steps.{Reply, refusal, name, pairs, spaceNumber, objectKeys, created, firstValue, reaches, edgesTaken, nodeTaken, removeNodes, spaceTaken, destroyed, listed, objectName, removalName, toList, toAdd, reply, after}
-use Rattle.model.specs.Refusals.{first, zeroSpace, isUniverse, noOperator, zeroName, destroysUniverse, spaceAbsent, nodeAbsent, secondAbsent, workedOn, edgeAbsent, listShort, full, stops, refusalOf}
+use Rattle.model.specs.Refusals.{first, zeroSpace, isUniverse, noOperator, zeroName, destroysUniverse, spaceAbsent, nodeAbsent, secondAbsent, workedOn, edgeAbsent, listShort, full, earlier, refusalOf}
 use Rattle.model.specs.Machine.{Request, settle, machine, answers, final}
 
 -- ---- calls as a script writes them, with an answer list of so many places
@@ -84,7 +84,7 @@ pub record Cases : Type 0 where
   pub j : answers 2048 fresh (withRoom 0 (SUN Universe) ∷ CUN 1 Universe ∷ withRoom 0 (SUN Universe) ∷ []) ≡ pairs [] ∷ name 1 ∷ refusal 9 ∷ []
 
 pub cases : Cases
-unfolding holds put compareKeys anyPresent valueAt addAll missing assign assignAll remove table operatorOf readsOf comparePairs ascending gather outPair inPair pairsAt pairsOf edgeNames nodeNames only nodesIn spacesIn spacesWith anyPair spaceNumber objectKeys created firstValue reaches edgesTaken nodeTaken removeNodes spaceTaken destroyed listed objectName removalName toList toAdd reply after first zeroSpace isUniverse noOperator zeroName destroysUniverse spaceAbsent nodeAbsent secondAbsent workedOn edgeAbsent listShort full stops refusalOf settle machine answers final
+unfolding holds put compareKeys anyPresent valueAt addAll missing assign assignAll remove table operatorOf readsOf comparePairs ascending gather outPair inPair pairsAt pairsOf edgeNames nodeNames only nodesIn spacesIn spacesWith anyPair spaceNumber objectKeys created firstValue reaches edgesTaken nodeTaken removeNodes spaceTaken destroyed listed objectName removalName toList toAdd reply after first zeroSpace isUniverse noOperator zeroName destroysUniverse spaceAbsent nodeAbsent secondAbsent workedOn edgeAbsent listShort full earlier refusalOf settle machine answers final
 cases =
     record {
       a = refl;

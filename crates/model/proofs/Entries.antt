@@ -24,13 +24,13 @@ use Rattle.model.proofs.Tuples.{same-key, own-key}
 abbrev pub Member : Pair → List Pair → Type 0
 Member q ps = member q ps ≡ true
 
-abbrev samePair : Pair → Pair → Bool
+abbrev pub samePair : Pair → Pair → Bool
 samePair p q = isEq (comparePairs p q)
 
-same-pair : (p q : Pair) → samePair p q ≡ true → p ≡ q
+pub same-pair : (p q : Pair) → samePair p q ≡ true → p ≡ q
 same-pair p q e = at-element itself comparePairs pairs p q e
 
-own-pair : (p : Pair) → samePair p p ≡ true
+pub own-pair : (p : Pair) → samePair p p ≡ true
 own-pair p = self itself comparePairs pairs p
 
 -- ---- how lists are made
@@ -95,7 +95,7 @@ map-complete f (r ∷ ps) p e =
     (λ h. or-right (samePair (f p) (f r)) (member (f p) (map f ps)) (map-complete f ps p h))
     (or-cases (samePair p r) (member p ps) e)
 
-only-sound : (p : Pair → Bool) (ps : List Pair) (q : Pair) → Member q (only p ps) → Member q ps × (p q ≡ true)
+pub only-sound : (p : Pair → Bool) (ps : List Pair) (q : Pair) → Member q (only p ps) → Member q ps × (p q ≡ true)
 unfolding only holds
 only-sound p [] q e = absurd (false≢true e)
 only-sound p (r ∷ ps) q e = go (p r) refl (only-sound p ps q) e

@@ -5,4 +5,6 @@ pub mod Tuples
 pub mod Rules
 pub mod Taken
 pub mod Entries
+pub mod Steps
+pub mod Refusals
 pub mod Cases

@@ -11,7 +11,7 @@ use Rattle.model.specs.declared.Answer.{Answer}
 use Rattle.model.specs.Tuples.{State, fresh, missing}
 use Rattle.model.specs.Operators.{operatorOf}
 use Rattle.model.specs.Steps.{Reply, refusal, toAdd}
-use Rattle.model.specs.Refusals.{Stop, stop, first, noOperator, zeroName, destroysUniverse, spaceAbsent, nodeAbsent, secondAbsent, edgeAbsent, listShort}
+use Rattle.model.specs.Refusals.{first, earlier}
 use Rattle.model.specs.Machine.{Request, machine, answers, final}
 use Rattle.model.specs.Buffer.{capacityOf, tuplesOf, freeOf, isStore}
 use Rattle.model.specs.Rules.{NothingMissing}
@@ -39,19 +39,6 @@ requests xs = map requestOf xs
 -- what the callers were told
 abbrev pub replies : List Made → List Reply
 replies xs = map (λ (x : Made). told (x .answer) (x .left)) xs
-
--- conditions 2 to 9: the refusals earlier than "full"
-unfoldable pub earlier : State → Call → ℕ → List Stop
-earlier ts c room =
-    stop 2 (noOperator c)
-    ∷ stop 3 (zeroName c)
-    ∷ stop 4 (destroysUniverse c)
-    ∷ stop 5 (spaceAbsent c ts)
-    ∷ stop 6 (nodeAbsent c ts)
-    ∷ stop 7 (secondAbsent c ts)
-    ∷ stop 8 (edgeAbsent c ts)
-    ∷ stop 9 (listShort c ts room)
-    ∷ []
 
 -- "no earlier refusal applies and tuples present plus to add exceed C"
 abbrev pub Exceeds : ℕ → State → Request → Type 0

@@ -1,7 +1,7 @@
 -- Document 01, "Where a call is stopped": conditions 2 to 10 in their order. "The first that applies wins; nothing is changed."
 -- Condition 1 is about the buffer (OneCall.antt), condition 11 about a script's line; neither arises in the machine.
 use mathlib.Core.Bool.{Bool, true, false, cond, not, _&&_, _||_}
-use mathlib.Core.List.{List, [], _∷_}
+use mathlib.Core.List.{List, [], _∷_, _++_}
 use mathlib.Core.Option.{Option, none, some}
 use Prim.Native.Nat.{ℕ, _+_}
 use lib.Dec.{eqb, ltb}
@@ -87,9 +87,9 @@ listShort c ts room = ltb room (length (toList (operatorOf (c .operator)) c ts))
 unfoldable pub full : ℕ → Call → State → Bool
 full C c ts = ltb C (length ts + length (missing (toAdd (operatorOf (c .operator)) c) ts))
 
--- the conditions in their order; room is the length of the call's answer list
-unfoldable pub stops : ℕ → State → Call → ℕ → List Stop
-stops C ts c room =
+-- conditions 2 to 9, those earlier than "full", in their order; room is the length of the call's answer list
+unfoldable pub earlier : State → Call → ℕ → List Stop
+earlier ts c room =
     stop 2 (noOperator c)
     ∷ stop 3 (zeroName c)
     ∷ stop 4 (destroysUniverse c)
@@ -98,9 +98,8 @@ stops C ts c room =
     ∷ stop 7 (secondAbsent c ts)
     ∷ stop 8 (edgeAbsent c ts)
     ∷ stop 9 (listShort c ts room)
-    ∷ stop 10 (full C c ts)
     ∷ []
 
 -- the number of the refusal, or none where the call is not stopped
 unfoldable pub refusalOf : ℕ → State → Call → ℕ → Option ℕ
-refusalOf C ts c room = first (stops C ts c room)
+refusalOf C ts c room = first (earlier ts c room ++ (stop 10 (full C c ts) ∷ []))

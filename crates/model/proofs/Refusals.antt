@@ -1,0 +1,193 @@
+-- A stopped call and a call that only reads change nothing; "full" is answered exactly when it should be; what a D operator leaves.
+use mathlib.Core.Bool.{Bool, true, false, cond, not, _&&_, _||_, false≢true, true≢false, and-assoc}
+use mathlib.Core.List.{List, [], _∷_, _++_}
+use mathlib.Core.Logic.{_↔_}
+use mathlib.Core.Option.{Option, none, some}
+use mathlib.Core.Path.{_≡_, refl, sym, ap, _∙_, subst}
+use Prim.Native.Nat.{ℕ, _+_, _<_}
+use native.Mathlib.Omega.{arith}
+use lib.Dec.{eqb}
+use lib.ListN.{length}
+use borrow.Author.Tests.{ltb-true, lt-ltb}
+use Rattle.model.specs.declared.Call.{Call}
+use Rattle.model.specs.declared.Pair.{Pair}
+use Rattle.model.specs.Keys.{Key}
+use Rattle.model.specs.Tuples.{State, present, missing, remove}
+use Rattle.model.specs.Operators.{Direction, Object, Removal, Operator, create, bind, value, exists, destroy, list, operatorOf}
+use Rattle.model.specs.Pairs.{edgeOf, nodeOf, pairsOf, nodeNames, withEdge, anyPair}
+use Rattle.model.specs.Steps.{Reply, refusal, name, valued, yesNo, pairs, nOf, gOf, sOf, nodeTaken, removeNodes, destroyed, toAdd, reply, after}
+use Rattle.model.specs.Refusals.{Stop, stop, first, full, earlier, refusalOf}
+use Rattle.model.specs.Machine.{Request, Outcome, settle, machine}
+use Rattle.model.specs.OneCall.{writes}
+use Rattle.model.specs.Lists.{Exceeds, FullExactly}
+use Rattle.model.proofs.Bools.{and-left, and-right}
+use Rattle.model.proofs.Tuples.{present-remove}
+
+-- ---- what changes nothing
+
+pub stopped : (C : ℕ) (ts : State) (c : Call) (room number : ℕ) → refusalOf C ts c room ≡ some number
+    → (machine C ts c room .answer ≡ refusal number) × (machine C ts c room .state ≡ ts)
+unfolding machine settle
+stopped C ts c room number e =
+    (ap (λ (r : Option ℕ). settle r ts c .answer) e, ap (λ (r : Option ℕ). settle r ts c .state) e)
+
+after-reading : (op : Operator) (c : Call) (ts : State) → writes op ≡ false → after op c ts ≡ ts
+unfolding writes after
+after-reading (create o) c ts e = absurd (true≢false e)
+after-reading (bind o) c ts e = absurd (true≢false e)
+after-reading (value o) c ts e = refl
+after-reading (exists o) c ts e = refl
+after-reading (destroy r) c ts e = absurd (true≢false e)
+after-reading (list l) c ts e = refl
+
+-- "Operators of V, X and S change no word": nor the state
+pub reading : (C : ℕ) (ts : State) (c : Call) (room : ℕ) → writes (operatorOf (c .operator)) ≡ false → machine C ts c room .state ≡ ts
+unfolding machine settle
+reading C ts c room w = go (refusalOf C ts c room)
+  where
+    go : (r : Option ℕ) → settle r ts c .state ≡ ts
+    go (some number) = refl
+    go none = after-reading (operatorOf (c .operator)) c ts w
+
+-- ---- full
+
+some-injective : {a b : ℕ} → some a ≡ some b → a ≡ b
+some-injective e = cc
+
+none≢some : {a : ℕ} → none ≡ some a → ⊥
+none≢some {a} e = let z : _≡_ {A = ℕ} 0 1 = cc in omega arith
+
+first-none : (xs ys : List Stop) → first xs ≡ none → first (xs ++ ys) ≡ first ys
+unfolding first
+first-none [] ys e = refl
+first-none (x ∷ xs) ys e = go (x .applies) (first-none xs ys) e
+  where
+    go : (b : Bool) → (first xs ≡ none → first (xs ++ ys) ≡ first ys) → cond b (some (x .number)) (first xs) ≡ none
+        → cond b (some (x .number)) (first (xs ++ ys)) ≡ first ys
+    go true ih f = absurd (none≢some (sym f))
+    go false ih f = ih f
+
+first-some : (xs ys : List Stop) (n : ℕ) → first xs ≡ some n → first (xs ++ ys) ≡ some n
+unfolding first
+first-some [] ys n e = absurd (none≢some e)
+first-some (x ∷ xs) ys n e = go (x .applies) (first-some xs ys n) e
+  where
+    go : (b : Bool) → (first xs ≡ some n → first (xs ++ ys) ≡ some n) → cond b (some (x .number)) (first xs) ≡ some n
+        → cond b (some (x .number)) (first (xs ++ ys)) ≡ some n
+    go true ih f = f
+    go false ih f = ih f
+
+-- the number that wins is that of one of the conditions
+abbrev everyNumber : (ℕ → Bool) → List Stop → Bool
+everyNumber p [] = true
+everyNumber p (x ∷ xs) = p (x .number) && everyNumber p xs
+
+first-number : (p : ℕ → Bool) (xs : List Stop) (n : ℕ) → everyNumber p xs ≡ true → first xs ≡ some n → p n ≡ true
+unfolding first
+first-number p [] n h e = absurd (none≢some e)
+first-number p (x ∷ xs) n h e = go (x .applies) (first-number p xs n (and-right (p (x .number)) (everyNumber p xs) h)) e
+  where
+    go : (b : Bool) → (first xs ≡ some n → p n ≡ true) → cond b (some (x .number)) (first xs) ≡ some n → p n ≡ true
+    go true ih f = ap p (sym (some-injective f)) ∙ and-left (p (x .number)) (everyNumber p xs) h
+    go false ih f = ih f
+
+abbrev notTen : ℕ → Bool
+notTen n = not (eqb n 10)
+
+earlier-not-ten : (ts : State) (c : Call) (room : ℕ) → everyNumber notTen (earlier ts c room) ≡ true
+unfolding earlier
+earlier-not-ten ts c room = refl
+
+-- condition 10 wins exactly when no earlier one applies and it does
+ten-wins : (C : ℕ) (ts : State) (c : Call) (room : ℕ) → refusalOf C ts c room ≡ some 10 → (first (earlier ts c room) ≡ none) × (full C c ts ≡ true)
+unfolding refusalOf first
+ten-wins C ts c room e = go (first (earlier ts c room)) refl
+  where
+    last : (b : Bool) → first (stop 10 b ∷ []) ≡ some 10 → b ≡ true
+    last true f = refl
+    last false f = absurd (none≢some f)
+    go : (r : Option ℕ) → first (earlier ts c room) ≡ r → (first (earlier ts c room) ≡ none) × (full C c ts ≡ true)
+    go none f = (f, last (full C c ts) (sym (first-none (earlier ts c room) _ f) ∙ e))
+    go (some n) f =
+        let ten : n ≡ 10 = some-injective (sym (first-some (earlier ts c room) _ n f) ∙ e) in
+        absurd (false≢true (sym (ap notTen ten) ∙ first-number notTen (earlier ts c room) n (earlier-not-ten ts c room) f))
+
+wins-ten : (C : ℕ) (ts : State) (c : Call) (room : ℕ) → first (earlier ts c room) ≡ none → full C c ts ≡ true → refusalOf C ts c room ≡ some 10
+unfolding refusalOf first
+wins-ten C ts c room f e = first-none (earlier ts c room) _ f ∙ ap (λ (b : Bool). first (stop 10 b ∷ [])) e
+
+-- no step answers a refusal
+abbrev isRefusal : Reply → Bool
+isRefusal (refusal n) = true
+isRefusal (name x) = false
+isRefusal (valued v) = false
+isRefusal (yesNo b) = false
+isRefusal (pairs ps) = false
+
+reply-answers : (op : Operator) (c : Call) (ts : State) → isRefusal (reply op c ts) ≡ false
+unfolding reply
+reply-answers (create o) c ts = refl
+reply-answers (bind o) c ts = refl
+reply-answers (value o) c ts = refl
+reply-answers (exists o) c ts = refl
+reply-answers (destroy r) c ts = refl
+reply-answers (list l) c ts = refl
+
+-- a refusal is answered exactly when the call is stopped by that condition
+pub refused-exactly : (C : ℕ) (ts : State) (c : Call) (room number : ℕ)
+    → (machine C ts c room .answer ≡ refusal number) ↔ (refusalOf C ts c room ≡ some number)
+unfolding machine settle
+refused-exactly C ts c room number = (λ e. go (refusalOf C ts c room) e, λ e. ap (λ (r : Option ℕ). settle r ts c .answer) e)
+  where
+    go : (r : Option ℕ) → settle r ts c .answer ≡ refusal number → r ≡ some number
+    go (some n) e = cc
+    go none e = absurd (true≢false (ap isRefusal (sym e) ∙ reply-answers (operatorOf (c .operator)) c ts))
+
+-- "'full' is answered exactly when no earlier refusal applies and tuples present plus to add exceed C"
+pub full-exactly : (C : ℕ) (ts : State) (r : Request) → (machine C ts (r .call) (r .room) .answer ≡ refusal 10) ↔ Exceeds C ts r
+unfolding full
+full-exactly C ts r =
+    let c = r .call in
+    let i = refused-exactly C ts c (r .room) 10 in
+    (λ e. let w = ten-wins C ts c (r .room) (i .0 e) in (w .0, ltb-true C _ (w .1)),
+    λ h. i .1 (wins-ten C ts c (r .room) (h .0) (lt-ltb C _ (h .1))))
+
+pub full-exactly-all : (C : ℕ) (ts : State) (rs : List Request) → FullExactly C ts rs
+full-exactly-all C ts [] = tt
+full-exactly-all C ts (r ∷ rs) = (full-exactly C ts r, full-exactly-all C (machine C ts (r .call) (r .room) .state) rs)
+
+-- ---- nodes that were collected
+
+and-not-or : (a b c : Bool) → ((a && not b) && not c) ≡ (a && not (b || c))
+and-not-or true true c = refl
+and-not-or true false c = refl
+and-not-or false b c = refl
+
+-- each node that was collected is removed as by DUN, whatever was removed before it
+pub present-removeNodes : (k : Key) (s : ℕ) (ps : List Pair) (ts : State)
+    → present k (removeNodes s ps ts) ≡ (present k ts && not (anyPair (λ (p : Pair). nodeTaken s (nodeOf p) k) ps))
+unfolding removeNodes anyPair
+present-removeNodes k s [] ts = and-true′ (present k ts)
+  where
+    and-true′ : (b : Bool) → b ≡ (b && true)
+    and-true′ true = refl
+    and-true′ false = refl
+present-removeNodes k s (p ∷ ps) ts =
+    present-removeNodes k s ps (remove (nodeTaken s (nodeOf p)) ts)
+    ∙ ap (λ (b : Bool). b && not (anyPair (λ (p : Pair). nodeTaken s (nodeOf p) k) ps)) (present-remove k (nodeTaken s (nodeOf p)) ts)
+    ∙ and-not-or (present k ts) (nodeTaken s (nodeOf p) k) (anyPair (λ (p : Pair). nodeTaken s (nodeOf p) k) ps)
+
+-- "the nodes of such pairs are collected first": what DON, DIN and DAN leave, by the pairs before the call
+pub nodes-collected-first : (k : Key) (d : Direction) (c : Call) (ts : State)
+    → present k (destroyed (Removal.N d) c ts)
+    ≡ (present k ts && not (anyPair (λ (p : Pair). nodeTaken (sOf c) (nodeOf p) k) (nodeNames (pairsOf d (sOf c) (nOf c) ts))))
+unfolding destroyed
+nodes-collected-first k d c ts = present-removeNodes k (sOf c) (nodeNames (pairsOf d (sOf c) (nOf c) ts)) ts
+
+-- what DONG, DING and DANG leave
+pub named-nodes-collected-first : (k : Key) (d : Direction) (c : Call) (ts : State)
+    → present k (destroyed (Removal.NG d) c ts)
+    ≡ (present k ts
+    && not (anyPair (λ (p : Pair). nodeTaken (sOf c) (nodeOf p) k) (nodeNames (withEdge (gOf c) (pairsOf d (sOf c) (nOf c) ts)))))
+unfolding destroyed
+named-nodes-collected-first k d c ts = present-removeNodes k (sOf c) (nodeNames (withEdge (gOf c) (pairsOf d (sOf c) (nOf c) ts))) ts

@@ -1,0 +1,435 @@
+-- Every step keeps the state good: strictly ascending, with (0,0,0,0) first, nothing naming a missing node or space, at most C tuples.
+use mathlib.Core.Bool.{Bool, true, false, cond, not, _&&_, _||_, false≢true, true≢false}
+use mathlib.Core.List.{List, [], _∷_, _++_}
+use mathlib.Core.Logic.{_⊎_, inl, inr, ⊎-elim, _≢_, _↔_}
+use mathlib.Core.Option.{Option, none, some}
+use mathlib.Core.Path.{_≡_, refl, sym, ap, _∙_, subst}
+use Prim.Native.Nat.{ℕ, zero, suc, _+_, _≤_, _<_}
+use native.Mathlib.Omega.{arith}
+use lib.Dec.{eqb, ltb, leb}
+use lib.ListN.{length}
+use borrow.Author.Tests.{eqb-true, eqb-false, eq-eqb, ltb-true, ltb-false, leb-true, lt-ltb}
+use Rattle.model.specs.declared.Call.{Call}
+use Rattle.model.specs.declared.Space.{Space}
+use Rattle.model.specs.declared.Space.the-variants.{Universe, Numbered}
+use Rattle.model.specs.declared.Pair.{Pair}
+use Rattle.model.specs.Ordered.{holds}
+use Rattle.model.specs.Keys.{mostName, Key, spaceKey, nodeKey, edgeKey, sameKey}
+use Rattle.model.specs.Tuples.{State, fresh, present, addAll, missing, assign, assignAll, remove}
+use Rattle.model.specs.Operators.{Direction, outpointing, inpointing, adjacent, Object, Removal, Listing, Operator, create, bind, value, exists, destroy, list, table, operatorOf, within, readsOf}
+use Rattle.model.specs.Pairs.{pair, edgeOf, nodeOf, member, pairsOf, nodeNames, only, withEdge}
+use Rattle.model.specs.Steps.{Reply, refusal, spaceNumber, nOf, gOf, mOf, sOf, objectKeys, created, edgesTaken, nodeTaken, removeNodes, spaceTaken, destroyed, toList, toAdd, reply, after}
+use Rattle.model.specs.Refusals.{Stop, first, zeroSpace, isUniverse, noOperator, zeroName, destroysUniverse, spaceAbsent, nodeAbsent, secondAbsent, edgeAbsent, listShort, full, earlier, refusalOf}
+use Rattle.model.specs.Machine.{Outcome, FieldsFit, settle, machine}
+use Rattle.model.specs.Buffer.{everyRecord}
+use Rattle.model.specs.Rules.{Has, Supported, Small, Shaped, TupleRules}
+use Rattle.model.specs.Entries.{Outpointing, Inpointing, IsPair}
+use Rattle.model.specs.OneCall.{writes}
+use Rattle.model.proofs.Bools.{or-cases, or-left, or-right, or-no-left, or-no-right, and-left, and-right, and-both, and-no, not-no, clash}
+use Rattle.model.proofs.Tuples.{same-key, own-key, among, present-addAll, length-addAll, length-remove, length-assign}
+use Rattle.model.proofs.Rules.{has-universe, assignAll-rules, Fitting, addAll-rules, remove-rules}
+use Rattle.model.proofs.Taken.{edges-fair, node-fair, EveryPair, NodeNamed, removeNodes-rules, space-fair}
+use Rattle.model.proofs.Entries.{Member, samePair, own-pair, pairs-sound, nodes-sound, only-sound}
+
+-- ---- a call that is not stopped has passed each condition
+
+pub record Passed (C : ℕ) (ts : State) (c : Call) (room : ℕ) : Type 0 where
+  pub operator : noOperator c ≡ false
+  pub names : zeroName c ≡ false
+  pub universe : destroysUniverse c ≡ false
+  pub space : spaceAbsent c ts ≡ false
+  pub node : nodeAbsent c ts ≡ false
+  pub second : secondAbsent c ts ≡ false
+  pub edge : edgeAbsent c ts ≡ false
+  pub list : listShort c ts room ≡ false
+  pub records : full C c ts ≡ false
+
+some≢none : {n : ℕ} → some n ≡ none → ⊥
+some≢none {n} e = let z : _≡_ {A = ℕ} 0 1 = cc in omega arith
+
+pub first-passed : (x : Stop) (xs : List Stop) → first (x ∷ xs) ≡ none → (x .applies ≡ false) × (first xs ≡ none)
+unfolding first
+first-passed x xs e = go (x .applies) e
+  where
+    go : (b : Bool) → cond b (some (x .number)) (first xs) ≡ none → (b ≡ false) × (first xs ≡ none)
+    go true f = absurd (some≢none f)
+    go false f = (refl, f)
+
+pub passed : (C : ℕ) (ts : State) (c : Call) (room : ℕ) → refusalOf C ts c room ≡ none → Passed C ts c room
+unfolding refusalOf earlier
+passed C ts c room e =
+    let p2 = first-passed _ _ e in
+    let p3 = first-passed _ _ (p2 .1) in
+    let p4 = first-passed _ _ (p3 .1) in
+    let p5 = first-passed _ _ (p4 .1) in
+    let p6 = first-passed _ _ (p5 .1) in
+    let p7 = first-passed _ _ (p6 .1) in
+    let p8 = first-passed _ _ (p7 .1) in
+    let p9 = first-passed _ _ (p8 .1) in
+    let p10 = first-passed _ _ (p9 .1) in
+    record {
+      operator = p2 .0;
+      names = p3 .0;
+      universe = p4 .0;
+      space = p5 .0;
+      node = p6 .0;
+      second = p7 .0;
+      edge = p8 .0;
+      list = p9 .0;
+      records = p10 .0
+    }
+
+-- ---- what the table of operators and the ranges of numbers say of each other
+
+-- is condition 5 tested
+abbrev spaceTested : ℕ → Bool
+spaceTested o = not (eqb o 51 || within 54 55 o)
+
+-- what the steps below need of an operator's number
+abbrev agrees : Operator → ℕ → Bool
+agrees (create (Object.P d)) o =
+    (readsOf o .n) && ((readsOf o .g) && ((readsOf o .m) && ((readsOf o .s) && (within 1 44 o && spaceTested o))))
+agrees (create Object.UN) o = (readsOf o .n) && ((readsOf o .s) && spaceTested o)
+agrees (create Object.US) o = true
+agrees (bind x) o = true
+agrees (value x) o = true
+agrees (exists x) o = true
+agrees (destroy (Removal.P d)) o = true
+agrees (destroy (Removal.G d)) o = true
+agrees (destroy (Removal.GG d)) o = true
+agrees (destroy (Removal.GN d)) o = true
+agrees (destroy (Removal.N d)) o = true
+agrees (destroy (Removal.NG d)) o = true
+agrees (destroy Removal.UN) o = readsOf o .n
+agrees (destroy Removal.US) o = (readsOf o .s) && eqb o 55
+agrees (list x) o = true
+
+agree-all : everyRecord (λ (o : ℕ). agrees (operatorOf o) o) 57 ≡ true
+unfolding everyRecord operatorOf table readsOf
+agree-all = refl
+
+pub every-record : (p : ℕ → Bool) (C : ℕ) → everyRecord p C ≡ true → (i : ℕ) → 1 ≤ i → i ≤ C → p i ≡ true
+unfolding everyRecord
+every-record p zero e i h k = absurd (omega arith)
+every-record p (suc C) e i h k = go (eqb i (suc C)) refl (every-record p C (and-right (p (suc C)) (everyRecord p C) e) i h)
+  where
+    go : (b : Bool) → eqb i (suc C) ≡ b → (i ≤ C → p i ≡ true) → p i ≡ true
+    go true f rest = ap p (eqb-true i (suc C) f) ∙ and-left (p (suc C)) (everyRecord p C) e
+    go false f rest = let d : i ≡ suc C → ⊥ = eqb-false i (suc C) f in rest (omega arith)
+
+-- the number of a call that is not stopped by condition 2
+agree : (c : Call) → noOperator c ≡ false → agrees (operatorOf (c .operator)) (c .operator) ≡ true
+unfolding noOperator
+agree c e =
+    let o : ℕ = c .operator in
+    let w = not-no (within 1 57 o) e in
+    every-record (λ (o : ℕ). agrees (operatorOf o) o) 57 agree-all o
+    (leb-true 1 o (and-left (leb 1 o) (leb o 57) w)) (leb-true o 57 (and-right (leb 1 o) (leb o 57) w))
+
+-- ---- names that are read are not 0
+
+n-named : (c : Call) → zeroName c ≡ false → (readsOf (c .operator) .n) ≡ true → nOf c ≢ 0
+unfolding zeroName
+n-named c e r =
+    eqb-false (nOf c) 0 (and-no (readsOf (c .operator) .n) (eqb (nOf c) 0) (or-no-left _ _ (or-no-left _ _ (or-no-left _ _ e))) r)
+
+g-named : (c : Call) → zeroName c ≡ false → (readsOf (c .operator) .g) ≡ true → gOf c ≢ 0
+unfolding zeroName
+g-named c e r =
+    eqb-false (gOf c) 0
+    (and-no (readsOf (c .operator) .g) (eqb (gOf c) 0) (or-no-right (readsOf (c .operator) .n && eqb (nOf c) 0) _ (or-no-left _ _ (or-no-left _ _ e))) r)
+
+m-named : (c : Call) → zeroName c ≡ false → (readsOf (c .operator) .m) ≡ true → mOf c ≢ 0
+unfolding zeroName
+m-named c e r =
+    eqb-false (mOf c) 0
+    (and-no (readsOf (c .operator) .m) (eqb (mOf c) 0)
+    (or-no-right ((readsOf (c .operator) .n && eqb (nOf c) 0) || (readsOf (c .operator) .g && eqb (gOf c) 0)) _ (or-no-left _ _ e)) r)
+
+numbered-named : (s : Space) → zeroSpace s ≡ false → isUniverse s ≡ false → spaceNumber s ≢ 0
+unfolding zeroSpace isUniverse spaceNumber
+numbered-named Universe e f = absurd (true≢false f)
+numbered-named (Numbered s) e f = eqb-false (s .0) 0 e
+
+s-named : (c : Call) → zeroName c ≡ false → destroysUniverse c ≡ false → (readsOf (c .operator) .s) ≡ true → eqb (c .operator) 55 ≡ true → sOf c ≢ 0
+unfolding zeroName destroysUniverse
+s-named c e f r o =
+    numbered-named (c .s)
+    (and-no (readsOf (c .operator) .s) (zeroSpace (c .s))
+    (or-no-right ((readsOf (c .operator) .n && eqb (nOf c) 0) || (readsOf (c .operator) .g && eqb (gOf c) 0) || (readsOf (c .operator) .m && eqb (mOf c) 0)) _ e)
+    r)
+    (and-no (eqb (c .operator) 55) (isUniverse (c .s)) f o)
+
+-- ---- what is looked up is there
+
+space-there : (c : Call) (ts : State) → spaceAbsent c ts ≡ false → (readsOf (c .operator) .s) ≡ true → spaceTested (c .operator) ≡ true → Has (spaceKey (sOf c)) ts
+unfolding spaceAbsent
+space-there c ts e r t =
+    not-no (present (spaceKey (sOf c)) ts)
+    (and-no (readsOf (c .operator) .s && spaceTested (c .operator)) (not (present (spaceKey (sOf c)) ts)) e
+    (and-both (readsOf (c .operator) .s) (spaceTested (c .operator)) r t))
+
+node-there : (c : Call) (ts : State) → nodeAbsent c ts ≡ false → within 1 44 (c .operator) ≡ true → Has (nodeKey (sOf c) (nOf c)) ts
+unfolding nodeAbsent
+node-there c ts e w =
+    not-no (present (nodeKey (sOf c) (nOf c)) ts)
+    (and-no (within 1 44 (c .operator) || within 46 47 (c .operator)) (not (present (nodeKey (sOf c) (nOf c)) ts)) (or-no-left _ _ e)
+    (or-left (within 1 44 (c .operator)) (within 46 47 (c .operator)) w))
+
+second-there : (c : Call) (ts : State) → secondAbsent c ts ≡ false → (readsOf (c .operator) .m) ≡ true → Has (nodeKey (sOf c) (mOf c)) ts
+unfolding secondAbsent
+second-there c ts e r =
+    not-no (present (nodeKey (sOf c) (mOf c)) ts) (and-no (readsOf (c .operator) .m) (not (present (nodeKey (sOf c) (mOf c)) ts)) e r)
+
+-- ---- keys that may be added
+
+edge-fits : (us : State) (x a g b : ℕ) → Small (edgeKey x a g b) → a ≢ 0 → g ≢ 0 → b ≢ 0
+    → Has (nodeKey x a) us → Has (nodeKey x b) us → Has (edgeKey 0 a g b) us → Fitting us (edgeKey x a g b)
+edge-fits us x a g b S ha hg hb from to universe =
+    record {
+      small = S;
+      shaped = record { named = λ z. absurd (ha z); ends = (λ z. absurd (hg z), λ z. absurd (hb z)) };
+      supported = record { node = λ h z. absurd (hg z); edge = λ h. (from, to, universe) }
+    }
+
+node-fits : (us : State) (x n : ℕ) → Small (nodeKey x n) → n ≢ 0 → Has (spaceKey x) us → Has (nodeKey 0 n) us → Fitting us (nodeKey x n)
+node-fits us x n S h space universe =
+    record {
+      small = S;
+      shaped = record { named = λ z. absurd (h z); ends = (λ z. refl, λ z. refl) };
+      supported = record { node = λ a b. (space, universe); edge = λ a. absurd (a refl) }
+    }
+
+space-fits : (us : State) (x : ℕ) → Small (spaceKey x) → Fitting us (spaceKey x)
+space-fits us x S =
+    record {
+      small = S;
+      shaped = record { named = λ z. (refl, refl); ends = (λ z. refl, λ z. refl) };
+      supported = record { node = λ a b. absurd (a refl); edge = λ a. absurd (a refl) }
+    }
+
+abbrev EveryKey : (Key → Type 0) → List Key → Type 0
+EveryKey P [] = Unit {0}
+EveryKey P (k ∷ ks) = P k × EveryKey P ks
+
+every-among : (P : Key → Type 0) (ks : List Key) → EveryKey P ks → (k : Key) → among k ks ≡ true → P k
+unfolding holds
+every-among P [] h k e = absurd (false≢true e)
+every-among P (j ∷ ks) h k e =
+    ⊎-elim (λ f. subst P (sym (same-key k j f)) (h .0)) (λ f. every-among P ks (h .1) k f) (or-cases (sameKey k j) (among k ks) e)
+
+here : (k : Key) (ks : List Key) → among k (k ∷ ks) ≡ true
+unfolding holds
+here k ks = or-left (sameKey k k) (among k ks) (own-key k)
+
+there : (k j : Key) (ks : List Key) → among k ks ≡ true → among k (j ∷ ks) ≡ true
+unfolding holds
+there k j ks e = or-right (sameKey k j) (among k ks) e
+
+-- ---- creating
+
+module _ (ts : State) (R : TupleRules ts) (c : Call) (F : FieldsFit c) where
+  add-fitting : (ks : List Key) → EveryKey (Fitting (addAll ks ts)) ks → TupleRules (addAll ks ts)
+  add-fitting ks h = addAll-rules ks ts R (every-among (Fitting (addAll ks ts)) ks h)
+
+  kept : (ks : List Key) (j : Key) → Has j ts → Has j (addAll ks ts)
+  kept ks j e = present-addAll j ks ts ∙ or-right (among j ks) (present j ts) e
+
+  new : (ks : List Key) (j : Key) → among j ks ≡ true → Has j (addAll ks ts)
+  new ks j e = present-addAll j ks ts ∙ or-left (among j ks) (present j ts) e
+
+  zero-small : 0 ≤ mostName
+  zero-small = omega arith
+
+  module _ (hn : nOf c ≢ 0) where
+    -- a node that is in s is in 0
+    in-universe : (n : ℕ) → n ≢ 0 → Has (nodeKey (sOf c) n) ts → Has (nodeKey 0 n) ts
+    in-universe n h e = R .nothingMissing (nodeKey (sOf c) n) e .node h refl .1
+
+    module _ (hg : gOf c ≢ 0) (hm : mOf c ≢ 0) (Hn : Has (nodeKey (sOf c) (nOf c)) ts) (Hm : Has (nodeKey (sOf c) (mOf c)) ts) where
+      abbrev edgeHere : Key
+      edgeHere = edgeKey (sOf c) (nOf c) (gOf c) (mOf c)
+
+      abbrev backHere : Key
+      backHere = edgeKey (sOf c) (mOf c) (gOf c) (nOf c)
+
+      abbrev edgeThere : Key
+      edgeThere = edgeKey 0 (nOf c) (gOf c) (mOf c)
+
+      abbrev backThere : Key
+      backThere = edgeKey 0 (mOf c) (gOf c) (nOf c)
+
+      fits-here : (ks : List Key) → among edgeThere ks ≡ true → Fitting (addAll ks ts) edgeHere
+      fits-here ks e =
+          edge-fits (addAll ks ts) (sOf c) (nOf c) (gOf c) (mOf c) (record { s = F .s; n = F .n; g = F .g; m = F .m }) hn hg hm (kept ks _ Hn)
+          (kept ks _ Hm) (new ks edgeThere e)
+
+      fits-back : (ks : List Key) → among backThere ks ≡ true → Fitting (addAll ks ts) backHere
+      fits-back ks e =
+          edge-fits (addAll ks ts) (sOf c) (mOf c) (gOf c) (nOf c) (record { s = F .s; n = F .m; g = F .g; m = F .n }) hm hg hn (kept ks _ Hm)
+          (kept ks _ Hn) (new ks backThere e)
+
+      fits-there : (ks : List Key) → among edgeThere ks ≡ true → Fitting (addAll ks ts) edgeThere
+      fits-there ks e =
+          edge-fits (addAll ks ts) 0 (nOf c) (gOf c) (mOf c) (record { s = zero-small; n = F .n; g = F .g; m = F .m }) hn hg hm
+          (kept ks _ (in-universe (nOf c) hn Hn)) (kept ks _ (in-universe (mOf c) hm Hm)) (new ks edgeThere e)
+
+      fits-back-there : (ks : List Key) → among backThere ks ≡ true → Fitting (addAll ks ts) backThere
+      fits-back-there ks e =
+          edge-fits (addAll ks ts) 0 (mOf c) (gOf c) (nOf c) (record { s = zero-small; n = F .m; g = F .g; m = F .n }) hm hg hn
+          (kept ks _ (in-universe (mOf c) hm Hm)) (kept ks _ (in-universe (nOf c) hn Hn)) (new ks backThere e)
+
+      pair-rules : (d : Direction) → TupleRules (addAll (created (Object.P d) c) ts)
+      unfolding created objectKeys
+      pair-rules outpointing =
+          let ks = edgeHere ∷ edgeThere ∷ [] in
+          let e = there edgeThere edgeHere (edgeThere ∷ []) (here edgeThere []) in
+          add-fitting ks (fits-here ks e, (fits-there ks e, tt))
+      pair-rules inpointing =
+          let ks = backHere ∷ backThere ∷ [] in
+          let e = there backThere backHere (backThere ∷ []) (here backThere []) in
+          add-fitting ks (fits-back ks e, (fits-back-there ks e, tt))
+      pair-rules adjacent =
+          let ks = edgeHere ∷ backHere ∷ edgeThere ∷ backThere ∷ [] in
+          let e = there edgeThere edgeHere _ (there edgeThere backHere _ (here edgeThere (backThere ∷ []))) in
+          let f = there backThere edgeHere _ (there backThere backHere _ (there backThere edgeThere _ (here backThere []))) in
+          add-fitting ks (fits-here ks e, (fits-back ks f, (fits-there ks e, (fits-back-there ks f, tt))))
+
+    node-rules : Has (spaceKey (sOf c)) ts → TupleRules (addAll (created Object.UN c) ts)
+    unfolding created objectKeys
+    node-rules Hs =
+        let k = nodeKey (sOf c) (nOf c) in
+        let j = nodeKey 0 (nOf c) in
+        let ks = k ∷ j ∷ [] in
+        let e = there j k (j ∷ []) (here j []) in
+        let S : Small k = record { s = F .s; n = F .n; g = zero-small; m = zero-small } in
+        let S₀ : Small j = record { s = zero-small; n = F .n; g = zero-small; m = zero-small } in
+        add-fitting ks
+        (node-fits (addAll ks ts) (sOf c) (nOf c) S hn (kept ks _ Hs) (new ks j e),
+        (node-fits (addAll ks ts) 0 (nOf c) S₀ hn (kept ks _ (has-universe ts R)) (new ks j e), tt))
+
+  space-rules : TupleRules (addAll (created Object.US c) ts)
+  unfolding created objectKeys
+  space-rules =
+      let ks = spaceKey (sOf c) ∷ [] in
+      add-fitting ks (space-fits (addAll ks ts) (sOf c) (record { s = F .s; n = zero-small; g = zero-small; m = zero-small }), tt)
+
+-- ---- removing nodes that were collected
+
+every-member : (P : Pair → Type 0) (ps : List Pair) → ((q : Pair) → Member q ps → P q) → EveryPair P ps
+unfolding holds
+every-member P [] h = tt
+every-member P (p ∷ ps) h = (h p (or-left (samePair p p) (member p ps) (own-pair p)), every-member P ps (λ q e. h q (or-right (samePair q p) (member q ps) e)))
+
+-- the node of a pair is named
+pair-named : (d : Direction) (s n : ℕ) (ts : State) → TupleRules ts → (p : Pair) → IsPair d s n ts p → NodeNamed p
+pair-named d s n ts R p = go d
+  where
+    out : Outpointing s n ts p → NodeNamed p
+    out h z = h .0 (R .shaped _ (h .1) .ends .1 z)
+    in′ : Inpointing s n ts p → NodeNamed p
+    in′ h z = h .0 (R .shaped _ (h .1) .named z .0)
+    go : (d : Direction) → IsPair d s n ts p → NodeNamed p
+    go outpointing h = out h
+    go inpointing h = in′ h
+    go adjacent h = ⊎-elim out in′ h
+
+names-named : (ps : List Pair) → ((p : Pair) → Member p ps → NodeNamed p) → EveryPair NodeNamed (nodeNames ps)
+names-named ps h =
+    every-member NodeNamed (nodeNames ps)
+    (λ q e. let r = nodes-sound ps q e in subst NodeNamed (sym (r .2)) (h (r .0) (r .1)))
+
+-- ---- every step
+
+pub after-rules : (op : Operator) (C : ℕ) (ts : State) (c : Call) (room : ℕ) → TupleRules ts → FieldsFit c → Passed C ts c room
+    → agrees op (c .operator) ≡ true → TupleRules (after op c ts)
+unfolding after destroyed
+after-rules (create (Object.P d)) C ts c room R F P a =
+    let a₁ = and-right (readsOf (c .operator) .n) _ a in
+    let a₂ = and-right (readsOf (c .operator) .g) _ a₁ in
+    let a₃ = and-right (readsOf (c .operator) .m) _ a₂ in
+    let a₄ = and-right (readsOf (c .operator) .s) _ a₃ in
+    let m-read = and-left (readsOf (c .operator) .m) _ a₂ in
+    pair-rules ts R c F (n-named c (P .names) (and-left (readsOf (c .operator) .n) _ a)) (g-named c (P .names) (and-left (readsOf (c .operator) .g) _ a₁))
+    (m-named c (P .names) m-read) (node-there c ts (P .node) (and-left (within 1 44 (c .operator)) _ a₄)) (second-there c ts (P .second) m-read) d
+after-rules (create Object.UN) C ts c room R F P a =
+    let a₁ = and-right (readsOf (c .operator) .n) _ a in
+    node-rules ts R c F (n-named c (P .names) (and-left (readsOf (c .operator) .n) _ a))
+    (space-there c ts (P .space) (and-left (readsOf (c .operator) .s) _ a₁) (and-right (readsOf (c .operator) .s) _ a₁))
+after-rules (create Object.US) C ts c room R F P a = space-rules ts R c F
+after-rules (bind o) C ts c room R F P a = assignAll-rules (objectKeys o (sOf c) c) (c .v) ts R
+after-rules (value o) C ts c room R F P a = R
+after-rules (exists o) C ts c room R F P a = R
+after-rules (destroy (Removal.P d)) C ts c room R F P a = remove-rules _ ts (edges-fair d (sOf c) (nOf c) _) R
+after-rules (destroy (Removal.G d)) C ts c room R F P a = remove-rules _ ts (edges-fair d (sOf c) (nOf c) _) R
+after-rules (destroy (Removal.GG d)) C ts c room R F P a = remove-rules _ ts (edges-fair d (sOf c) (nOf c) _) R
+after-rules (destroy (Removal.GN d)) C ts c room R F P a = remove-rules _ ts (edges-fair d (sOf c) (nOf c) _) R
+after-rules (destroy (Removal.N d)) C ts c room R F P a =
+    removeNodes-rules (sOf c) _ ts
+    (names-named (pairsOf d (sOf c) (nOf c) ts) (λ p e. pair-named d (sOf c) (nOf c) ts R p (pairs-sound d (sOf c) (nOf c) ts p e))) R
+after-rules (destroy (Removal.NG d)) C ts c room R F P a =
+    removeNodes-rules (sOf c) _ ts
+    (names-named (withEdge (gOf c) (pairsOf d (sOf c) (nOf c) ts))
+    (λ p e. pair-named d (sOf c) (nOf c) ts R p (pairs-sound d (sOf c) (nOf c) ts p (only-sound _ (pairsOf d (sOf c) (nOf c) ts) p e .0)))) R
+after-rules (destroy Removal.UN) C ts c room R F P a = remove-rules _ ts (node-fair (sOf c) (nOf c) (n-named c (P .names) a)) R
+after-rules (destroy Removal.US) C ts c room R F P a =
+    remove-rules _ ts
+    (space-fair (sOf c)
+    (s-named c (P .names) (P .universe) (and-left (readsOf (c .operator) .s) _ a) (and-right (readsOf (c .operator) .s) _ a))) R
+after-rules (list l) C ts c room R F P a = R
+
+-- ---- how many tuples there are
+
+length-assignAll : (ks : List Key) (v : ℕ) (ts : State) → length (assignAll ks v ts) ≡ length ts
+unfolding assignAll
+length-assignAll [] v ts = refl
+length-assignAll (k ∷ ks) v ts = length-assignAll ks v (assign k v ts) ∙ length-assign k v ts
+
+length-removeNodes : (s : ℕ) (ps : List Pair) (ts : State) → length (removeNodes s ps ts) ≤ length ts
+unfolding removeNodes
+length-removeNodes s [] ts = omega arith
+length-removeNodes s (p ∷ ps) ts =
+    omega (arith, length-removeNodes s ps (remove (nodeTaken s (nodeOf p)) ts), length-remove (nodeTaken s (nodeOf p)) ts)
+
+length-destroyed : (r : Removal) (c : Call) (ts : State) → length (destroyed r c ts) ≤ length ts
+unfolding destroyed
+length-destroyed (Removal.P d) c ts = length-remove _ ts
+length-destroyed (Removal.G d) c ts = length-remove _ ts
+length-destroyed (Removal.GG d) c ts = length-remove _ ts
+length-destroyed (Removal.GN d) c ts = length-remove _ ts
+length-destroyed (Removal.N d) c ts = length-removeNodes _ _ ts
+length-destroyed (Removal.NG d) c ts = length-removeNodes _ _ ts
+length-destroyed Removal.UN c ts = length-remove _ ts
+length-destroyed Removal.US c ts = length-remove _ ts
+
+after-length : (op : Operator) (C : ℕ) (ts : State) (c : Call) → TupleRules ts → length ts ≤ C
+    → ltb C (length ts + length (missing (toAdd op c) ts)) ≡ false → length (after op c ts) ≤ C
+unfolding after toAdd
+after-length (create o) C ts c R h e =
+    omega (arith, length-addAll (created o c) ts (R .ascends), ltb-false C (length ts + length (missing (created o c) ts)) e)
+after-length (bind o) C ts c R h e = omega (arith, length-assignAll (objectKeys o (sOf c) c) (c .v) ts)
+after-length (value o) C ts c R h e = h
+after-length (exists o) C ts c R h e = h
+after-length (destroy r) C ts c R h e = omega (arith, length-destroyed r c ts)
+after-length (list l) C ts c R h e = h
+
+-- ---- the theorem
+
+-- a good state of a store of C records
+pub record Good (C : ℕ) (ts : State) : Type 0 where
+  pub rules : TupleRules ts
+  pub fits : length ts ≤ C
+
+-- every step keeps the state good
+pub machine-good : (C : ℕ) (ts : State) (c : Call) (room : ℕ) → FieldsFit c → Good C ts → Good C (machine C ts c room .state)
+unfolding machine settle full
+machine-good C ts c room F G = go (refusalOf C ts c room) refl
+  where
+    go : (r : Option ℕ) → refusalOf C ts c room ≡ r → Good C (settle r ts c .state)
+    go (some number) e = G
+    go none e =
+        let P = passed C ts c room e in
+        record {
+          rules = after-rules (operatorOf (c .operator)) C ts c room (G .rules) F P (agree c (P .operator));
+          fits = after-length (operatorOf (c .operator)) C ts c (G .rules) (G .fits) (P .records)
+        }
