@@ -7,4 +7,6 @@ pub mod Taken
 pub mod Entries
 pub mod Steps
 pub mod Refusals
+pub mod Chains
+pub mod Store
 pub mod Cases

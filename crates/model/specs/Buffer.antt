@@ -91,10 +91,14 @@ freeOf b = orNothing (freeChain b)
 unfoldable pub tuplesOf : List ℕ → State
 tuplesOf b = map (tupleAt b) (usedOf b)
 
+abbrev pub oneIf : Bool → ℕ
+oneIf true = 1
+oneIf false = 0
+
 -- how often an index stands in a list of indices
 unfoldable pub count : ℕ → List ℕ → ℕ
 count i [] = 0
-count i (j ∷ js) = cond (eqb i j) 1 0 + count i js
+count i (j ∷ js) = oneIf (eqb i j) + count i js
 
 -- does a test pass at each of the records 1 to C
 unfoldable pub everyRecord : (ℕ → Bool) → ℕ → Bool

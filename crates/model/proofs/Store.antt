@@ -1,0 +1,291 @@
+-- The test says yes exactly when the rules of a store hold (specs/Buffer.antt, specs/Rules.antt).
+use mathlib.Core.Bool.{Bool, true, false, cond, not, _&&_, _||_, false≢true}
+use mathlib.Core.List.{List, [], _∷_, _++_, map}
+use mathlib.Core.Logic.{_↔_, _≢_, ⊎-elim}
+use mathlib.Core.Option.{Option, none, some}
+use mathlib.Core.Path.{_≡_, refl, sym, ap, ap₂, _∙_, subst}
+use Prim.Native.Nat.{ℕ, zero, suc, _+_, _≤_, _<_}
+use native.Mathlib.Omega.{arith}
+use lib.Dec.{eqb, leb}
+use lib.ListN.{length}
+use borrow.Author.Tests.{eqb-true, eqb-false, eq-eqb, ne-eqb, leb-true, le-leb}
+use Rattle.model.specs.Ordered.{holds, ascendsFrom, Above, Ascending}
+use Rattle.model.specs.Keys.{mostName, Key, Tuple, keyOf, spaceKey, nodeKey, edgeKey, isNode, isEdge, compareKeys, sameKey}
+use Rattle.model.specs.Tuples.{State, present}
+use Rattle.model.specs.Buffer.{word, leastLength, mostLength, capacityOf, next, tupleAt, walk, ends, orNothing, usedChain, freeChain, usedOf, freeOf, tuplesOf, count, everyRecord, ascendsFromUniverse, smallKey, nodeNamed, bothEnds, nodeSupported, edgeSupported, everyKey, sound, isStore}
+use Rattle.model.specs.Rules.{Has, Supported, Small, Shaped, firstKey, TupleRules, Chain, StoreRules, IsStore}
+use Rattle.model.proofs.Bools.{or-cases, or-left, or-right, and-left, and-right, and-both, not-yes, no-not, clash}
+use Rattle.model.proofs.Order.{keys}
+use Rattle.model.proofs.Ordered.{test-above, above-test}
+use Rattle.model.proofs.Tuples.{same-key, own-key}
+use Rattle.model.proofs.Steps.{every-record}
+use Rattle.model.proofs.Chains.{walk-chain, chain-walk, chain-within, once-length}
+
+-- ---- tests over all keys and all records
+
+every-key : (p : Key → Bool) (ts : State) → everyKey p ts ≡ true → (k : Key) → Has k ts → p k ≡ true
+unfolding everyKey holds
+every-key p [] e k h = absurd (false≢true h)
+every-key p (t ∷ ts) e k h =
+    ⊎-elim (λ f. ap p (same-key k (t .key) f) ∙ and-left (p (t .key)) (everyKey p ts) e)
+    (λ f. every-key p ts (and-right (p (t .key)) (everyKey p ts) e) k f)
+    (or-cases (sameKey k (t .key)) (present k ts) h)
+
+key-every : (p : Key → Bool) (ts : State) → ((k : Key) → Has k ts → p k ≡ true) → everyKey p ts ≡ true
+unfolding everyKey holds
+key-every p [] h = refl
+key-every p (t ∷ ts) h =
+    and-both (p (t .key)) (everyKey p ts) (h (t .key) (or-left (sameKey (t .key) (t .key)) (present (t .key) ts) (own-key (t .key))))
+    (key-every p ts (λ k e. h k (or-right (sameKey k (t .key)) (present k ts) e)))
+
+record-every : (p : ℕ → Bool) (C : ℕ) → ((i : ℕ) → 1 ≤ i → i ≤ C → p i ≡ true) → everyRecord p C ≡ true
+unfolding everyRecord
+record-every p zero h = refl
+record-every p (suc C) h =
+    and-both (p (suc C)) (everyRecord p C) (h (suc C) (omega arith) (omega arith)) (record-every p C (λ i a b. h i a (omega arith)))
+
+-- ---- the rules on one key
+
+small-yes : (k : Key) → smallKey k ≡ true → Small k
+unfolding smallKey
+small-yes k e =
+    let e₁ = and-right (leb (k .s) mostName) _ e in
+    let e₂ = and-right (leb (k .n) mostName) _ e₁ in
+    record {
+      s = leb-true (k .s) mostName (and-left (leb (k .s) mostName) _ e);
+      n = leb-true (k .n) mostName (and-left (leb (k .n) mostName) _ e₁);
+      g = leb-true (k .g) mostName (and-left (leb (k .g) mostName) (leb (k .m) mostName) e₂);
+      m = leb-true (k .m) mostName (and-right (leb (k .g) mostName) (leb (k .m) mostName) e₂)
+    }
+
+yes-small : (k : Key) → Small k → smallKey k ≡ true
+unfolding smallKey
+yes-small k S =
+    and-both (leb (k .s) mostName) _ (le-leb (k .s) mostName (S .s))
+    (and-both (leb (k .n) mostName) _ (le-leb (k .n) mostName (S .n))
+    (and-both (leb (k .g) mostName) _ (le-leb (k .g) mostName (S .g)) (le-leb (k .m) mostName (S .m))))
+
+shaped-yes : (k : Key) → nodeNamed k ≡ true → bothEnds k ≡ true → Shaped k
+unfolding nodeNamed bothEnds
+shaped-yes k e f = record { named = named; ends = ends′ (eqb (k .g) 0) refl f }
+  where
+    named : k .n ≡ 0 → (k .g ≡ 0) × (k .m ≡ 0)
+    named z =
+        ⊎-elim (λ a. absurd (clash (eq-eqb (k .n) 0 z) (not-yes (eqb (k .n) 0) a)))
+        (λ a. (eqb-true (k .g) 0 (and-left (eqb (k .g) 0) (eqb (k .m) 0) a), eqb-true (k .m) 0 (and-right (eqb (k .g) 0) (eqb (k .m) 0) a)))
+        (or-cases (not (eqb (k .n) 0)) (eqb (k .g) 0 && eqb (k .m) 0) e)
+    ends′ : (b : Bool) → eqb (k .g) 0 ≡ b → cond b (eqb (k .m) 0) (not (eqb (k .m) 0)) ≡ true → (k .g ≡ 0) ↔ (k .m ≡ 0)
+    ends′ true a h = (λ z. eqb-true (k .m) 0 h, λ z. eqb-true (k .g) 0 a)
+    ends′ false a h = (λ z. absurd (eqb-false (k .g) 0 a z), λ z. absurd (eqb-false (k .m) 0 (not-yes (eqb (k .m) 0) h) z))
+
+yes-named : (k : Key) → Shaped k → nodeNamed k ≡ true
+unfolding nodeNamed
+yes-named k S = go (eqb (k .n) 0) refl
+  where
+    go : (b : Bool) → eqb (k .n) 0 ≡ b → (not b || (eqb (k .g) 0 && eqb (k .m) 0)) ≡ true
+    go true e =
+        let z = S .named (eqb-true (k .n) 0 e) in
+        and-both (eqb (k .g) 0) (eqb (k .m) 0) (eq-eqb (k .g) 0 (z .0)) (eq-eqb (k .m) 0 (z .1))
+    go false e = refl
+
+yes-ends : (k : Key) → Shaped k → bothEnds k ≡ true
+unfolding bothEnds
+yes-ends k S = go (eqb (k .g) 0) refl
+  where
+    go : (b : Bool) → eqb (k .g) 0 ≡ b → cond b (eqb (k .m) 0) (not (eqb (k .m) 0)) ≡ true
+    go true e = eq-eqb (k .m) 0 (S .ends .0 (eqb-true (k .g) 0 e))
+    go false e = no-not (eqb (k .m) 0) (ne-eqb (k .m) 0 (λ z. eqb-false (k .g) 0 e (S .ends .1 z)))
+
+is-node : (k : Key) → k .n ≢ 0 → k .g ≡ 0 → isNode k ≡ true
+is-node k h e = and-both (not (eqb (k .n) 0)) (eqb (k .g) 0) (no-not (eqb (k .n) 0) (ne-eqb (k .n) 0 h)) (eq-eqb (k .g) 0 e)
+
+is-edge : (k : Key) → k .g ≢ 0 → isEdge k ≡ true
+is-edge k h = no-not (eqb (k .g) 0) (ne-eqb (k .g) 0 h)
+
+-- a test of the form "not a or b" that passes where a does
+then-yes : (a b : Bool) → (not a || b) ≡ true → a ≡ true → b ≡ true
+then-yes true b e f = e
+then-yes false b e f = absurd (false≢true f)
+
+yes-then : (a b : Bool) → (a ≡ true → b ≡ true) → (not a || b) ≡ true
+yes-then true b h = h refl
+yes-then false b h = refl
+
+supported-yes : (ts : State) (k : Key) → nodeSupported ts k ≡ true → edgeSupported ts k ≡ true → Supported ts k
+unfolding nodeSupported edgeSupported
+supported-yes ts k e f =
+    record {
+      node =
+          λ a b.
+            let h = then-yes (isNode k) _ e (is-node k a b) in
+            (and-left (present (spaceKey (k .s)) ts) _ h, and-right (present (spaceKey (k .s)) ts) _ h);
+      edge =
+          λ a.
+            let h = then-yes (isEdge k) _ f (is-edge k a) in
+            let h₁ = and-right (present (nodeKey (k .s) (k .n)) ts) _ h in
+            (and-left (present (nodeKey (k .s) (k .n)) ts) _ h,
+            and-left (present (nodeKey (k .s) (k .m)) ts) _ h₁,
+            and-right (present (nodeKey (k .s) (k .m)) ts) _ h₁)
+    }
+
+yes-node : (ts : State) (k : Key) → Supported ts k → nodeSupported ts k ≡ true
+unfolding nodeSupported
+yes-node ts k S =
+    yes-then (isNode k) _
+    (λ e.
+      let d =
+            S .node (eqb-false (k .n) 0 (not-yes (eqb (k .n) 0) (and-left (not (eqb (k .n) 0)) (eqb (k .g) 0) e)))
+            (eqb-true (k .g) 0 (and-right (not (eqb (k .n) 0)) (eqb (k .g) 0) e)) in
+      and-both (present (spaceKey (k .s)) ts) _ (d .0) (d .1))
+
+yes-edge : (ts : State) (k : Key) → Supported ts k → edgeSupported ts k ≡ true
+unfolding edgeSupported
+yes-edge ts k S =
+    yes-then (isEdge k) _
+    (λ e.
+      let d = S .edge (eqb-false (k .g) 0 (not-yes (eqb (k .g) 0) e)) in
+      and-both (present (nodeKey (k .s) (k .n)) ts) _ (d .0) (and-both (present (nodeKey (k .s) (k .m)) ts) _ (d .1) (d .2)))
+
+-- ---- the rules on the tuples
+
+from-universe-yes : (ts : State) → ascendsFromUniverse ts ≡ true → Ascending keyOf compareKeys ts × (firstKey ts ≡ some (spaceKey 0))
+unfolding ascendsFromUniverse
+from-universe-yes [] e = absurd (false≢true e)
+from-universe-yes (t ∷ ts) e =
+    (test-above keyOf compareKeys keys (t .key) ts (and-right (sameKey (t .key) (spaceKey 0)) _ e),
+    ap some (same-key (t .key) (spaceKey 0) (and-left (sameKey (t .key) (spaceKey 0)) _ e)))
+
+yes-from-universe : (ts : State) → Ascending keyOf compareKeys ts → firstKey ts ≡ some (spaceKey 0) → ascendsFromUniverse ts ≡ true
+unfolding ascendsFromUniverse
+yes-from-universe [] h e = absurd (never e)
+  where
+    never : _≡_ {A = Option Key} none (some (spaceKey 0)) → ⊥
+    never e = let z : _≡_ {A = ℕ} 0 1 = cc in omega arith
+yes-from-universe (t ∷ ts) h e =
+    and-both (sameKey (t .key) (spaceKey 0)) _ (subst (λ (k : Key). sameKey k (spaceKey 0) ≡ true) (sym (injective e)) (own-key (spaceKey 0)))
+    (above-test keyOf compareKeys keys (t .key) ts h)
+  where
+    injective : {a b : Key} → some a ≡ some b → a ≡ b
+    injective e = cc
+
+pub sound-exactly : (ts : State) → (sound ts ≡ true) ↔ TupleRules ts
+unfolding sound
+sound-exactly ts =
+    (λ e.
+      let e₁ = and-right (ascendsFromUniverse ts) _ e in
+      let e₂ = and-right (everyKey smallKey ts) _ e₁ in
+      let e₃ = and-right (everyKey nodeNamed ts) _ e₂ in
+      let e₄ = and-right (everyKey bothEnds ts) _ e₃ in
+      let u = from-universe-yes ts (and-left (ascendsFromUniverse ts) _ e) in
+      record {
+        ascends = u .0;
+        first = u .1;
+        small = λ k h. small-yes k (every-key smallKey ts (and-left (everyKey smallKey ts) _ e₁) k h);
+        shaped =
+            λ k h.
+              shaped-yes k (every-key nodeNamed ts (and-left (everyKey nodeNamed ts) _ e₂) k h)
+              (every-key bothEnds ts (and-left (everyKey bothEnds ts) _ e₃) k h);
+        nothingMissing =
+            λ k h.
+              supported-yes ts k (every-key (nodeSupported ts) ts (and-left (everyKey (nodeSupported ts) ts) _ e₄) k h)
+              (every-key (edgeSupported ts) ts (and-right (everyKey (nodeSupported ts) ts) _ e₄) k h)
+      },
+    λ R.
+      and-both (ascendsFromUniverse ts) _ (yes-from-universe ts (R .ascends) (R .first))
+      (and-both (everyKey smallKey ts) _ (key-every smallKey ts (λ k h. yes-small k (R .small k h)))
+      (and-both (everyKey nodeNamed ts) _ (key-every nodeNamed ts (λ k h. yes-named k (R .shaped k h)))
+      (and-both (everyKey bothEnds ts) _ (key-every bothEnds ts (λ k h. yes-ends k (R .shaped k h)))
+      (and-both (everyKey (nodeSupported ts) ts) _ (key-every (nodeSupported ts) ts (λ k h. yes-node ts k (R .nothingMissing k h)))
+      (key-every (edgeSupported ts) ts (λ k h. yes-edge ts k (R .nothingMissing k h))))))))
+
+-- ---- a store
+
+ends-some : (r : Option (List ℕ)) → ends r ≡ true → r ≡ some (orNothing r)
+unfolding ends orNothing
+ends-some none e = absurd (false≢true e)
+ends-some (some is) e = refl
+
+-- what the test says yes to meets the rules, with the chains that a walk meets
+pub store-rules : (b : List ℕ) → isStore b ≡ true → StoreRules b (usedOf b) (freeOf b)
+unfolding isStore usedOf freeOf usedChain freeChain tuplesOf
+store-rules b e =
+    let C : ℕ = capacityOf b in
+    let e₁ = and-right (leb leastLength (length b)) _ e in
+    let e₂ = and-right (leb (length b) mostLength) _ e₁ in
+    let e₃ = and-right (eqb (word b 0) C) _ e₂ in
+    let e₄ = and-right (leb (word b 1) C) _ e₃ in
+    let e₅ = and-right (leb (word b 2) C) _ e₄ in
+    let e₆ = and-right (everyRecord (λ (i : ℕ). leb (next b i) C) C) _ e₅ in
+    let e₇ = and-right (ends (usedChain b)) _ e₆ in
+    let e₈ = and-right (ends (freeChain b)) _ e₇ in
+    let e₉ = and-right (everyRecord (λ (i : ℕ). eqb (count i (usedOf b ++ freeOf b)) 1) C) _ e₈ in
+    record {
+      least = leb-true leastLength (length b) (and-left (leb leastLength (length b)) _ e);
+      most = leb-true (length b) mostLength (and-left (leb (length b) mostLength) _ e₁);
+      capacity = eqb-true (word b 0) C (and-left (eqb (word b 0) C) _ e₂);
+      usedHead = leb-true (word b 1) C (and-left (leb (word b 1) C) _ e₃);
+      freeHead = leb-true (word b 2) C (and-left (leb (word b 2) C) _ e₄);
+      nexts = λ i h k. leb-true (next b i) C (every-record (λ (i : ℕ). leb (next b i) C) C (and-left (everyRecord (λ (i : ℕ). leb (next b i) C) C) _ e₅) i h k);
+      usedChain = walk-chain (next b) C (word b 1) (usedOf b) (ends-some (usedChain b) (and-left (ends (usedChain b)) _ e₆));
+      freeChain = walk-chain (next b) C (word b 2) (freeOf b) (ends-some (freeChain b) (and-left (ends (freeChain b)) _ e₇));
+      once =
+          λ i h k.
+            eqb-true (count i (usedOf b ++ freeOf b)) 1
+            (every-record (λ (i : ℕ). eqb (count i (usedOf b ++ freeOf b)) 1) C
+            (and-left (everyRecord (λ (i : ℕ). eqb (count i (usedOf b ++ freeOf b)) 1) C) _ e₈) i h k);
+      counted = eqb-true (word b 3) (length (usedOf b)) (and-left (eqb (word b 3) (length (usedOf b))) _ e₉);
+      tuples = sound-exactly (tuplesOf b) .0 (and-right (eqb (word b 3) (length (usedOf b))) _ e₉)
+    }
+
+-- ---- from the rules to the test
+
+-- used + free = C
+pub rules-count : (b used free : List ℕ) → StoreRules b used free → length used + length free ≡ capacityOf b
+rules-count b used free R =
+    once-length (capacityOf b) used free (chain-within (next b) (capacityOf b) (word b 1) used (R .usedChain) (R .usedHead) (R .nexts))
+    (chain-within (next b) (capacityOf b) (word b 2) free (R .freeChain) (R .freeHead) (R .nexts)) (R .once)
+
+pub rules-used-chain : (b used free : List ℕ) → StoreRules b used free → usedChain b ≡ some used
+unfolding usedChain
+rules-used-chain b used free R = chain-walk (next b) (capacityOf b) (word b 1) used (R .usedChain) (omega (arith, rules-count b used free R))
+
+pub rules-free-chain : (b used free : List ℕ) → StoreRules b used free → freeChain b ≡ some free
+unfolding freeChain
+rules-free-chain b used free R = chain-walk (next b) (capacityOf b) (word b 2) free (R .freeChain) (omega (arith, rules-count b used free R))
+
+pub rules-used : (b used free : List ℕ) → StoreRules b used free → usedOf b ≡ used
+unfolding usedOf orNothing
+rules-used b used free R = ap orNothing (rules-used-chain b used free R)
+
+pub rules-free : (b used free : List ℕ) → StoreRules b used free → freeOf b ≡ free
+unfolding freeOf orNothing
+rules-free b used free R = ap orNothing (rules-free-chain b used free R)
+
+pub rules-tuples : (b used free : List ℕ) → StoreRules b used free → tuplesOf b ≡ map (tupleAt b) used
+unfolding tuplesOf
+rules-tuples b used free R = ap (map (tupleAt b)) (rules-used b used free R)
+
+pub rules-store : (b used free : List ℕ) → StoreRules b used free → isStore b ≡ true
+unfolding isStore ends
+rules-store b used free R =
+    let C : ℕ = capacityOf b in
+    and-both (leb leastLength (length b)) _ (le-leb leastLength (length b) (R .least))
+    (and-both (leb (length b) mostLength) _ (le-leb (length b) mostLength (R .most))
+    (and-both (eqb (word b 0) C) _ (eq-eqb (word b 0) C (R .capacity))
+    (and-both (leb (word b 1) C) _ (le-leb (word b 1) C (R .usedHead))
+    (and-both (leb (word b 2) C) _ (le-leb (word b 2) C (R .freeHead))
+    (and-both (everyRecord (λ (i : ℕ). leb (next b i) C) C) _ (record-every (λ (i : ℕ). leb (next b i) C) C (λ i h k. le-leb (next b i) C (R .nexts i h k)))
+    (and-both (ends (usedChain b)) _ (ap ends (rules-used-chain b used free R))
+    (and-both (ends (freeChain b)) _ (ap ends (rules-free-chain b used free R))
+    (and-both (everyRecord (λ (i : ℕ). eqb (count i (usedOf b ++ freeOf b)) 1) C) _
+    (record-every (λ (i : ℕ). eqb (count i (usedOf b ++ freeOf b)) 1) C
+    (λ i h k.
+      eq-eqb (count i (usedOf b ++ freeOf b)) 1
+      (ap₂ (λ (x y : List ℕ). count i (x ++ y)) (rules-used b used free R) (rules-free b used free R) ∙ R .once i h k)))
+    (and-both (eqb (word b 3) (length (usedOf b))) _
+    (eq-eqb (word b 3) (length (usedOf b)) (R .counted ∙ ap length (sym (rules-used b used free R))))
+    (sound-exactly (tuplesOf b) .1 (subst TupleRules (sym (rules-tuples b used free R)) (R .tuples))))))))))))
+
+-- "A buffer is accepted as a store exactly when it meets the rules"
+pub store-exactly : (b : List ℕ) → (isStore b ≡ true) ↔ IsStore b
+store-exactly b = (λ e. (usedOf b, freeOf b, store-rules b e), λ s. rules-store b (s .0) (s .1) (s .2))
