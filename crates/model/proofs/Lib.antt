@@ -9,4 +9,5 @@ pub mod Steps
 pub mod Refusals
 pub mod Chains
 pub mod Store
+pub mod Prepared
 pub mod Cases

@@ -1,0 +1,127 @@
+-- What preparing leaves is a store whose only tuple is UNIVERSE with NIL.
+use mathlib.Core.Bool.{Bool, true, false, cond}
+use mathlib.Core.List.{List, [], _∷_, _++_, map}
+use mathlib.Core.Path.{_≡_, refl, sym, ap, _∙_, subst}
+use Prim.Native.Nat.{ℕ, zero, suc, _+_, _-_, _/_, _≤_, _<_}
+use native.Mathlib.Omega.{arith}
+use lib.Dec.{eqb, ltb}
+use lib.ListN.{length}
+use borrow.Author.Tests.{eqb-true, eqb-false, ltb-true, eq-eqb, ne-eqb, lt-ltb, le-ltb}
+use Rattle.model.specs.Ordered.{holds, ascendsFrom}
+use Rattle.model.specs.Keys.{compareKeys}
+use Rattle.model.specs.Tuples.{fresh}
+use Rattle.model.specs.Buffer.{word, capacityOf, next, tupleAt, oneIf, count, tuplesOf, ascendsFromUniverse, smallKey, nodeNamed, bothEnds, nodeSupported, edgeSupported, everyKey, sound, isStore, follower, Prepared}
+use Rattle.model.specs.Rules.{TupleRules, Chain, StoreRules}
+use Rattle.model.proofs.Store.{sound-exactly, rules-store, rules-tuples}
+
+-- n records from record i on
+abbrev pub upFrom : ℕ → ℕ → List ℕ
+upFrom i zero = []
+upFrom i (suc n) = i ∷ upFrom (suc i) n
+
+hit : (a x : ℕ) → a ≡ x → oneIf (eqb a x) ≡ 1
+hit a x e = ap oneIf (eq-eqb a x e)
+
+miss : (a x : ℕ) → (a ≡ x → ⊥) → oneIf (eqb a x) ≡ 0
+miss a x e = ap oneIf (ne-eqb a x e)
+
+count-below : (i j n : ℕ) → i < j → count i (upFrom j n) ≡ 0
+unfolding count
+count-below i j zero h = refl
+count-below i j (suc n) h = omega (arith, miss i j (λ e. omega arith), count-below i (suc j) n (omega arith))
+
+-- each record is met once
+pub count-up : (i j n : ℕ) → j ≤ i → i < j + n → count i (upFrom j n) ≡ 1
+unfolding count
+count-up i j zero h k = absurd (omega arith)
+count-up i j (suc n) h k = go (eqb i j) refl (count-up i (suc j) n)
+  where
+    go : (b : Bool) → eqb i j ≡ b → (suc j ≤ i → i < suc j + n → count i (upFrom (suc j) n) ≡ 1) → oneIf (eqb i j) + count i (upFrom (suc j) n) ≡ 1
+    go true e rest =
+        let same : i ≡ j = eqb-true i j e in
+        omega (arith, hit i j same, count-below i (suc j) n (omega arith))
+    go false e rest =
+        let other : i ≡ j → ⊥ = eqb-false i j e in
+        omega (arith, miss i j other, rest (omega arith) (omega arith))
+
+follower-on : (C i : ℕ) → i < C → follower C i ≡ suc i
+unfolding follower
+follower-on C i h = ap (λ (b : Bool). cond b (suc i) 0) (lt-ltb i C h)
+
+follower-last : (C i : ℕ) → C ≤ i → follower C i ≡ 0
+unfolding follower
+follower-last C i h = ap (λ (b : Bool). cond b (suc i) 0) (le-ltb i C h)
+
+follower-most : (C i : ℕ) → follower C i ≤ C
+unfolding follower
+follower-most C i = go (ltb i C) refl
+  where
+    go : (b : Bool) → ltb i C ≡ b → cond b (suc i) 0 ≤ C
+    go true e = ltb-true i C e
+    go false e = omega arith
+
+-- free records that follow one another up to C are a chain
+chain-up : (link : ℕ → ℕ) (C j n : ℕ) → ((i : ℕ) → 2 ≤ i → i ≤ C → link i ≡ follower C i) → 1 ≤ j → j + n ≡ C → Chain link (follower C j) (upFrom (suc j) n)
+chain-up link C j zero links h e = follower-last C j (omega arith)
+chain-up link C j (suc n) links h e =
+    subst (λ (i : ℕ). Chain link i (suc j ∷ upFrom (suc (suc j)) n)) (sym (follower-on C j (omega arith)))
+    (λ z. omega arith, refl,
+    subst (λ (i : ℕ). Chain link i (upFrom (suc (suc j)) n)) (sym (links (suc j) (omega arith) (omega arith)))
+    (chain-up link C (suc j) n links (omega arith) (omega arith)))
+
+fresh-rules : TupleRules fresh
+fresh-rules = sound-exactly fresh .0 yes′
+  where
+    yes′ : sound fresh ≡ true
+    yes′ = unfold sound ascendsFromUniverse ascendsFrom everyKey smallKey nodeNamed bothEnds nodeSupported edgeSupported holds compareKeys in refl
+
+module _ (b₀ b : List ℕ) (P : Prepared b₀ b) where
+  pub prepared-capacity : capacityOf b ≡ capacityOf b₀
+  unfolding capacityOf
+  prepared-capacity = ap (λ (l : ℕ). (l - 4) / 6) (P .size)
+
+  capacity-least : 1 ≤ capacityOf b₀
+  unfolding capacityOf
+  capacity-least = omega (arith, P .least)
+
+  one-tuple : map (tupleAt b) (1 ∷ []) ≡ fresh
+  one-tuple = ap (λ t. t ∷ []) (P .universe)
+
+  next-most : (i : ℕ) → 1 ≤ i → i ≤ capacityOf b → next b i ≤ capacityOf b
+  next-most i h k = go (eqb i 1) refl
+    where
+      go : (t : Bool) → eqb i 1 ≡ t → next b i ≤ capacityOf b
+      go true e =
+          let first : i ≡ 1 = eqb-true i 1 e in
+          omega (arith, ap (next b) first ∙ P .universeLast)
+      go false e =
+          let later : i ≡ 1 → ⊥ = eqb-false i 1 e in
+          omega (arith, P .free i (omega arith) (omega (arith, prepared-capacity)), follower-most (capacityOf b₀) i, prepared-capacity)
+
+  pub prepared-rules : StoreRules b (1 ∷ []) (upFrom 2 (capacityOf b - 1))
+  prepared-rules =
+      let C : ℕ = capacityOf b in
+      record {
+        least = omega (arith, P .least, P .size);
+        most = omega (arith, P .most, P .size);
+        capacity = P .capacity ∙ sym prepared-capacity;
+        usedHead = omega (arith, P .usedHead, prepared-capacity, capacity-least);
+        freeHead = omega (arith, P .freeHead, follower-most (capacityOf b₀) 1, prepared-capacity);
+        nexts = next-most;
+        usedChain = subst (λ (i : ℕ). Chain (next b) i (1 ∷ [])) (sym (P .usedHead)) (λ z. omega arith, refl, P .universeLast);
+        freeChain =
+            subst (λ (i : ℕ). Chain (next b) i (upFrom 2 (C - 1))) (ap (λ (D : ℕ). follower D 1) prepared-capacity ∙ sym (P .freeHead))
+            (chain-up (next b) C 1 (C - 1)
+            (λ i h k. P .free i h (omega (arith, prepared-capacity)) ∙ ap (λ (D : ℕ). follower D i) (sym prepared-capacity))
+            (omega arith) (omega (arith, prepared-capacity, capacity-least)));
+        once = λ i h k. count-up i 1 (suc (C - 1)) h (omega arith);
+        counted = P .used;
+        tuples = subst TupleRules (sym one-tuple) fresh-rules
+      }
+
+  pub prepared-store : isStore b ≡ true
+  prepared-store = rules-store b (1 ∷ []) (upFrom 2 (capacityOf b - 1)) prepared-rules
+
+  -- "at first only (0,0,0,0) with NIL"
+  pub prepared-tuples : tuplesOf b ≡ fresh
+  prepared-tuples = rules-tuples b (1 ∷ []) (upFrom 2 (capacityOf b - 1)) prepared-rules ∙ one-tuple
