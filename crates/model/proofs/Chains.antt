@@ -2,7 +2,7 @@
 use mathlib.Core.Bool.{Bool, true, false}
 use mathlib.Core.List.{List, [], _∷_, _++_, head-eq-of-cons-eq, tail-eq-of-cons-eq}
 use mathlib.Core.Logic.{_≢_, ⊎-elim}
-use mathlib.Core.Option.{Option, none, some}
+use mathlib.Core.Option.{Option, none, some, Option·map}
 use mathlib.Core.Path.{_≡_, refl, sym, ap, ap₂, _∙_, subst}
 use Prim.Native.Nat.{ℕ, zero, suc, _+_, _≤_, _<_}
 use native.Mathlib.Nat.{add-assoc}
@@ -10,7 +10,7 @@ use native.Mathlib.Omega.{arith}
 use lib.Dec.{eqb}
 use lib.ListN.{length, length-append}
 use borrow.Author.Tests.{eqb-true, eqb-false, eq-eqb, ne-eqb}
-use Rattle.model.specs.Buffer.{before, walk, oneIf, count}
+use Rattle.model.specs.Buffer.{walk, oneIf, count}
 use Rattle.model.specs.Rules.{Chain}
 
 -- ---- the walk and the chain
@@ -31,7 +31,7 @@ walk-chain link (suc most) (suc i) is e = go (walk link most (link (suc i))) ref
   where
     go : (r : Option (List ℕ)) → walk link most (link (suc i)) ≡ r
         → ((js : List ℕ) → walk link most (link (suc i)) ≡ some js → Chain link (link (suc i)) js)
-        → before (suc i) r ≡ some is → Chain link (suc i) is
+        → Option·map (λ (is : List ℕ). suc i ∷ is) r ≡ some is → Chain link (suc i) is
     go none f ih h = absurd (none≢some-list h)
     go (some js) f ih h = subst (Chain link (suc i)) (some-list h) (λ z. omega arith, refl, ih js f)
 
@@ -47,7 +47,7 @@ chain-walk link most i [] c h = ap (walk link most) c ∙ walk-zero link most
 chain-walk link zero i (j ∷ js) c h = absurd (omega arith)
 chain-walk link (suc most) zero (j ∷ js) c h = absurd (c .0 refl)
 chain-walk link (suc most) (suc i) (j ∷ js) c h =
-    ap (before (suc i)) (chain-walk link most (link (suc i)) js (c .2) (omega arith)) ∙ ap (λ (x : ℕ). some (x ∷ js)) (sym (c .1))
+    ap (Option·map (λ (is : List ℕ). suc i ∷ is)) (chain-walk link most (link (suc i)) js (c .2) (omega arith)) ∙ ap (λ (x : ℕ). some (x ∷ js)) (sym (c .1))
 
 -- a chain is determined by its start
 pub chain-unique : (link : ℕ → ℕ) (i : ℕ) (xs ys : List ℕ) → Chain link i xs → Chain link i ys → xs ≡ ys

@@ -10,7 +10,7 @@ use Rattle.model.specs.declared.Call.{Call}
 use Rattle.model.specs.declared.Pair.{Pair}
 use Rattle.model.specs.Ordered.{holds, put, Ascending}
 use Rattle.model.specs.Keys.{Key, Tuple, keyOf, spaceKey, nodeKey, edgeKey, isNode, isEdge, sameKey}
-use Rattle.model.specs.Tuples.{State, present}
+use Rattle.model.specs.Tuples.{Tuples, present}
 use Rattle.model.specs.Operators.{Direction, outpointing, inpointing, adjacent, Listing}
 use Rattle.model.specs.Pairs.{pair, edgeOf, nodeOf, comparePairs, itself, member, ascending, gather, onlyIf, outPair, inPair, pairsAt, pairsOf, edgeNames, nodeNames, only, withEdge, withNode, nodesIn, spacesIn, spacesWith}
 use Rattle.model.specs.Steps.{nOf, gOf, mOf, sOf, listed}
@@ -57,7 +57,7 @@ member-append q (p ∷ ps) rs =
     ap (λ (b : Bool). samePair q p || b) (member-append q ps rs) ∙ or-left-first (samePair q p) (member q ps) (member q rs)
 
 -- what is gathered comes from a key that is present ..
-gather-sound : (f : Key → List Pair) (ts : State) (q : Pair) → Member q (gather f ts) → (k : Key) × Has k ts × Member q (f k)
+gather-sound : (f : Key → List Pair) (ts : Tuples) (q : Pair) → Member q (gather f ts) → (k : Key) × Has k ts × Member q (f k)
 unfolding gather holds
 gather-sound f [] q e = absurd (false≢true e)
 gather-sound f (t ∷ ts) q e =
@@ -66,7 +66,7 @@ gather-sound f (t ∷ ts) q e =
     (or-cases (member q (f (t .key))) (member q (gather f ts)) (sym (member-append q (f (t .key)) (gather f ts)) ∙ e))
 
 -- .. and nothing is left out
-gather-complete : (f : Key → List Pair) (ts : State) (q : Pair) (k : Key) → Has k ts → Member q (f k) → Member q (gather f ts)
+gather-complete : (f : Key → List Pair) (ts : Tuples) (q : Pair) (k : Key) → Has k ts → Member q (f k) → Member q (gather f ts)
 unfolding gather holds
 gather-complete f [] q k h e = absurd (false≢true h)
 gather-complete f (t ∷ ts) q k h e =
@@ -148,13 +148,13 @@ yes-nonzero : (n : ℕ) → n ≢ 0 → not (eqb n 0) ≡ true
 yes-nonzero n h = no-not (eqb n 0) (ne-eqb n 0 h)
 
 -- a key in space s from node n, or to node n
-from-node : (s n : ℕ) (k : Key) (ts : State) → k .s ≡ s → k .n ≡ n → Has k ts → Has (edgeKey s n (k .g) (k .m)) ts
+from-node : (s n : ℕ) (k : Key) (ts : Tuples) → k .s ≡ s → k .n ≡ n → Has k ts → Has (edgeKey s n (k .g) (k .m)) ts
 from-node s n k ts e f h = subst (λ (j : Key). Has j ts) (λ i. record { s = e i; n = f i; g = k .g; m = k .m }) h
 
-to-node : (s n : ℕ) (k : Key) (ts : State) → k .s ≡ s → k .m ≡ n → Has k ts → Has (edgeKey s (k .n) (k .g) n) ts
+to-node : (s n : ℕ) (k : Key) (ts : Tuples) → k .s ≡ s → k .m ≡ n → Has k ts → Has (edgeKey s (k .n) (k .g) n) ts
 to-node s n k ts e f h = subst (λ (j : Key). Has j ts) (λ i. record { s = e i; n = k .n; g = k .g; m = f i }) h
 
-out-sound : (s n : ℕ) (ts : State) (k : Key) (q : Pair) → Has k ts → k .s ≡ s → Member q (outPair n k) → Outpointing s n ts q
+out-sound : (s n : ℕ) (ts : Tuples) (k : Key) (q : Pair) → Has k ts → k .s ≡ s → Member q (outPair n k) → Outpointing s n ts q
 unfolding outPair
 out-sound s n ts k q h e m =
     let r = onlyIf-sound (isEdge k && eqb (k .n) n) (pair (k .g) (k .m)) q m in
@@ -162,7 +162,7 @@ out-sound s n ts k q h e m =
     (nonzero-yes (k .g) (and-left (isEdge k) (eqb (k .n) n) (r .0)),
     from-node s n k ts e (eqb-true (k .n) n (and-right (isEdge k) (eqb (k .n) n) (r .0))) h)
 
-in-sound : (s n : ℕ) (ts : State) (k : Key) (q : Pair) → Has k ts → k .s ≡ s → Member q (inPair n k) → Inpointing s n ts q
+in-sound : (s n : ℕ) (ts : Tuples) (k : Key) (q : Pair) → Has k ts → k .s ≡ s → Member q (inPair n k) → Inpointing s n ts q
 unfolding inPair
 in-sound s n ts k q h e m =
     let r = onlyIf-sound (isEdge k && eqb (k .m) n) (pair (k .g) (k .n)) q m in
@@ -170,7 +170,7 @@ in-sound s n ts k q h e m =
     (nonzero-yes (k .g) (and-left (isEdge k) (eqb (k .m) n) (r .0)),
     to-node s n k ts e (eqb-true (k .m) n (and-right (isEdge k) (eqb (k .m) n) (r .0))) h)
 
-at-sound : (d : Direction) (s n : ℕ) (ts : State) (k : Key) (q : Pair) → Has k ts → k .s ≡ s → Member q (pairsAt d n k) → IsPair d s n ts q
+at-sound : (d : Direction) (s n : ℕ) (ts : Tuples) (k : Key) (q : Pair) → Has k ts → k .s ≡ s → Member q (pairsAt d n k) → IsPair d s n ts q
 unfolding pairsAt
 at-sound outpointing s n ts k q h e m = out-sound s n ts k q h e m
 at-sound inpointing s n ts k q h e m = in-sound s n ts k q h e m
@@ -178,7 +178,7 @@ at-sound adjacent s n ts k q h e m =
     ⊎-elim (λ o. inl (out-sound s n ts k q h e o)) (λ o. inr (in-sound s n ts k q h e o))
     (or-cases (member q (outPair n k)) (member q (inPair n k)) (sym (member-append q (outPair n k) (inPair n k)) ∙ m))
 
-pub pairs-sound : (d : Direction) (s n : ℕ) (ts : State) (q : Pair) → Member q (pairsOf d s n ts) → IsPair d s n ts q
+pub pairs-sound : (d : Direction) (s n : ℕ) (ts : Tuples) (q : Pair) → Member q (pairsOf d s n ts) → IsPair d s n ts q
 unfolding pairsOf
 pairs-sound d s n ts q e =
     let f : Key → List Pair = λ k. cond (eqb (k .s) s) (pairsAt d n k) [] in
@@ -187,7 +187,7 @@ pairs-sound d s n ts q e =
     at-sound d s n ts (r .0) q (r .1) (eqb-true (r .0 .s) s (i .0)) (i .1)
 
 -- a pair that is present is gathered from its edge
-gathered : (d : Direction) (s n : ℕ) (ts : State) (q : Pair) (k : Key) → Has k ts → k .s ≡ s → Member q (pairsAt d n k) → Member q (pairsOf d s n ts)
+gathered : (d : Direction) (s n : ℕ) (ts : Tuples) (q : Pair) (k : Key) → Has k ts → k .s ≡ s → Member q (pairsAt d n k) → Member q (pairsOf d s n ts)
 unfolding pairsOf
 gathered d s n ts q k h e m =
     let f : Key → List Pair = λ k. cond (eqb (k .s) s) (pairsAt d n k) [] in
@@ -201,7 +201,7 @@ in-at : (s n : ℕ) (q : Pair) → edgeOf q ≢ 0 → Member q (inPair n (edgeKe
 unfolding inPair
 in-at s n q h = onlyIf-complete _ q (and-both (not (eqb (edgeOf q) 0)) (eqb n n) (yes-nonzero (edgeOf q) h) (eq-eqb n n refl))
 
-pub pairs-complete : (d : Direction) (s n : ℕ) (ts : State) (q : Pair) → IsPair d s n ts q → Member q (pairsOf d s n ts)
+pub pairs-complete : (d : Direction) (s n : ℕ) (ts : Tuples) (q : Pair) → IsPair d s n ts q → Member q (pairsOf d s n ts)
 unfolding pairsAt
 pairs-complete outpointing s n ts q h = gathered outpointing s n ts q (edgeKey s n (edgeOf q) (nodeOf q)) (h .1) refl (out-at s n q (h .0))
 pairs-complete inpointing s n ts q h = gathered inpointing s n ts q (edgeKey s (nodeOf q) (edgeOf q) n) (h .1) refl (in-at s n q (h .0))
@@ -235,13 +235,13 @@ nodes-complete ps p e = member-ascending (pair 0 (nodeOf p)) _ ∙ map-complete 
 -- ---- nodes and spaces
 
 -- a node tuple's key is (s,n,0,0), a space tuple's (s,0,0,0)
-node-key : (ts : State) → TupleRules ts → (k : Key) → Has k ts → k .g ≡ 0 → k ≡ nodeKey (k .s) (k .n)
+node-key : (ts : Tuples) → TupleRules ts → (k : Key) → Has k ts → k .g ≡ 0 → k ≡ nodeKey (k .s) (k .n)
 node-key ts R k h e = λ i. record { s = k .s; n = k .n; g = e i; m = R .shaped k h .ends .0 e i }
 
-space-key : (ts : State) → TupleRules ts → (k : Key) → Has k ts → k .n ≡ 0 → k ≡ spaceKey (k .s)
+space-key : (ts : Tuples) → TupleRules ts → (k : Key) → Has k ts → k .n ≡ 0 → k ≡ spaceKey (k .s)
 space-key ts R k h e = let z = R .shaped k h .named e in λ i. record { s = k .s; n = e i; g = z .0 i; m = z .1 i }
 
-module _ (ts : State) (R : TupleRules ts) where
+module _ (ts : Tuples) (R : TupleRules ts) where
   nodesIn-sound : (s : ℕ) (q : Pair) → Member q (nodesIn s ts) → (n : ℕ) × (n ≢ 0) × Has (nodeKey s n) ts × (q ≡ pair 0 n)
   unfolding nodesIn
   nodesIn-sound s q e =
@@ -356,7 +356,7 @@ module _ (ts : State) (R : TupleRules ts) where
       subst (λ (x : Pair). Member x (spacesWith (nOf c) ts)) (sym (h .3)) (spacesWith-complete (nOf c) (h .0) (h .1) (h .2))
 
 -- each list is strictly ascending: "ascending by edge, then node, each once"
-pub listed-ascends : (l : Listing) (c : Call) (ts : State) → Ascending itself comparePairs (listed l c ts)
+pub listed-ascends : (l : Listing) (c : Call) (ts : Tuples) → Ascending itself comparePairs (listed l c ts)
 unfolding listed pairsOf edgeNames nodeNames nodesIn spacesIn spacesWith
 listed-ascends (Listing.P d) c ts = ascending-ascends _
 listed-ascends (Listing.G d) c ts = ascending-ascends _
@@ -368,6 +368,6 @@ listed-ascends Listing.US c ts = ascending-ascends _
 listed-ascends Listing.USn c ts = ascending-ascends _
 
 -- the theorem about lists that S operators answer
-pub lists-exactly : (l : Listing) (c : Call) (ts : State) → TupleRules ts
+pub lists-exactly : (l : Listing) (c : Call) (ts : Tuples) → TupleRules ts
     → Ascending itself comparePairs (listed l c ts) × ((q : Pair) → Member q (listed l c ts) ↔ Entry l c ts q)
 lists-exactly l c ts R = (listed-ascends l c ts, λ q. (listed-sound ts R l c q, listed-complete ts R l c q))

@@ -10,9 +10,9 @@ use borrow.Author.Tests.{eqb-true, eqb-false, ltb-true, eq-eqb, ne-eqb, lt-ltb, 
 use Rattle.model.specs.Ordered.{holds, ascendsFrom}
 use Rattle.model.specs.Keys.{compareKeys}
 use Rattle.model.specs.Tuples.{fresh}
-use Rattle.model.specs.Buffer.{word, capacityOf, next, tupleAt, oneIf, count, tuplesOf, ascendsFromUniverse, smallKey, nodeNamed, bothEnds, nodeSupported, edgeSupported, everyKey, sound, isStore, follower, Prepared}
+use Rattle.model.specs.Buffer.{word, capacityOf, next, tupleAt, oneIf, count, tuplesOf, ascendsFromUniverse, smallKey, noEdgeWithoutNode, edgeHasEnd, nodeSupported, edgeSupported, everyKey, sound, isStore, follower, Prepared}
 use Rattle.model.specs.Rules.{TupleRules, Chain, StoreRules}
-use Rattle.model.proofs.Store.{sound-exactly, rules-store, rules-tuples}
+use Rattle.model.proofs.Store.{fits-least, fits-most, sound-exactly, rules-store, rules-tuples}
 
 -- n records from record i on
 abbrev pub upFrom : ℕ → ℕ → List ℕ
@@ -73,7 +73,7 @@ fresh-rules : TupleRules fresh
 fresh-rules = sound-exactly fresh .0 yes′
   where
     yes′ : sound fresh ≡ true
-    yes′ = unfold sound ascendsFromUniverse ascendsFrom everyKey smallKey nodeNamed bothEnds nodeSupported edgeSupported holds compareKeys in refl
+    yes′ = unfold sound ascendsFromUniverse ascendsFrom everyKey smallKey noEdgeWithoutNode edgeHasEnd nodeSupported edgeSupported holds compareKeys in refl
 
 module _ (b₀ b : List ℕ) (P : Prepared b₀ b) where
   pub prepared-capacity : capacityOf b ≡ capacityOf b₀
@@ -82,7 +82,7 @@ module _ (b₀ b : List ℕ) (P : Prepared b₀ b) where
 
   capacity-least : 1 ≤ capacityOf b₀
   unfolding capacityOf
-  capacity-least = omega (arith, P .least)
+  capacity-least = omega (arith, fits-least b₀ (P .fits))
 
   one-tuple : map (tupleAt b) (1 ∷ []) ≡ fresh
   one-tuple = ap (λ t. t ∷ []) (P .universe)
@@ -102,8 +102,8 @@ module _ (b₀ b : List ℕ) (P : Prepared b₀ b) where
   prepared-rules =
       let C : ℕ = capacityOf b in
       record {
-        least = omega (arith, P .least, P .size);
-        most = omega (arith, P .most, P .size);
+        least = omega (arith, fits-least b₀ (P .fits), P .size);
+        most = omega (arith, fits-most b₀ (P .fits), P .size);
         capacity = P .capacity ∙ sym prepared-capacity;
         usedHead = omega (arith, P .usedHead, prepared-capacity, capacity-least);
         freeHead = omega (arith, P .freeHead, follower-most (capacityOf b₀) 1, prepared-capacity);

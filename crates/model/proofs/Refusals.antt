@@ -12,26 +12,26 @@ use borrow.Author.Tests.{ltb-true, lt-ltb}
 use Rattle.model.specs.declared.Call.{Call}
 use Rattle.model.specs.declared.Pair.{Pair}
 use Rattle.model.specs.Keys.{Key}
-use Rattle.model.specs.Tuples.{State, present, missing, remove}
+use Rattle.model.specs.Tuples.{Tuples, present, missing, remove}
 use Rattle.model.specs.Operators.{Direction, Object, Removal, Operator, create, bind, value, exists, destroy, list, operatorOf}
 use Rattle.model.specs.Pairs.{edgeOf, nodeOf, pairsOf, nodeNames, withEdge, anyPair}
-use Rattle.model.specs.Steps.{Reply, refusal, name, valued, yesNo, pairs, nOf, gOf, sOf, nodeTaken, removeNodes, destroyed, toAdd, reply, after}
-use Rattle.model.specs.Refusals.{Stop, stop, first, full, earlier, refusalOf}
-use Rattle.model.specs.Machine.{Request, Outcome, settle, machine}
+use Rattle.model.specs.Steps.{Reply, refusal, name, valued, yesNo, pairs, nOf, gOf, sOf, nodeTaken, removeNodes, destroyed, wouldAdd, reply, after}
+use Rattle.model.specs.Refusals.{Stop, stop, first, full, ofCall, ofTuples, earlier, refusalOf}
+use Rattle.model.specs.Machine.{Request, Outcome, outcomeOf, machine}
 use Rattle.model.specs.OneCall.{writes}
-use Rattle.model.specs.Lists.{Exceeds, FullExactly}
+use Rattle.model.specs.CallLists.{Exceeds}
 use Rattle.model.proofs.Bools.{and-left, and-right}
 use Rattle.model.proofs.Tuples.{present-remove}
 
 -- ---- what changes nothing
 
-pub stopped : (C : ℕ) (ts : State) (c : Call) (room number : ℕ) → refusalOf C ts c room ≡ some number
+pub stopped : (C : ℕ) (ts : Tuples) (c : Call) (room number : ℕ) → refusalOf C ts c room ≡ some number
     → (machine C ts c room .answer ≡ refusal number) × (machine C ts c room .state ≡ ts)
-unfolding machine settle
+unfolding machine outcomeOf
 stopped C ts c room number e =
-    (ap (λ (r : Option ℕ). settle r ts c .answer) e, ap (λ (r : Option ℕ). settle r ts c .state) e)
+    (ap (λ (r : Option ℕ). outcomeOf r ts c .answer) e, ap (λ (r : Option ℕ). outcomeOf r ts c .state) e)
 
-after-reading : (op : Operator) (c : Call) (ts : State) → writes op ≡ false → after op c ts ≡ ts
+after-reading : (op : Operator) (c : Call) (ts : Tuples) → writes op ≡ false → after op c ts ≡ ts
 unfolding writes after
 after-reading (create o) c ts e = absurd (true≢false e)
 after-reading (bind o) c ts e = absurd (true≢false e)
@@ -41,11 +41,11 @@ after-reading (destroy r) c ts e = absurd (true≢false e)
 after-reading (list l) c ts e = refl
 
 -- "Operators of V, X and S change no word": nor the state
-pub reading : (C : ℕ) (ts : State) (c : Call) (room : ℕ) → writes (operatorOf (c .operator)) ≡ false → machine C ts c room .state ≡ ts
-unfolding machine settle
+pub reading : (C : ℕ) (ts : Tuples) (c : Call) (room : ℕ) → writes (operatorOf (c .operator)) ≡ false → machine C ts c room .state ≡ ts
+unfolding machine outcomeOf
 reading C ts c room w = go (refusalOf C ts c room)
   where
-    go : (r : Option ℕ) → settle r ts c .state ≡ ts
+    go : (r : Option ℕ) → outcomeOf r ts c .state ≡ ts
     go (some number) = refl
     go none = after-reading (operatorOf (c .operator)) c ts w
 
@@ -94,12 +94,12 @@ first-number p (x ∷ xs) n h e = go (x .applies) (first-number p xs n (and-righ
 abbrev notTen : ℕ → Bool
 notTen n = not (eqb n 10)
 
-earlier-not-ten : (ts : State) (c : Call) (room : ℕ) → everyNumber notTen (earlier ts c room) ≡ true
-unfolding earlier
+earlier-not-ten : (ts : Tuples) (c : Call) (room : ℕ) → everyNumber notTen (earlier ts c room) ≡ true
+unfolding ofCall ofTuples earlier
 earlier-not-ten ts c room = refl
 
 -- condition 10 wins exactly when no earlier one applies and it does
-ten-wins : (C : ℕ) (ts : State) (c : Call) (room : ℕ) → refusalOf C ts c room ≡ some 10 → (first (earlier ts c room) ≡ none) × (full C c ts ≡ true)
+ten-wins : (C : ℕ) (ts : Tuples) (c : Call) (room : ℕ) → refusalOf C ts c room ≡ some 10 → (first (earlier ts c room) ≡ none) × (full C c ts ≡ true)
 unfolding refusalOf first
 ten-wins C ts c room e = go (first (earlier ts c room)) refl
   where
@@ -112,7 +112,7 @@ ten-wins C ts c room e = go (first (earlier ts c room)) refl
         let ten : n ≡ 10 = some-injective (sym (first-some (earlier ts c room) _ n f) ∙ e) in
         absurd (false≢true (sym (ap notTen ten) ∙ first-number notTen (earlier ts c room) n (earlier-not-ten ts c room) f))
 
-wins-ten : (C : ℕ) (ts : State) (c : Call) (room : ℕ) → first (earlier ts c room) ≡ none → full C c ts ≡ true → refusalOf C ts c room ≡ some 10
+wins-ten : (C : ℕ) (ts : Tuples) (c : Call) (room : ℕ) → first (earlier ts c room) ≡ none → full C c ts ≡ true → refusalOf C ts c room ≡ some 10
 unfolding refusalOf first
 wins-ten C ts c room f e = first-none (earlier ts c room) _ f ∙ ap (λ (b : Bool). first (stop 10 b ∷ [])) e
 
@@ -122,9 +122,9 @@ isRefusal (refusal n) = true
 isRefusal (name x) = false
 isRefusal (valued v) = false
 isRefusal (yesNo b) = false
-isRefusal (pairs ps) = false
+isRefusal (pairs k ps) = false
 
-reply-answers : (op : Operator) (c : Call) (ts : State) → isRefusal (reply op c ts) ≡ false
+reply-answers : (op : Operator) (c : Call) (ts : Tuples) → isRefusal (reply op c ts) ≡ false
 unfolding reply
 reply-answers (create o) c ts = refl
 reply-answers (bind o) c ts = refl
@@ -134,27 +134,23 @@ reply-answers (destroy r) c ts = refl
 reply-answers (list l) c ts = refl
 
 -- a refusal is answered exactly when the call is stopped by that condition
-pub refused-exactly : (C : ℕ) (ts : State) (c : Call) (room number : ℕ)
+pub refused-exactly : (C : ℕ) (ts : Tuples) (c : Call) (room number : ℕ)
     → (machine C ts c room .answer ≡ refusal number) ↔ (refusalOf C ts c room ≡ some number)
-unfolding machine settle
-refused-exactly C ts c room number = (λ e. go (refusalOf C ts c room) e, λ e. ap (λ (r : Option ℕ). settle r ts c .answer) e)
+unfolding machine outcomeOf
+refused-exactly C ts c room number = (λ e. go (refusalOf C ts c room) e, λ e. ap (λ (r : Option ℕ). outcomeOf r ts c .answer) e)
   where
-    go : (r : Option ℕ) → settle r ts c .answer ≡ refusal number → r ≡ some number
+    go : (r : Option ℕ) → outcomeOf r ts c .answer ≡ refusal number → r ≡ some number
     go (some n) e = cc
     go none e = absurd (true≢false (ap isRefusal (sym e) ∙ reply-answers (operatorOf (c .operator)) c ts))
 
 -- "'full' is answered exactly when no earlier refusal applies and tuples present plus to add exceed C"
-pub full-exactly : (C : ℕ) (ts : State) (r : Request) → (machine C ts (r .call) (r .room) .answer ≡ refusal 10) ↔ Exceeds C ts r
+pub full-exactly : (C : ℕ) (ts : Tuples) (r : Request) → (machine C ts (r .call) (r .room) .answer ≡ refusal 10) ↔ Exceeds C ts r
 unfolding full
 full-exactly C ts r =
     let c = r .call in
     let i = refused-exactly C ts c (r .room) 10 in
     (λ e. let w = ten-wins C ts c (r .room) (i .0 e) in (w .0, ltb-true C _ (w .1)),
     λ h. i .1 (wins-ten C ts c (r .room) (h .0) (lt-ltb C _ (h .1))))
-
-pub full-exactly-all : (C : ℕ) (ts : State) (rs : List Request) → FullExactly C ts rs
-full-exactly-all C ts [] = tt
-full-exactly-all C ts (r ∷ rs) = (full-exactly C ts r, full-exactly-all C (machine C ts (r .call) (r .room) .state) rs)
 
 -- ---- nodes that were collected
 
@@ -164,7 +160,7 @@ and-not-or true false c = refl
 and-not-or false b c = refl
 
 -- each node that was collected is removed as by DUN, whatever was removed before it
-pub present-removeNodes : (k : Key) (s : ℕ) (ps : List Pair) (ts : State)
+pub present-removeNodes : (k : Key) (s : ℕ) (ps : List Pair) (ts : Tuples)
     → present k (removeNodes s ps ts) ≡ (present k ts && not (anyPair (λ (p : Pair). nodeTaken s (nodeOf p) k) ps))
 unfolding removeNodes anyPair
 present-removeNodes k s [] ts = and-true′ (present k ts)
@@ -178,14 +174,14 @@ present-removeNodes k s (p ∷ ps) ts =
     ∙ and-not-or (present k ts) (nodeTaken s (nodeOf p) k) (anyPair (λ (p : Pair). nodeTaken s (nodeOf p) k) ps)
 
 -- "the nodes of such pairs are collected first": what DON, DIN and DAN leave, by the pairs before the call
-pub nodes-collected-first : (k : Key) (d : Direction) (c : Call) (ts : State)
+pub nodes-collected-first : (k : Key) (d : Direction) (c : Call) (ts : Tuples)
     → present k (destroyed (Removal.N d) c ts)
     ≡ (present k ts && not (anyPair (λ (p : Pair). nodeTaken (sOf c) (nodeOf p) k) (nodeNames (pairsOf d (sOf c) (nOf c) ts))))
 unfolding destroyed
 nodes-collected-first k d c ts = present-removeNodes k (sOf c) (nodeNames (pairsOf d (sOf c) (nOf c) ts)) ts
 
 -- what DONG, DING and DANG leave
-pub named-nodes-collected-first : (k : Key) (d : Direction) (c : Call) (ts : State)
+pub named-nodes-collected-first : (k : Key) (d : Direction) (c : Call) (ts : Tuples)
     → present k (destroyed (Removal.NG d) c ts)
     ≡ (present k ts
     && not (anyPair (λ (p : Pair). nodeTaken (sOf c) (nodeOf p) k) (nodeNames (withEdge (gOf c) (pairsOf d (sOf c) (nOf c) ts)))))

@@ -11,7 +11,7 @@ use borrow.Author.Tests.{eqb-true, eqb-false, eq-eqb, ne-eqb}
 use Rattle.model.specs.declared.Pair.{Pair}
 use Rattle.model.specs.Ordered.{thenBy, holds, Above, Ascending}
 use Rattle.model.specs.Keys.{Value, Key, keyOf, spaceKey, nodeKey, edgeKey, compareKeys, sameKey}
-use Rattle.model.specs.Tuples.{State, present, addAll, assign, assignAll, remove}
+use Rattle.model.specs.Tuples.{Tuples, present, addAll, assign, assignAll, remove}
 use Rattle.model.specs.Operators.{Direction, outpointing, inpointing, adjacent}
 use Rattle.model.specs.Pairs.{nodeOf, outPair, inPair, pairsAt, anyPair}
 use Rattle.model.specs.Steps.{reaches, edgesTaken, nodeTaken, removeNodes, spaceTaken}
@@ -42,7 +42,7 @@ never-below-universe k e =
       (later (compare (k .n) 0) _ f))
     (later (compare (k .s) 0) _ e)
 
-pub universe-first : (ts : State) → Ascending keyOf compareKeys ts → Has (spaceKey 0) ts → firstKey ts ≡ some (spaceKey 0)
+pub universe-first : (ts : Tuples) → Ascending keyOf compareKeys ts → Has (spaceKey 0) ts → firstKey ts ≡ some (spaceKey 0)
 unfolding holds
 universe-first [] h e = absurd (false≢true e)
 universe-first (t ∷ ts) h e =
@@ -53,7 +53,7 @@ universe-first (t ∷ ts) h e =
 some-first : {a b : Key} → some a ≡ some b → a ≡ b
 some-first e = cc
 
-pub first-universe : (ts : State) → firstKey ts ≡ some (spaceKey 0) → Has (spaceKey 0) ts
+pub first-universe : (ts : Tuples) → firstKey ts ≡ some (spaceKey 0) → Has (spaceKey 0) ts
 unfolding holds
 first-universe [] e = absurd (never e)
   where
@@ -63,12 +63,12 @@ first-universe (t ∷ ts) e =
     or-left (sameKey (spaceKey 0) (t .key)) (present (spaceKey 0) ts)
     (subst (λ (k : Key). sameKey (spaceKey 0) k ≡ true) (sym (some-first e)) (own-key (spaceKey 0)))
 
-pub has-universe : (ts : State) → TupleRules ts → Has (spaceKey 0) ts
+pub has-universe : (ts : Tuples) → TupleRules ts → Has (spaceKey 0) ts
 has-universe ts R = first-universe ts (R .first)
 
 -- ---- the same keys
 
-supported-in : (ts us : State) (k : Key) → ((j : Key) → Has j ts → Has j us) → Supported ts k → Supported us k
+supported-in : (ts us : Tuples) (k : Key) → ((j : Key) → Has j ts → Has j us) → Supported ts k → Supported us k
 supported-in ts us k more S =
     record {
       node = λ a b. let d = S .node a b in (more (spaceKey (k .s)) (d .0), more (nodeKey 0 (k .n)) (d .1));
@@ -79,7 +79,7 @@ supported-in ts us k more S =
     }
 
 -- the rules look at keys alone
-pub same-keys : (ts us : State) → ((j : Key) → present j us ≡ present j ts) → Ascending keyOf compareKeys us → TupleRules ts → TupleRules us
+pub same-keys : (ts us : Tuples) → ((j : Key) → present j us ≡ present j ts) → Ascending keyOf compareKeys us → TupleRules ts → TupleRules us
 same-keys ts us same h R =
     record {
       ascends = h;
@@ -89,10 +89,10 @@ same-keys ts us same h R =
       nothingMissing = λ k e. supported-in ts us k (λ j f. same j ∙ f) (R .nothingMissing k (sym (same k) ∙ e))
     }
 
-pub assign-rules : (k : Key) (v : Value) (ts : State) → TupleRules ts → TupleRules (assign k v ts)
+pub assign-rules : (k : Key) (v : Value) (ts : Tuples) → TupleRules ts → TupleRules (assign k v ts)
 assign-rules k v ts R = same-keys ts (assign k v ts) (λ j. present-assign j k v ts) (assign-ascending k v ts (R .ascends)) R
 
-pub assignAll-rules : (ks : List Key) (v : Value) (ts : State) → TupleRules ts → TupleRules (assignAll ks v ts)
+pub assignAll-rules : (ks : List Key) (v : Value) (ts : Tuples) → TupleRules ts → TupleRules (assignAll ks v ts)
 unfolding assignAll
 assignAll-rules [] v ts R = R
 assignAll-rules (k ∷ ks) v ts R = assignAll-rules ks v (assign k v ts) (assign-rules k v ts R)
@@ -100,12 +100,12 @@ assignAll-rules (k ∷ ks) v ts R = assignAll-rules ks v (assign k v ts) (assign
 -- ---- more keys
 
 -- a key that may stand among the tuples us
-pub record Fitting (us : State) (k : Key) : Type 0 where
+pub record Fitting (us : Tuples) (k : Key) : Type 0 where
   pub small : Small k
   pub shaped : Shaped k
   pub supported : Supported us k
 
-pub addAll-rules : (ks : List Key) (ts : State) → TupleRules ts → ((k : Key) → among k ks ≡ true → Fitting (addAll ks ts) k) → TupleRules (addAll ks ts)
+pub addAll-rules : (ks : List Key) (ts : Tuples) → TupleRules ts → ((k : Key) → among k ks ≡ true → Fitting (addAll ks ts) k) → TupleRules (addAll ks ts)
 addAll-rules ks ts R new =
     record {
       ascends = h;
@@ -134,7 +134,7 @@ pub record Fair (takes : Key → Bool) : Type 0 where
       × (takes (nodeKey (k .s) (k .m)) ≡ true → takes k ≡ true)
       × (takes (edgeKey 0 (k .n) (k .g) (k .m)) ≡ true → takes k ≡ true)
 
-pub remove-rules : (takes : Key → Bool) (ts : State) → Fair takes → TupleRules ts → TupleRules (remove takes ts)
+pub remove-rules : (takes : Key → Bool) (ts : Tuples) → Fair takes → TupleRules ts → TupleRules (remove takes ts)
 remove-rules takes ts F R =
     record {
       ascends = h;

@@ -15,12 +15,12 @@ use Rattle.model.specs.declared.Space.the-variants.{Universe, Numbered}
 use Rattle.model.specs.declared.Pair.{Pair}
 use Rattle.model.specs.Ordered.{holds}
 use Rattle.model.specs.Keys.{mostName, Key, spaceKey, nodeKey, edgeKey, sameKey}
-use Rattle.model.specs.Tuples.{State, fresh, present, addAll, missing, assign, assignAll, remove}
+use Rattle.model.specs.Tuples.{Tuples, fresh, present, addAll, missing, assign, assignAll, remove}
 use Rattle.model.specs.Operators.{Direction, outpointing, inpointing, adjacent, Object, Removal, Listing, Operator, create, bind, value, exists, destroy, list, table, operatorOf, within, readsOf}
 use Rattle.model.specs.Pairs.{pair, edgeOf, nodeOf, member, pairsOf, nodeNames, only, withEdge}
-use Rattle.model.specs.Steps.{Reply, refusal, spaceNumber, nOf, gOf, mOf, sOf, objectKeys, created, edgesTaken, nodeTaken, removeNodes, spaceTaken, destroyed, toList, toAdd, reply, after}
-use Rattle.model.specs.Refusals.{Stop, first, zeroSpace, isUniverse, noOperator, zeroName, destroysUniverse, spaceAbsent, nodeAbsent, secondAbsent, edgeAbsent, listShort, full, earlier, refusalOf}
-use Rattle.model.specs.Machine.{Outcome, FieldsFit, settle, machine}
+use Rattle.model.specs.Steps.{Reply, refusal, spaceNumber, nOf, gOf, mOf, vOf, sOf, objectKeys, created, edgesTaken, nodeTaken, removeNodes, spaceTaken, destroyed, wouldList, wouldAdd, reply, after}
+use Rattle.model.specs.Refusals.{Stop, first, zeroSpace, isUniverse, noOperator, zeroName, destroysUniverse, spaceAbsent, nodeAbsent, secondAbsent, edgeAbsent, listShort, full, ofCall, ofTuples, earlier, refusalOf}
+use Rattle.model.specs.Machine.{Outcome, FieldsFit, outcomeOf, machine}
 use Rattle.model.specs.Buffer.{everyRecord}
 use Rattle.model.specs.Rules.{Has, Supported, Small, Shaped, TupleRules}
 use Rattle.model.specs.Entries.{Outpointing, Inpointing, IsPair}
@@ -33,7 +33,7 @@ use Rattle.model.proofs.Entries.{Member, samePair, own-pair, pairs-soun
 
 -- ---- a call that is not stopped has passed each condition
 
-pub record Passed (C : ℕ) (ts : State) (c : Call) (room : ℕ) : Type 0 where
+pub record Passed (C : ℕ) (ts : Tuples) (c : Call) (room : ℕ) : Type 0 where
   pub operator : noOperator c ≡ false
   pub names : zeroName c ≡ false
   pub universe : destroysUniverse c ≡ false
@@ -55,8 +55,8 @@ first-passed x xs e = go (x .applies) e
     go true f = absurd (some≢none f)
     go false f = (refl, f)
 
-pub passed : (C : ℕ) (ts : State) (c : Call) (room : ℕ) → refusalOf C ts c room ≡ none → Passed C ts c room
-unfolding refusalOf earlier
+pub passed : (C : ℕ) (ts : Tuples) (c : Call) (room : ℕ) → refusalOf C ts c room ≡ none → Passed C ts c room
+unfolding refusalOf ofCall ofTuples earlier
 passed C ts c room e =
     let p2 = first-passed _ _ e in
     let p3 = first-passed _ _ (p2 .1) in
@@ -162,28 +162,28 @@ s-named c e f r o =
 
 -- ---- what is looked up is there
 
-space-there : (c : Call) (ts : State) → spaceAbsent c ts ≡ false → (readsOf (c .operator) .s) ≡ true → spaceTested (c .operator) ≡ true → Has (spaceKey (sOf c)) ts
+space-there : (c : Call) (ts : Tuples) → spaceAbsent c ts ≡ false → (readsOf (c .operator) .s) ≡ true → spaceTested (c .operator) ≡ true → Has (spaceKey (sOf c)) ts
 unfolding spaceAbsent
 space-there c ts e r t =
     not-no (present (spaceKey (sOf c)) ts)
     (and-no (readsOf (c .operator) .s && spaceTested (c .operator)) (not (present (spaceKey (sOf c)) ts)) e
     (and-both (readsOf (c .operator) .s) (spaceTested (c .operator)) r t))
 
-node-there : (c : Call) (ts : State) → nodeAbsent c ts ≡ false → within 1 44 (c .operator) ≡ true → Has (nodeKey (sOf c) (nOf c)) ts
+node-there : (c : Call) (ts : Tuples) → nodeAbsent c ts ≡ false → within 1 44 (c .operator) ≡ true → Has (nodeKey (sOf c) (nOf c)) ts
 unfolding nodeAbsent
 node-there c ts e w =
     not-no (present (nodeKey (sOf c) (nOf c)) ts)
     (and-no (within 1 44 (c .operator) || within 46 47 (c .operator)) (not (present (nodeKey (sOf c) (nOf c)) ts)) (or-no-left _ _ e)
     (or-left (within 1 44 (c .operator)) (within 46 47 (c .operator)) w))
 
-second-there : (c : Call) (ts : State) → secondAbsent c ts ≡ false → (readsOf (c .operator) .m) ≡ true → Has (nodeKey (sOf c) (mOf c)) ts
+second-there : (c : Call) (ts : Tuples) → secondAbsent c ts ≡ false → (readsOf (c .operator) .m) ≡ true → Has (nodeKey (sOf c) (mOf c)) ts
 unfolding secondAbsent
 second-there c ts e r =
     not-no (present (nodeKey (sOf c) (mOf c)) ts) (and-no (readsOf (c .operator) .m) (not (present (nodeKey (sOf c) (mOf c)) ts)) e r)
 
 -- ---- keys that may be added
 
-edge-fits : (us : State) (x a g b : ℕ) → Small (edgeKey x a g b) → a ≢ 0 → g ≢ 0 → b ≢ 0
+edge-fits : (us : Tuples) (x a g b : ℕ) → Small (edgeKey x a g b) → a ≢ 0 → g ≢ 0 → b ≢ 0
     → Has (nodeKey x a) us → Has (nodeKey x b) us → Has (edgeKey 0 a g b) us → Fitting us (edgeKey x a g b)
 edge-fits us x a g b S ha hg hb from to universe =
     record {
@@ -192,7 +192,7 @@ edge-fits us x a g b S ha hg hb from to universe =
       supported = record { node = λ h z. absurd (hg z); edge = λ h. (from, to, universe) }
     }
 
-node-fits : (us : State) (x n : ℕ) → Small (nodeKey x n) → n ≢ 0 → Has (spaceKey x) us → Has (nodeKey 0 n) us → Fitting us (nodeKey x n)
+node-fits : (us : Tuples) (x n : ℕ) → Small (nodeKey x n) → n ≢ 0 → Has (spaceKey x) us → Has (nodeKey 0 n) us → Fitting us (nodeKey x n)
 node-fits us x n S h space universe =
     record {
       small = S;
@@ -200,7 +200,7 @@ node-fits us x n S h space universe =
       supported = record { node = λ a b. (space, universe); edge = λ a. absurd (a refl) }
     }
 
-space-fits : (us : State) (x : ℕ) → Small (spaceKey x) → Fitting us (spaceKey x)
+space-fits : (us : Tuples) (x : ℕ) → Small (spaceKey x) → Fitting us (spaceKey x)
 space-fits us x S =
     record {
       small = S;
@@ -228,7 +228,7 @@ there k j ks e = or-right (sameKey k j) (among k ks) e
 
 -- ---- creating
 
-module _ (ts : State) (R : TupleRules ts) (c : Call) (F : FieldsFit c) where
+module _ (ts : Tuples) (R : TupleRules ts) (c : Call) (F : FieldsFit c) where
   add-fitting : (ks : List Key) → EveryKey (Fitting (addAll ks ts)) ks → TupleRules (addAll ks ts)
   add-fitting ks h = addAll-rules ks ts R (every-among (Fitting (addAll ks ts)) ks h)
 
@@ -322,7 +322,7 @@ every-member P [] h = tt
 every-member P (p ∷ ps) h = (h p (or-left (samePair p p) (member p ps) (own-pair p)), every-member P ps (λ q e. h q (or-right (samePair q p) (member q ps) e)))
 
 -- the node of a pair is named
-pair-named : (d : Direction) (s n : ℕ) (ts : State) → TupleRules ts → (p : Pair) → IsPair d s n ts p → NodeNamed p
+pair-named : (d : Direction) (s n : ℕ) (ts : Tuples) → TupleRules ts → (p : Pair) → IsPair d s n ts p → NodeNamed p
 pair-named d s n ts R p = go d
   where
     out : Outpointing s n ts p → NodeNamed p
@@ -341,7 +341,7 @@ names-named ps h =
 
 -- ---- every step
 
-pub after-rules : (op : Operator) (C : ℕ) (ts : State) (c : Call) (room : ℕ) → TupleRules ts → FieldsFit c → Passed C ts c room
+pub after-rules : (op : Operator) (C : ℕ) (ts : Tuples) (c : Call) (room : ℕ) → TupleRules ts → FieldsFit c → Passed C ts c room
     → agrees op (c .operator) ≡ true → TupleRules (after op c ts)
 unfolding after destroyed
 after-rules (create (Object.P d)) C ts c room R F P a =
@@ -357,7 +357,7 @@ after-rules (create Object.UN) C ts c room R F P a =
     node-rules ts R c F (n-named c (P .names) (and-left (readsOf (c .operator) .n) _ a))
     (space-there c ts (P .space) (and-left (readsOf (c .operator) .s) _ a₁) (and-right (readsOf (c .operator) .s) _ a₁))
 after-rules (create Object.US) C ts c room R F P a = space-rules ts R c F
-after-rules (bind o) C ts c room R F P a = assignAll-rules (objectKeys o (sOf c) c) (c .v) ts R
+after-rules (bind o) C ts c room R F P a = assignAll-rules (objectKeys o (sOf c) c) (vOf c) ts R
 after-rules (value o) C ts c room R F P a = R
 after-rules (exists o) C ts c room R F P a = R
 after-rules (destroy (Removal.P d)) C ts c room R F P a = remove-rules _ ts (edges-fair d (sOf c) (nOf c) _) R
@@ -380,18 +380,18 @@ after-rules (list l) C ts c room R F P a = R
 
 -- ---- how many tuples there are
 
-length-assignAll : (ks : List Key) (v : ℕ) (ts : State) → length (assignAll ks v ts) ≡ length ts
+length-assignAll : (ks : List Key) (v : ℕ) (ts : Tuples) → length (assignAll ks v ts) ≡ length ts
 unfolding assignAll
 length-assignAll [] v ts = refl
 length-assignAll (k ∷ ks) v ts = length-assignAll ks v (assign k v ts) ∙ length-assign k v ts
 
-length-removeNodes : (s : ℕ) (ps : List Pair) (ts : State) → length (removeNodes s ps ts) ≤ length ts
+length-removeNodes : (s : ℕ) (ps : List Pair) (ts : Tuples) → length (removeNodes s ps ts) ≤ length ts
 unfolding removeNodes
 length-removeNodes s [] ts = omega arith
 length-removeNodes s (p ∷ ps) ts =
     omega (arith, length-removeNodes s ps (remove (nodeTaken s (nodeOf p)) ts), length-remove (nodeTaken s (nodeOf p)) ts)
 
-length-destroyed : (r : Removal) (c : Call) (ts : State) → length (destroyed r c ts) ≤ length ts
+length-destroyed : (r : Removal) (c : Call) (ts : Tuples) → length (destroyed r c ts) ≤ length ts
 unfolding destroyed
 length-destroyed (Removal.P d) c ts = length-remove _ ts
 length-destroyed (Removal.G d) c ts = length-remove _ ts
@@ -402,12 +402,12 @@ length-destroyed (Removal.NG d) c ts = length-removeNodes _ _ ts
 length-destroyed Removal.UN c ts = length-remove _ ts
 length-destroyed Removal.US c ts = length-remove _ ts
 
-after-length : (op : Operator) (C : ℕ) (ts : State) (c : Call) → TupleRules ts → length ts ≤ C
-    → ltb C (length ts + length (missing (toAdd op c) ts)) ≡ false → length (after op c ts) ≤ C
-unfolding after toAdd
+after-length : (op : Operator) (C : ℕ) (ts : Tuples) (c : Call) → TupleRules ts → length ts ≤ C
+    → ltb C (length ts + length (missing (wouldAdd op c) ts)) ≡ false → length (after op c ts) ≤ C
+unfolding after wouldAdd
 after-length (create o) C ts c R h e =
     omega (arith, length-addAll (created o c) ts (R .ascends), ltb-false C (length ts + length (missing (created o c) ts)) e)
-after-length (bind o) C ts c R h e = omega (arith, length-assignAll (objectKeys o (sOf c) c) (c .v) ts)
+after-length (bind o) C ts c R h e = omega (arith, length-assignAll (objectKeys o (sOf c) c) (vOf c) ts)
 after-length (value o) C ts c R h e = h
 after-length (exists o) C ts c R h e = h
 after-length (destroy r) C ts c R h e = omega (arith, length-destroyed r c ts)
@@ -416,16 +416,16 @@ after-length (list l) C ts c R h e = h
 -- ---- the theorem
 
 -- a good state of a store of C records
-pub record Good (C : ℕ) (ts : State) : Type 0 where
+pub record Good (C : ℕ) (ts : Tuples) : Type 0 where
   pub rules : TupleRules ts
   pub fits : length ts ≤ C
 
 -- every step keeps the state good
-pub machine-good : (C : ℕ) (ts : State) (c : Call) (room : ℕ) → FieldsFit c → Good C ts → Good C (machine C ts c room .state)
-unfolding machine settle full
+pub machine-good : (C : ℕ) (ts : Tuples) (c : Call) (room : ℕ) → FieldsFit c → Good C ts → Good C (machine C ts c room .state)
+unfolding machine outcomeOf full
 machine-good C ts c room F G = go (refusalOf C ts c room) refl
   where
-    go : (r : Option ℕ) → refusalOf C ts c room ≡ r → Good C (settle r ts c .state)
+    go : (r : Option ℕ) → refusalOf C ts c room ≡ r → Good C (outcomeOf r ts c .state)
     go (some number) e = G
     go none e =
         let P = passed C ts c room e in

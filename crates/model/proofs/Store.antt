@@ -11,8 +11,8 @@ use lib.ListN.{length}
 use borrow.Author.Tests.{eqb-true, eqb-false, eq-eqb, ne-eqb, leb-true, le-leb}
 use Rattle.model.specs.Ordered.{holds, ascendsFrom, Above, Ascending}
 use Rattle.model.specs.Keys.{mostName, Key, Tuple, keyOf, spaceKey, nodeKey, edgeKey, isNode, isEdge, compareKeys, sameKey}
-use Rattle.model.specs.Tuples.{State, present}
-use Rattle.model.specs.Buffer.{word, leastLength, mostLength, capacityOf, next, tupleAt, walk, ends, orNothing, usedChain, freeChain, usedOf, freeOf, tuplesOf, count, everyRecord, ascendsFromUniverse, smallKey, nodeNamed, bothEnds, nodeSupported, edgeSupported, everyKey, sound, isStore}
+use Rattle.model.specs.Tuples.{Tuples, present}
+use Rattle.model.specs.Buffer.{word, leastLength, mostLength, fitsLength, capacityOf, next, tupleAt, walk, ends, orNothing, usedChain, freeChain, usedOf, freeOf, tuplesOf, count, everyRecord, ascendsFromUniverse, smallKey, noEdgeWithoutNode, edgeHasEnd, nodeSupported, edgeSupported, everyKey, sound, isStore}
 use Rattle.model.specs.Rules.{Has, Supported, Small, Shaped, firstKey, TupleRules, Chain, StoreRules, IsStore}
 use Rattle.model.proofs.Bools.{or-cases, or-left, or-right, and-left, and-right, and-both, not-yes, no-not, clash}
 use Rattle.model.proofs.Order.{keys}
@@ -23,7 +23,7 @@ use Rattle.model.proofs.Chains.{walk-chain, chain-walk, chain-within, o
 
 -- ---- tests over all keys and all records
 
-every-key : (p : Key → Bool) (ts : State) → everyKey p ts ≡ true → (k : Key) → Has k ts → p k ≡ true
+every-key : (p : Key → Bool) (ts : Tuples) → everyKey p ts ≡ true → (k : Key) → Has k ts → p k ≡ true
 unfolding everyKey holds
 every-key p [] e k h = absurd (false≢true h)
 every-key p (t ∷ ts) e k h =
@@ -31,7 +31,7 @@ every-key p (t ∷ ts) e k h =
     (λ f. every-key p ts (and-right (p (t .key)) (everyKey p ts) e) k f)
     (or-cases (sameKey k (t .key)) (present k ts) h)
 
-key-every : (p : Key → Bool) (ts : State) → ((k : Key) → Has k ts → p k ≡ true) → everyKey p ts ≡ true
+key-every : (p : Key → Bool) (ts : Tuples) → ((k : Key) → Has k ts → p k ≡ true) → everyKey p ts ≡ true
 unfolding everyKey holds
 key-every p [] h = refl
 key-every p (t ∷ ts) h =
@@ -65,8 +65,8 @@ yes-small k S =
     (and-both (leb (k .n) mostName) _ (le-leb (k .n) mostName (S .n))
     (and-both (leb (k .g) mostName) _ (le-leb (k .g) mostName (S .g)) (le-leb (k .m) mostName (S .m))))
 
-shaped-yes : (k : Key) → nodeNamed k ≡ true → bothEnds k ≡ true → Shaped k
-unfolding nodeNamed bothEnds
+shaped-yes : (k : Key) → noEdgeWithoutNode k ≡ true → edgeHasEnd k ≡ true → Shaped k
+unfolding noEdgeWithoutNode edgeHasEnd
 shaped-yes k e f = record { named = named; ends = ends′ (eqb (k .g) 0) refl f }
   where
     named : k .n ≡ 0 → (k .g ≡ 0) × (k .m ≡ 0)
@@ -78,8 +78,8 @@ shaped-yes k e f = record { named = named; ends = ends′ (eqb (k .g) 0) refl f 
     ends′ true a h = (λ z. eqb-true (k .m) 0 h, λ z. eqb-true (k .g) 0 a)
     ends′ false a h = (λ z. absurd (eqb-false (k .g) 0 a z), λ z. absurd (eqb-false (k .m) 0 (not-yes (eqb (k .m) 0) h) z))
 
-yes-named : (k : Key) → Shaped k → nodeNamed k ≡ true
-unfolding nodeNamed
+yes-named : (k : Key) → Shaped k → noEdgeWithoutNode k ≡ true
+unfolding noEdgeWithoutNode
 yes-named k S = go (eqb (k .n) 0) refl
   where
     go : (b : Bool) → eqb (k .n) 0 ≡ b → (not b || (eqb (k .g) 0 && eqb (k .m) 0)) ≡ true
@@ -88,8 +88,8 @@ yes-named k S = go (eqb (k .n) 0) refl
         and-both (eqb (k .g) 0) (eqb (k .m) 0) (eq-eqb (k .g) 0 (z .0)) (eq-eqb (k .m) 0 (z .1))
     go false e = refl
 
-yes-ends : (k : Key) → Shaped k → bothEnds k ≡ true
-unfolding bothEnds
+yes-ends : (k : Key) → Shaped k → edgeHasEnd k ≡ true
+unfolding edgeHasEnd
 yes-ends k S = go (eqb (k .g) 0) refl
   where
     go : (b : Bool) → eqb (k .g) 0 ≡ b → cond b (eqb (k .m) 0) (not (eqb (k .m) 0)) ≡ true
@@ -111,7 +111,7 @@ yes-then : (a b : Bool) → (a ≡ true → b ≡ true) → (not a || b) ≡ tru
 yes-then true b h = h refl
 yes-then false b h = refl
 
-supported-yes : (ts : State) (k : Key) → nodeSupported ts k ≡ true → edgeSupported ts k ≡ true → Supported ts k
+supported-yes : (ts : Tuples) (k : Key) → nodeSupported ts k ≡ true → edgeSupported ts k ≡ true → Supported ts k
 unfolding nodeSupported edgeSupported
 supported-yes ts k e f =
     record {
@@ -128,7 +128,7 @@ supported-yes ts k e f =
             and-right (present (nodeKey (k .s) (k .m)) ts) _ h₁)
     }
 
-yes-node : (ts : State) (k : Key) → Supported ts k → nodeSupported ts k ≡ true
+yes-node : (ts : Tuples) (k : Key) → Supported ts k → nodeSupported ts k ≡ true
 unfolding nodeSupported
 yes-node ts k S =
     yes-then (isNode k) _
@@ -138,7 +138,7 @@ yes-node ts k S =
             (eqb-true (k .g) 0 (and-right (not (eqb (k .n) 0)) (eqb (k .g) 0) e)) in
       and-both (present (spaceKey (k .s)) ts) _ (d .0) (d .1))
 
-yes-edge : (ts : State) (k : Key) → Supported ts k → edgeSupported ts k ≡ true
+yes-edge : (ts : Tuples) (k : Key) → Supported ts k → edgeSupported ts k ≡ true
 unfolding edgeSupported
 yes-edge ts k S =
     yes-then (isEdge k) _
@@ -148,14 +148,14 @@ yes-edge ts k S =
 
 -- ---- the rules on the tuples
 
-from-universe-yes : (ts : State) → ascendsFromUniverse ts ≡ true → Ascending keyOf compareKeys ts × (firstKey ts ≡ some (spaceKey 0))
+from-universe-yes : (ts : Tuples) → ascendsFromUniverse ts ≡ true → Ascending keyOf compareKeys ts × (firstKey ts ≡ some (spaceKey 0))
 unfolding ascendsFromUniverse
 from-universe-yes [] e = absurd (false≢true e)
 from-universe-yes (t ∷ ts) e =
     (test-above keyOf compareKeys keys (t .key) ts (and-right (sameKey (t .key) (spaceKey 0)) _ e),
     ap some (same-key (t .key) (spaceKey 0) (and-left (sameKey (t .key) (spaceKey 0)) _ e)))
 
-yes-from-universe : (ts : State) → Ascending keyOf compareKeys ts → firstKey ts ≡ some (spaceKey 0) → ascendsFromUniverse ts ≡ true
+yes-from-universe : (ts : Tuples) → Ascending keyOf compareKeys ts → firstKey ts ≡ some (spaceKey 0) → ascendsFromUniverse ts ≡ true
 unfolding ascendsFromUniverse
 yes-from-universe [] h e = absurd (never e)
   where
@@ -168,14 +168,14 @@ yes-from-universe (t ∷ ts) h e =
     injective : {a b : Key} → some a ≡ some b → a ≡ b
     injective e = cc
 
-pub sound-exactly : (ts : State) → (sound ts ≡ true) ↔ TupleRules ts
+pub sound-exactly : (ts : Tuples) → (sound ts ≡ true) ↔ TupleRules ts
 unfolding sound
 sound-exactly ts =
     (λ e.
       let e₁ = and-right (ascendsFromUniverse ts) _ e in
       let e₂ = and-right (everyKey smallKey ts) _ e₁ in
-      let e₃ = and-right (everyKey nodeNamed ts) _ e₂ in
-      let e₄ = and-right (everyKey bothEnds ts) _ e₃ in
+      let e₃ = and-right (everyKey noEdgeWithoutNode ts) _ e₂ in
+      let e₄ = and-right (everyKey edgeHasEnd ts) _ e₃ in
       let u = from-universe-yes ts (and-left (ascendsFromUniverse ts) _ e) in
       record {
         ascends = u .0;
@@ -183,8 +183,8 @@ sound-exactly ts =
         small = λ k h. small-yes k (every-key smallKey ts (and-left (everyKey smallKey ts) _ e₁) k h);
         shaped =
             λ k h.
-              shaped-yes k (every-key nodeNamed ts (and-left (everyKey nodeNamed ts) _ e₂) k h)
-              (every-key bothEnds ts (and-left (everyKey bothEnds ts) _ e₃) k h);
+              shaped-yes k (every-key noEdgeWithoutNode ts (and-left (everyKey noEdgeWithoutNode ts) _ e₂) k h)
+              (every-key edgeHasEnd ts (and-left (everyKey edgeHasEnd ts) _ e₃) k h);
         nothingMissing =
             λ k h.
               supported-yes ts k (every-key (nodeSupported ts) ts (and-left (everyKey (nodeSupported ts) ts) _ e₄) k h)
@@ -193,8 +193,8 @@ sound-exactly ts =
     λ R.
       and-both (ascendsFromUniverse ts) _ (yes-from-universe ts (R .ascends) (R .first))
       (and-both (everyKey smallKey ts) _ (key-every smallKey ts (λ k h. yes-small k (R .small k h)))
-      (and-both (everyKey nodeNamed ts) _ (key-every nodeNamed ts (λ k h. yes-named k (R .shaped k h)))
-      (and-both (everyKey bothEnds ts) _ (key-every bothEnds ts (λ k h. yes-ends k (R .shaped k h)))
+      (and-both (everyKey noEdgeWithoutNode ts) _ (key-every noEdgeWithoutNode ts (λ k h. yes-named k (R .shaped k h)))
+      (and-both (everyKey edgeHasEnd ts) _ (key-every edgeHasEnd ts (λ k h. yes-ends k (R .shaped k h)))
       (and-both (everyKey (nodeSupported ts) ts) _ (key-every (nodeSupported ts) ts (λ k h. yes-node ts k (R .nothingMissing k h)))
       (key-every (edgeSupported ts) ts (λ k h. yes-edge ts k (R .nothingMissing k h))))))))
 
@@ -205,13 +205,26 @@ unfolding ends orNothing
 ends-some none e = absurd (false≢true e)
 ends-some (some is) e = refl
 
+pub fits-least : (b : List ℕ) → fitsLength b ≡ true → leastLength ≤ length b
+unfolding fitsLength
+fits-least b e = leb-true leastLength (length b) (and-left (leb leastLength (length b)) (leb (length b) mostLength) e)
+
+pub fits-most : (b : List ℕ) → fitsLength b ≡ true → length b ≤ mostLength
+unfolding fitsLength
+fits-most b e = leb-true (length b) mostLength (and-right (leb leastLength (length b)) (leb (length b) mostLength) e)
+
+pub fits-length : (b : List ℕ) → leastLength ≤ length b → length b ≤ mostLength → fitsLength b ≡ true
+unfolding fitsLength
+fits-length b h k =
+    and-both (leb leastLength (length b)) (leb (length b) mostLength) (le-leb leastLength (length b) h) (le-leb (length b) mostLength k)
+
 -- what the test says yes to meets the rules, with the chains that a walk meets
 pub store-rules : (b : List ℕ) → isStore b ≡ true → StoreRules b (usedOf b) (freeOf b)
 unfolding isStore usedOf freeOf usedChain freeChain tuplesOf
 store-rules b e =
     let C : ℕ = capacityOf b in
-    let e₁ = and-right (leb leastLength (length b)) _ e in
-    let e₂ = and-right (leb (length b) mostLength) _ e₁ in
+    let fits = and-left (fitsLength b) _ e in
+    let e₂ = and-right (fitsLength b) _ e in
     let e₃ = and-right (eqb (word b 0) C) _ e₂ in
     let e₄ = and-right (leb (word b 1) C) _ e₃ in
     let e₅ = and-right (leb (word b 2) C) _ e₄ in
@@ -220,8 +233,8 @@ store-rules b e =
     let e₈ = and-right (ends (freeChain b)) _ e₇ in
     let e₉ = and-right (everyRecord (λ (i : ℕ). eqb (count i (usedOf b ++ freeOf b)) 1) C) _ e₈ in
     record {
-      least = leb-true leastLength (length b) (and-left (leb leastLength (length b)) _ e);
-      most = leb-true (length b) mostLength (and-left (leb (length b) mostLength) _ e₁);
+      least = fits-least b fits;
+      most = fits-most b fits;
       capacity = eqb-true (word b 0) C (and-left (eqb (word b 0) C) _ e₂);
       usedHead = leb-true (word b 1) C (and-left (leb (word b 1) C) _ e₃);
       freeHead = leb-true (word b 2) C (and-left (leb (word b 2) C) _ e₄);
@@ -269,8 +282,7 @@ pub rules-store : (b used free : List ℕ) → StoreRules b used free → isStor
 unfolding isStore ends
 rules-store b used free R =
     let C : ℕ = capacityOf b in
-    and-both (leb leastLength (length b)) _ (le-leb leastLength (length b) (R .least))
-    (and-both (leb (length b) mostLength) _ (le-leb (length b) mostLength (R .most))
+    and-both (fitsLength b) _ (fits-length b (R .least) (R .most))
     (and-both (eqb (word b 0) C) _ (eq-eqb (word b 0) C (R .capacity))
     (and-both (leb (word b 1) C) _ (le-leb (word b 1) C (R .usedHead))
     (and-both (leb (word b 2) C) _ (le-leb (word b 2) C (R .freeHead))
@@ -284,7 +296,7 @@ rules-store b used free R =
       (ap₂ (λ (x y : List ℕ). count i (x ++ y)) (rules-used b used free R) (rules-free b used free R) ∙ R .once i h k)))
     (and-both (eqb (word b 3) (length (usedOf b))) _
     (eq-eqb (word b 3) (length (usedOf b)) (R .counted ∙ ap length (sym (rules-used b used free R))))
-    (sound-exactly (tuplesOf b) .1 (subst TupleRules (sym (rules-tuples b used free R)) (R .tuples))))))))))))
+    (sound-exactly (tuplesOf b) .1 (subst TupleRules (sym (rules-tuples b used free R)) (R .tuples)))))))))))
 
 -- "A buffer is accepted as a store exactly when it meets the rules"
 pub store-exactly : (b : List ℕ) → (isStore b ≡ true) ↔ IsStore b

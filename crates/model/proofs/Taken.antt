@@ -8,7 +8,7 @@ use lib.Dec.{eqb}
 use borrow.Author.Tests.{eqb-true, eq-eqb, ne-eqb}
 use Rattle.model.specs.declared.Pair.{Pair}
 use Rattle.model.specs.Keys.{Key, spaceKey, nodeKey, edgeKey}
-use Rattle.model.specs.Tuples.{State, remove}
+use Rattle.model.specs.Tuples.{Tuples, remove}
 use Rattle.model.specs.Operators.{Direction, outpointing, inpointing, adjacent}
 use Rattle.model.specs.Pairs.{nodeOf, outPair, inPair, pairsAt, anyPair}
 use Rattle.model.specs.Steps.{reaches, edgesTaken, nodeTaken, removeNodes, spaceTaken}
@@ -118,7 +118,7 @@ EveryPair P (p ∷ ps) = P p × EveryPair P ps
 abbrev pub NodeNamed : Pair → Type 0
 NodeNamed p = nodeOf p ≢ 0
 
-pub removeNodes-rules : (s : ℕ) (ps : List Pair) (ts : State) → EveryPair NodeNamed ps → TupleRules ts → TupleRules (removeNodes s ps ts)
+pub removeNodes-rules : (s : ℕ) (ps : List Pair) (ts : Tuples) → EveryPair NodeNamed ps → TupleRules ts → TupleRules (removeNodes s ps ts)
 unfolding removeNodes
 removeNodes-rules s [] ts h R = R
 removeNodes-rules s (p ∷ ps) ts h R =

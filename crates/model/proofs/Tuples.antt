@@ -10,7 +10,7 @@ use lib.Dec.{isEq}
 use lib.ListN.{length}
 use Rattle.model.specs.Ordered.{holds, Above, Ascending}
 use Rattle.model.specs.Keys.{Value, NIL, Key, Tuple, keyOf, compareKeys, sameKey}
-use Rattle.model.specs.Tuples.{State, present, add, addAll, missing, assign, assignAll, remove}
+use Rattle.model.specs.Tuples.{Tuples, present, add, addAll, missing, assign, assignAll, remove}
 use Rattle.model.proofs.Bools.{or-cases, or-left, or-right, clash, failed}
 use Rattle.model.proofs.Order.{keys}
 use Rattle.model.proofs.Ordered.{at-element, self, holds-put, above-less, ascending-tail, put-ascending, put-held, put-length}
@@ -29,10 +29,10 @@ among k ks = holds (λ (j : Key). j) compareKeys k ks
 
 -- ---- add
 
-pub present-add : (j k : Key) (ts : State) → present j (add k ts) ≡ (sameKey j k || present j ts)
+pub present-add : (j k : Key) (ts : Tuples) → present j (add k ts) ≡ (sameKey j k || present j ts)
 present-add j k ts = holds-put keyOf compareKeys keys j (record { key = k; value = NIL }) ts
 
-pub add-ascending : (k : Key) (ts : State) → Ascending keyOf compareKeys ts → Ascending keyOf compareKeys (add k ts)
+pub add-ascending : (k : Key) (ts : Tuples) → Ascending keyOf compareKeys ts → Ascending keyOf compareKeys (add k ts)
 add-ascending k ts h = put-ascending keyOf compareKeys keys (record { key = k; value = NIL }) ts h
 
 or-middle : (a b c : Bool) → (a || (b || c)) ≡ ((b || a) || c)
@@ -42,7 +42,7 @@ or-middle false true c = refl
 or-middle false false c = refl
 
 -- exactly the keys that were added are new
-pub present-addAll : (j : Key) (ks : List Key) (ts : State) → present j (addAll ks ts) ≡ (among j ks || present j ts)
+pub present-addAll : (j : Key) (ks : List Key) (ts : Tuples) → present j (addAll ks ts) ≡ (among j ks || present j ts)
 unfolding addAll holds
 present-addAll j [] ts = refl
 present-addAll j (k ∷ ks) ts =
@@ -50,13 +50,13 @@ present-addAll j (k ∷ ks) ts =
     ∙ ap (λ (b : Bool). among j ks || b) (present-add j k ts)
     ∙ or-middle (among j ks) (sameKey j k) (present j ts)
 
-pub addAll-ascending : (ks : List Key) (ts : State) → Ascending keyOf compareKeys ts → Ascending keyOf compareKeys (addAll ks ts)
+pub addAll-ascending : (ks : List Key) (ts : Tuples) → Ascending keyOf compareKeys ts → Ascending keyOf compareKeys (addAll ks ts)
 unfolding addAll
 addAll-ascending [] ts h = h
 addAll-ascending (k ∷ ks) ts h = addAll-ascending ks (add k ts) (add-ascending k ts h)
 
 -- "tuples present + tuples to add"
-pub length-addAll : (ks : List Key) (ts : State) → Ascending keyOf compareKeys ts → length (addAll ks ts) ≡ length ts + length (missing ks ts)
+pub length-addAll : (ks : List Key) (ts : Tuples) → Ascending keyOf compareKeys ts → length (addAll ks ts) ≡ length ts + length (missing ks ts)
 unfolding addAll missing
 length-addAll [] ts h = sym (add-zero (length ts))
 length-addAll (k ∷ ks) ts h = go (present k ts) refl (length-addAll ks ts h) (length-addAll ks (add k ts) (add-ascending k ts h))
@@ -66,13 +66,13 @@ length-addAll (k ∷ ks) ts h = go (present k ts) refl (length-addAll ks ts h) (
     go : (b : Bool) → present k ts ≡ b → length (addAll ks ts) ≡ length ts + length (missing ks ts)
         → length (addAll ks (add k ts)) ≡ length (add k ts) + length (missing ks (add k ts))
         → length (addAll ks (add k ts)) ≡ length ts + length (cond b (missing ks ts) (k ∷ missing ks (add k ts)))
-    go true e here there = ap (λ (us : State). length (addAll ks us)) (put-held keyOf compareKeys keys new ts h e) ∙ here
+    go true e here there = ap (λ (us : Tuples). length (addAll ks us)) (put-held keyOf compareKeys keys new ts h e) ∙ here
     go false e here there =
         let longer : length (add k ts) ≡ suc (length ts) = put-length keyOf compareKeys keys new ts e in
         omega (arith, there, longer)
 
 -- the keys to add are those that are given and missing ..
-pub among-missing : (j : Key) (ks : List Key) (ts : State) → among j (missing ks ts) ≡ (among j ks && not (present j ts))
+pub among-missing : (j : Key) (ks : List Key) (ts : Tuples) → among j (missing ks ts) ≡ (among j ks && not (present j ts))
 unfolding missing holds
 among-missing j [] ts = refl
 among-missing j (k ∷ ks) ts =
@@ -98,7 +98,7 @@ abbrev pub Once : List Key → Type 0
 Once [] = Unit {0}
 Once (k ∷ ks) = (among k ks ≡ false) × Once ks
 
-pub missing-once : (ks : List Key) (ts : State) → Once (missing ks ts)
+pub missing-once : (ks : List Key) (ts : Tuples) → Once (missing ks ts)
 unfolding missing
 missing-once [] ts = tt
 missing-once (k ∷ ks) ts = go (present k ts) (missing-once ks ts) (missing-once ks (add k ts))
@@ -112,7 +112,7 @@ missing-once (k ∷ ks) ts = go (present k ts) (missing-once ks ts) (missing-onc
 
 -- ---- remove
 
-pub present-remove : (j : Key) (takes : Key → Bool) (ts : State) → present j (remove takes ts) ≡ (present j ts && not (takes j))
+pub present-remove : (j : Key) (takes : Key → Bool) (ts : Tuples) → present j (remove takes ts) ≡ (present j ts && not (takes j))
 unfolding remove holds
 present-remove j takes [] = refl
 present-remove j takes (t ∷ ts) = go (takes (t .key)) (sameKey j (t .key)) refl refl (present-remove j takes ts)
@@ -131,7 +131,7 @@ present-remove j takes (t ∷ ts) = go (takes (t .key)) (sameKey j (t .key)) ref
     go false false e f ih =
         ap₂ (λ (a b : Bool). a || b) f ih ∙ ap (λ (a : Bool). (a || present j ts) && not (takes j)) (sym f)
 
-pub remove-above : (k : Key) (takes : Key → Bool) (ts : State) → Above keyOf compareKeys k ts → Above keyOf compareKeys k (remove takes ts)
+pub remove-above : (k : Key) (takes : Key → Bool) (ts : Tuples) → Above keyOf compareKeys k ts → Above keyOf compareKeys k (remove takes ts)
 unfolding remove
 remove-above k takes [] h = tt
 remove-above k takes (t ∷ ts) h =
@@ -142,7 +142,7 @@ remove-above k takes (t ∷ ts) h =
     go true without rest = without
     go false without rest = (h .0, rest)
 
-pub remove-ascending : (takes : Key → Bool) (ts : State) → Ascending keyOf compareKeys ts → Ascending keyOf compareKeys (remove takes ts)
+pub remove-ascending : (takes : Key → Bool) (ts : Tuples) → Ascending keyOf compareKeys ts → Ascending keyOf compareKeys (remove takes ts)
 unfolding remove
 remove-ascending takes [] h = tt
 remove-ascending takes (t ∷ ts) h = go (takes (t .key)) (remove-above (t .key) takes ts h)
@@ -151,7 +151,7 @@ remove-ascending takes (t ∷ ts) h = go (takes (t .key)) (remove-above (t .key)
     go true rest = ascending-tail keyOf compareKeys keys (t .key) (remove takes ts) rest
     go false rest = rest
 
-pub length-remove : (takes : Key → Bool) (ts : State) → length (remove takes ts) ≤ length ts
+pub length-remove : (takes : Key → Bool) (ts : Tuples) → length (remove takes ts) ≤ length ts
 unfolding remove
 length-remove takes [] = omega arith
 length-remove takes (t ∷ ts) = go (takes (t .key)) (length-remove takes ts)
@@ -169,25 +169,25 @@ reassigned-key : (b : Bool) (v : Value) (t : Tuple) → reassigned b v t .key �
 reassigned-key true v t = refl
 reassigned-key false v t = refl
 
-pub present-assign : (j k : Key) (v : Value) (ts : State) → present j (assign k v ts) ≡ present j ts
+pub present-assign : (j k : Key) (v : Value) (ts : Tuples) → present j (assign k v ts) ≡ present j ts
 unfolding assign holds
 present-assign j k v [] = refl
 present-assign j k v (t ∷ ts) = ap₂ (λ (i : Key) (b : Bool). sameKey j i || b) (reassigned-key (sameKey k (t .key)) v t) (present-assign j k v ts)
 
-pub assign-above : (j k : Key) (v : Value) (ts : State) → Above keyOf compareKeys j ts → Above keyOf compareKeys j (assign k v ts)
+pub assign-above : (j k : Key) (v : Value) (ts : Tuples) → Above keyOf compareKeys j ts → Above keyOf compareKeys j (assign k v ts)
 unfolding assign
 assign-above j k v [] h = tt
 assign-above j k v (t ∷ ts) h =
     let e : t .key ≡ reassigned (sameKey k (t .key)) v t .key = sym (reassigned-key (sameKey k (t .key)) v t) in
     (subst (λ (i : Key). compareKeys j i ≡ Ordering·lt) e (h .0), subst (λ (i : Key). Above keyOf compareKeys i (assign k v ts)) e (assign-above (t .key) k v ts (h .1)))
 
-pub assign-ascending : (k : Key) (v : Value) (ts : State) → Ascending keyOf compareKeys ts → Ascending keyOf compareKeys (assign k v ts)
+pub assign-ascending : (k : Key) (v : Value) (ts : Tuples) → Ascending keyOf compareKeys ts → Ascending keyOf compareKeys (assign k v ts)
 unfolding assign
 assign-ascending k v [] h = tt
 assign-ascending k v (t ∷ ts) h =
     subst (λ (i : Key). Above keyOf compareKeys i (assign k v ts)) (sym (reassigned-key (sameKey k (t .key)) v t)) (assign-above (t .key) k v ts h)
 
-pub length-assign : (k : Key) (v : Value) (ts : State) → length (assign k v ts) ≡ length ts
+pub length-assign : (k : Key) (v : Value) (ts : Tuples) → length (assign k v ts) ≡ length ts
 unfolding assign
 length-assign k v [] = refl
 length-assign k v (t ∷ ts) = ap suc (length-assign k v ts)

@@ -1,15 +1,17 @@
 -- Document 01, "The buffer of records": the layout, the rules of a store as a test that computes, and what preparing leaves.
--- A buffer is the list of its words. The rules as statements, and the theorem that the test says yes exactly when they hold, are in proofs/Store.antt.
+-- A buffer is the list of its words. The rules as statements are in Rules.antt; proofs/Store.antt proves that the test says yes exactly when they hold.
 use mathlib.Core.Bool.{Bool, true, false, cond, not, _&&_, _||_}
 use mathlib.Core.List.{List, [], _∷_, _++_, map}
-use mathlib.Core.Option.{Option, none, some}
+use mathlib.Core.Option.{Option, none, some, Option·map}
 use mathlib.Core.Path.{_≡_}
 use Prim.Native.Nat.{ℕ, zero, suc, _+_, _-_, _*_, _/_, _≤_}
 use lib.Dec.{eqb, leb, ltb}
 use lib.ListN.{length, getD, drop}
+use Rattle.model.specs.declared.Preparation.{Preparation}
+use Rattle.model.specs.declared.Preparation.the-variants.{Refused, Capacity}
 use Rattle.model.specs.Ordered.{ascendsFrom}
-use Rattle.model.specs.Keys.{mostName, Key, Tuple, keyOf, spaceKey, nodeKey, edgeKey, isNode, isEdge, compareKeys, sameKey}
-use Rattle.model.specs.Tuples.{State, present}
+use Rattle.model.specs.Keys.{mostName, NIL, Key, Tuple, keyOf, spaceKey, nodeKey, edgeKey, isNode, isEdge, compareKeys, sameKey}
+use Rattle.model.specs.Tuples.{Tuples, present}
 
 -- ---- the layout
 
@@ -30,9 +32,17 @@ leastLength = 10
 abbrev pub mostLength : ℕ
 mostLength = 12297
 
+-- "a buffer of 10 to 12,297 words"
+unfoldable pub fitsLength : List ℕ → Bool
+fitsLength b = leb leastLength (length b) && leb (length b) mostLength
+
 -- "C = (length − 4) / 6 rounded down"
 unfoldable pub capacityOf : List ℕ → ℕ
 capacityOf b = (length b - headWords) / recordWords
+
+-- "Word 0 is C"
+abbrev pub sizeWord : List ℕ → ℕ
+sizeWord b = capacityOf b
 
 -- "Record i, 1 to C, starts at word 4 + 6 × (i − 1): next index, s, n, g, m, value."
 unfoldable pub recordStart : ℕ → ℕ
@@ -54,17 +64,12 @@ pastRecords b = drop (headWords + recordWords * capacityOf b) b
 
 -- ---- chains
 
--- a record before the records that were met after it
-abbrev pub before : ℕ → Option (List ℕ) → Option (List ℕ)
-before i none = none
-before i (some is) = some (i ∷ is)
-
 -- "A next of 0 ends a chain": the records that a chain meets from its start, where it ends within so many records
 unfoldable pub walk : (ℕ → ℕ) → ℕ → ℕ → Option (List ℕ)
 walk link zero zero = some []
 walk link zero (suc i) = none
 walk link (suc most) zero = some []
-walk link (suc most) (suc i) = before (suc i) (walk link most (link (suc i)))
+walk link (suc most) (suc i) = Option·map (λ (is : List ℕ). suc i ∷ is) (walk link most (link (suc i)))
 
 unfoldable pub ends : Option (List ℕ) → Bool
 ends none = false
@@ -88,7 +93,7 @@ unfoldable pub freeOf : List ℕ → List ℕ
 freeOf b = orNothing (freeChain b)
 
 -- "A used record holds the tuple that its key and value give": the tuples that a store holds, in chain order
-unfoldable pub tuplesOf : List ℕ → State
+unfoldable pub tuplesOf : List ℕ → Tuples
 tuplesOf b = map (tupleAt b) (usedOf b)
 
 abbrev pub oneIf : Bool → ℕ
@@ -108,7 +113,7 @@ everyRecord p (suc i) = p (suc i) && everyRecord p i
 -- ---- the rules on the tuples of a store
 
 -- "used keys strictly ascend, s first; the first is (0,0,0,0)"
-unfoldable pub ascendsFromUniverse : State → Bool
+unfoldable pub ascendsFromUniverse : Tuples → Bool
 ascendsFromUniverse [] = false
 ascendsFromUniverse (t ∷ ts) = sameKey (t .key) (spaceKey 0) && ascendsFrom keyOf compareKeys (t .key) ts
 
@@ -117,33 +122,33 @@ unfoldable pub smallKey : Key → Bool
 smallKey k = leb (k .s) mostName && (leb (k .n) mostName && (leb (k .g) mostName && leb (k .m) mostName))
 
 -- "n = 0 makes g and m 0"
-unfoldable pub nodeNamed : Key → Bool
-nodeNamed k = not (eqb (k .n) 0) || (eqb (k .g) 0 && eqb (k .m) 0)
+unfoldable pub noEdgeWithoutNode : Key → Bool
+noEdgeWithoutNode k = not (eqb (k .n) 0) || (eqb (k .g) 0 && eqb (k .m) 0)
 
 -- "g is 0 exactly when m is"
-unfoldable pub bothEnds : Key → Bool
-bothEnds k = cond (eqb (k .g) 0) (eqb (k .m) 0) (not (eqb (k .m) 0))
+unfoldable pub edgeHasEnd : Key → Bool
+edgeHasEnd k = cond (eqb (k .g) 0) (eqb (k .m) 0) (not (eqb (k .m) 0))
 
 -- "each node tuple has its space and its tuple in 0"
-unfoldable pub nodeSupported : State → Key → Bool
+unfoldable pub nodeSupported : Tuples → Key → Bool
 nodeSupported ts k = not (isNode k) || (present (spaceKey (k .s)) ts && present (nodeKey 0 (k .n)) ts)
 
 -- "each edge tuple has its two node tuples in s and its tuple in 0"
-unfoldable pub edgeSupported : State → Key → Bool
+unfoldable pub edgeSupported : Tuples → Key → Bool
 edgeSupported ts k =
     not (isEdge k)
     || (present (nodeKey (k .s) (k .n)) ts && (present (nodeKey (k .s) (k .m)) ts && present (edgeKey 0 (k .n) (k .g) (k .m)) ts))
 
-unfoldable pub everyKey : (Key → Bool) → State → Bool
+unfoldable pub everyKey : (Key → Bool) → Tuples → Bool
 everyKey p [] = true
 everyKey p (t ∷ ts) = p (t .key) && everyKey p ts
 
 -- the rules on the tuples together
-unfoldable pub sound : State → Bool
+unfoldable pub sound : Tuples → Bool
 sound ts =
     ascendsFromUniverse ts
     && (everyKey smallKey ts
-    && (everyKey nodeNamed ts && (everyKey bothEnds ts && (everyKey (nodeSupported ts) ts && everyKey (edgeSupported ts) ts))))
+    && (everyKey noEdgeWithoutNode ts && (everyKey edgeHasEnd ts && (everyKey (nodeSupported ts) ts && everyKey (edgeSupported ts) ts))))
 
 -- ---- a store
 
@@ -151,16 +156,15 @@ sound ts =
 -- the two chains together meet each record exactly once; word 3 is right; .." and the rules on the tuples
 unfoldable pub isStore : List ℕ → Bool
 isStore b =
-    leb leastLength (length b)
-    && (leb (length b) mostLength
-    && (eqb (word b 0) (capacityOf b)
+    fitsLength b
+    && (eqb (word b 0) (sizeWord b)
     && (leb (word b 1) (capacityOf b)
     && (leb (word b 2) (capacityOf b)
     && (everyRecord (λ (i : ℕ). leb (next b i) (capacityOf b)) (capacityOf b)
     && (ends (usedChain b)
     && (ends (freeChain b)
     && (everyRecord (λ (i : ℕ). eqb (count i (usedOf b ++ freeOf b)) 1) (capacityOf b)
-    && (eqb (word b 3) (length (usedOf b)) && sound (tuplesOf b))))))))))
+    && (eqb (word b 3) (length (usedOf b)) && sound (tuplesOf b)))))))))
 
 -- ---- preparing
 
@@ -171,14 +175,18 @@ follower C i = cond (ltb i C) (suc i) 0
 -- "Preparing uses record 1 for UNIVERSE, chains 2 to C as free in ascending order": what it leaves of a buffer of 10 to 12,297 words.
 -- Left to the builder: the words of free records besides next.
 pub record Prepared (before after : List ℕ) : Type 0 where
-  pub least : leastLength ≤ length before
-  pub most : length before ≤ mostLength
+  pub fits : fitsLength before ≡ true
   pub size : length after ≡ length before
-  pub capacity : word after 0 ≡ capacityOf before
+  pub capacity : word after 0 ≡ sizeWord before
   pub usedHead : word after 1 ≡ 1
   pub freeHead : word after 2 ≡ follower (capacityOf before) 1
   pub used : word after 3 ≡ 1
   pub universeLast : next after 1 ≡ 0
-  pub universe : tupleAt after 1 ≡ record { key = spaceKey 0; value = 0 }
+  pub universe : tupleAt after 1 ≡ record { key = spaceKey 0; value = NIL }
   pub free : (i : ℕ) → 2 ≤ i → i ≤ capacityOf before → next after i ≡ follower (capacityOf before) i
   pub past : pastRecords after ≡ pastRecords before
+
+-- all that preparing does, on any buffer: condition 1, "a length outside 10 to 12,297 words", changes nothing; else it "returns C"
+pub record Preparing (b : List ℕ) (a : Preparation) (b′ : List ℕ) : Type 0 where
+  pub outside : fitsLength b ≡ false → (a ≡ Refused 1) × (b′ ≡ b)
+  pub inside : fitsLength b ≡ true → (a ≡ Capacity (capacityOf b)) × Prepared b b′

@@ -10,4 +10,5 @@ pub mod Buffer
 pub mod Rules
 pub mod Entries
 pub mod OneCall
-pub mod Lists
+pub mod CallLists
+pub mod Cases

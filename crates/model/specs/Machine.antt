@@ -3,11 +3,15 @@ use mathlib.Core.List.{List, [], _∷_}
 use mathlib.Core.Option.{Option, none, some}
 use Prim.Native.Nat.{ℕ, _≤_}
 use Rattle.model.specs.declared.Call.{Call}
-use Rattle.model.specs.Tuples.{State}
+use Rattle.model.specs.Tuples.{Tuples}
 use Rattle.model.specs.Operators.{operatorOf}
 use Rattle.model.specs.Keys.{mostName}
 use Rattle.model.specs.Steps.{Reply, refusal, nOf, gOf, mOf, sOf, reply, after}
 use Rattle.model.specs.Refusals.{refusalOf}
+
+-- "Its state is a set of tuples .."
+abbrev pub State : Type 0
+State = Tuples
 
 -- what a call answers, and the state after it
 pub record Outcome : Type 0 where
@@ -15,13 +19,13 @@ pub record Outcome : Type 0 where
   pub state : State
 
 -- "A call that 'Where a call is stopped' stops leaves the state as it is, and its answer is the refusal of that number."
-unfoldable pub settle : Option ℕ → State → Call → Outcome
-settle (some number) ts c = record { answer = refusal number; state = ts }
-settle none ts c = record { answer = reply (operatorOf (c .operator)) c ts; state = after (operatorOf (c .operator)) c ts }
+unfoldable pub outcomeOf : Option ℕ → State → Call → Outcome
+outcomeOf (some number) ts c = record { answer = refusal number; state = ts }
+outcomeOf none ts c = record { answer = reply (operatorOf (c .operator)) c ts; state = after (operatorOf (c .operator)) c ts }
 
 -- "Each operator is one step. It is fed only the calls: operator, fields and the length of the call's answer list."
 unfoldable pub machine : ℕ → State → Call → ℕ → Outcome
-machine C ts c room = settle (refusalOf C ts c room) ts c
+machine C ts c room = outcomeOf (refusalOf C ts c room) ts c
 
 -- "every name a field of 16 bits"
 pub record FieldsFit (c : Call) : Type 0 where
@@ -35,7 +39,7 @@ pub record Request : Type 0 where
   pub call : Call
   pub room : ℕ
 
--- "the list of answers": the machine's answers to a list of calls ..
+-- the machine's answers to a list of calls ..
 unfoldable pub answers : ℕ → State → List Request → List Reply
 answers C ts [] = []
 answers C ts (r ∷ rs) = machine C ts (r .call) (r .room) .answer ∷ answers C (machine C ts (r .call) (r .room) .state) rs

@@ -24,30 +24,34 @@ answerOf (refusal number) = Refusal number
 answerOf (name x) = Name x
 answerOf (valued v) = Value v
 answerOf (yesNo b) = YesNo b
-answerOf (pairs ps) = Listed (length ps)
+answerOf (pairs k ps) = Listed k
+
+-- how many names a half of a word can hold
+abbrev pub nameCount : ℕ
+nameCount = 65536
 
 -- a pair in one word of the answer list
 unfoldable pub pack : Pair → ℕ
-pack p = edgeOf p * 65536 + nodeOf p
+pack p = edgeOf p * nameCount + nodeOf p
 
 unfoldable pub unpack : ℕ → Pair
-unpack w = pair (w / 65536) (w % 65536)
+unpack w = pair (w / nameCount) (w % nameCount)
 
 -- "in its first k places; the rest stays": the answer list afterwards
-unfoldable pub writtenList : Reply → List ℕ → List ℕ
-writtenList (refusal number) l = l
-writtenList (name x) l = l
-writtenList (valued v) l = l
-writtenList (yesNo b) l = l
-writtenList (pairs ps) l = map pack ps ++ drop (length ps) l
+unfoldable pub listAfter : Reply → List ℕ → List ℕ
+listAfter (refusal number) l = l
+listAfter (name x) l = l
+listAfter (valued v) l = l
+listAfter (yesNo b) l = l
+listAfter (pairs k ps) l = map pack ps ++ drop k l
 
--- what a caller is told by an answer and the list that was lent to the call
-unfoldable pub told : Answer → List ℕ → Reply
-told (Refusal number) l = refusal number
-told (Name x) l = name x
-told (Value v) l = valued v
-told (YesNo b) l = yesNo b
-told (Listed k) l = pairs (map unpack (take k l))
+-- what a caller is observed by an answer and the list that was lent to the call
+unfoldable pub observed : Answer → List ℕ → Reply
+observed (Refusal number) l = refusal number
+observed (Name x) l = name x
+observed (Value v) l = valued v
+observed (YesNo b) l = yesNo b
+observed (Listed k) l = pairs k (map unpack (take k l))
 
 -- ---- one call
 
@@ -67,10 +71,10 @@ pub record OnNoStore (b l : List ℕ) (a : Answer) (b′ l′ : List ℕ) : Type
   pub list : l′ ≡ l
 
 -- on a store: the machine's answer, and a store of the same length with the machine's tuples.
--- Left to the builder: which record holds a tuple, and the words of free records besides next.
+-- Left to the builder: which record holds a tuple, and with it the order of the free chain; the words of free records besides next.
 pub record OnStore (b l : List ℕ) (c : Call) (a : Answer) (b′ l′ : List ℕ) : Type 0 where
   pub answer : a ≡ answerOf (machine (capacityOf b) (tuplesOf b) c (length l) .answer)
-  pub list : l′ ≡ writtenList (machine (capacityOf b) (tuplesOf b) c (length l) .answer) l
+  pub list : l′ ≡ listAfter (machine (capacityOf b) (tuplesOf b) c (length l) .answer) l
   pub store : isStore b′ ≡ true
   pub tuples : tuplesOf b′ ≡ machine (capacityOf b) (tuplesOf b) c (length l) .state
   pub size : length b′ ≡ length b

@@ -3,7 +3,7 @@
 use mathlib.Core.Bool.{Bool, true, false, cond, _&&_, _||_}
 use mathlib.Core.List.{List, [], _∷_, _++_}
 use Prim.Native.Nat.{ℕ, _-_}
-use lib.Dec.{leb}
+use lib.Dec.{leb, eqb}
 use lib.ListN.{getD}
 use Rattle.model.specs.declared.Reads.{Reads}
 
@@ -78,7 +78,7 @@ table =
     ++ (create Object.US ∷ bind Object.US ∷ value Object.US ∷ exists Object.US ∷ destroy Removal.US ∷ [])
     ++ (list Listing.US ∷ list Listing.USn ∷ [])
 
--- the operator of a number from 1 to 57; of any other number nothing is asked, since condition 2 stops its call
+-- the operator of a number from 1 to 57; condition 2 stops the call of any other, and what stands here for it has no effect
 unfoldable pub operatorOf : ℕ → Operator
 operatorOf number = getD table (number - 1) (list Listing.US)
 
@@ -98,9 +98,9 @@ readsOf o =
     (cond (within 15 17 o || within 24 26 o || within 30 35 o || within 39 41 o) (fields true false false false true)
     (cond (within 18 20 o || within 27 29 o || within 42 44 o) (fields true true false false true)
     (cond (within 21 23 o || within 36 38 o) (fields true false true false true)
-    (cond (within 45 45 o || within 47 49 o) (fields true false false false true)
-    (cond (within 46 46 o) (fields true false false true true)
+    (cond (eqb o 45 || within 47 49 o) (fields true false false false true)
+    (cond (eqb o 46) (fields true false false true true)
     (cond (within 50 51 o || within 53 55 o) (fields false false false false true)
-    (cond (within 52 52 o) (fields false false false true true)
-    (cond (within 57 57 o) (fields true false false false false)
+    (cond (eqb o 52) (fields false false false true true)
+    (cond (eqb o 57) (fields true false false false false)
     (fields false false false false false))))))))))

@@ -1,4 +1,4 @@
--- Sets as lists whose keys strictly ascend: the machine's state, and the lists that S operators answer ("sets ascend").
+-- Sets as lists whose keys strictly ascend: the machine's state, and the lists that S operators answer.
 -- `key` gives an element's key, `order` compares two keys.
 use mathlib.Core.Bool.{Bool, true, false, _&&_, _||_}
 use mathlib.Core.List.{List, [], _∷_}

@@ -6,7 +6,7 @@ use lib.Dec.{eqb}
 use Rattle.model.specs.declared.Pair.{Pair}
 use Rattle.model.specs.Ordered.{holds, put, thenBy}
 use Rattle.model.specs.Keys.{Key, isNode, isEdge, edgeKey}
-use Rattle.model.specs.Tuples.{State}
+use Rattle.model.specs.Tuples.{Tuples}
 use Rattle.model.specs.Operators.{Direction, outpointing, inpointing, adjacent}
 
 -- "pairs (edge, node)"
@@ -36,7 +36,7 @@ ascending [] = []
 ascending (p ∷ ps) = put itself comparePairs p (ascending ps)
 
 -- what each tuple's key gives, one after the other
-unfoldable pub gather : (Key → List Pair) → State → List Pair
+unfoldable pub gather : (Key → List Pair) → Tuples → List Pair
 gather f [] = []
 gather f (t ∷ ts) = f (t .key) ++ gather f ts
 
@@ -58,7 +58,7 @@ pairsAt inpointing n k = inPair n k
 pairsAt adjacent n k = outPair n k ++ inPair n k
 
 -- "Pairs of n in s"
-unfoldable pub pairsOf : Direction → ℕ → ℕ → State → List Pair
+unfoldable pub pairsOf : Direction → ℕ → ℕ → Tuples → List Pair
 pairsOf d s n ts = ascending (gather (λ (k : Key). cond (eqb (k .s) s) (pairsAt d n k) []) ts)
 
 -- "an edge name [fills] the edge place with node 0"
@@ -81,16 +81,20 @@ abbrev pub withNode : ℕ → List Pair → List Pair
 withNode m = only (λ (p : Pair). eqb (nodeOf p) m)
 
 -- "list the nodes of s"
-unfoldable pub nodesIn : ℕ → State → List Pair
+unfoldable pub nodesIn : ℕ → Tuples → List Pair
 nodesIn s ts = ascending (gather (λ (k : Key). onlyIf (isNode k && eqb (k .s) s) (pair 0 (k .n))) ts)
 
--- "all spaces", UNIVERSE among them (docs/DECISIONS.md: SUS lists UNIVERSE)
-unfoldable pub spacesIn : State → List Pair
-spacesIn ts = ascending (gather (λ (k : Key). onlyIf (eqb (k .n) 0) (pair 0 (k .s))) ts)
+-- a space as a list has it: UNIVERSE too, as 0:0 (docs/DECISIONS.md: SUS lists UNIVERSE)
+abbrev pub spaceEntry : ℕ → List Pair
+spaceEntry s = pair 0 s ∷ []
 
--- "the spaces that hold n", UNIVERSE among them
-unfoldable pub spacesWith : ℕ → State → List Pair
-spacesWith n ts = ascending (gather (λ (k : Key). onlyIf (isNode k && eqb (k .n) n) (pair 0 (k .s))) ts)
+-- "all spaces"
+unfoldable pub spacesIn : Tuples → List Pair
+spacesIn ts = ascending (gather (λ (k : Key). cond (eqb (k .n) 0) (spaceEntry (k .s)) []) ts)
+
+-- "the spaces that hold n"
+unfoldable pub spacesWith : ℕ → Tuples → List Pair
+spacesWith n ts = ascending (gather (λ (k : Key). cond (isNode k && eqb (k .n) n) (spaceEntry (k .s)) []) ts)
 
 -- "A pair's edge is that tuple (for A, each of the two ..)": the keys in s of the edges of the pair (g,m) of n
 abbrev pub pairKeys : Direction → ℕ → ℕ → ℕ → ℕ → List Key
@@ -98,7 +102,7 @@ pairKeys outpointing s n g m = edgeKey s n g m ∷ []
 pairKeys inpointing s n g m = edgeKey s m g n ∷ []
 pairKeys adjacent s n g m = edgeKey s n g m ∷ edgeKey s m g n ∷ []
 
--- is one of the pairs such that p holds
+-- does a test hold of one of the pairs
 unfoldable pub anyPair : (Pair → Bool) → List Pair → Bool
 anyPair p [] = false
 anyPair p (q ∷ qs) = p q || anyPair p qs

@@ -11,9 +11,9 @@ use Rattle.model.specs.declared.Reads.{Reads}
 use Rattle.model.specs.declared.Space.{Space}
 use Rattle.model.specs.declared.Space.the-variants.{Universe, Numbered}
 use Rattle.model.specs.Keys.{Key, spaceKey, nodeKey}
-use Rattle.model.specs.Tuples.{State, present, anyPresent, missing}
+use Rattle.model.specs.Tuples.{Tuples, present, anyPresent, missing}
 use Rattle.model.specs.Operators.{Operator, create, bind, value, exists, destroy, list, operatorOf, within, readsOf}
-use Rattle.model.specs.Steps.{nOf, gOf, mOf, sOf, objectKeys, toList, toAdd}
+use Rattle.model.specs.Steps.{nOf, gOf, mOf, sOf, objectKeys, wouldList, wouldAdd}
 
 -- the number of a condition, and whether it applies
 pub record Stop : Type 0 where
@@ -33,6 +33,7 @@ unfoldable pub zeroSpace : Space → Bool
 zeroSpace Universe = false
 zeroSpace (Numbered s) = eqb (s .0) 0
 
+-- the space of the call is UNIVERSE
 unfoldable pub isUniverse : Space → Bool
 isUniverse Universe = true
 isUniverse (Numbered s) = false
@@ -52,21 +53,21 @@ unfoldable pub destroysUniverse : Call → Bool
 destroysUniverse c = eqb (c .operator) 55 && isUniverse (c .s)
 
 -- 5, space: "s absent (not for 51, 54, 55)"
-unfoldable pub spaceAbsent : Call → State → Bool
+unfoldable pub spaceAbsent : Call → Tuples → Bool
 spaceAbsent c ts =
     (readsOf (c .operator) .s) && not (eqb (c .operator) 51 || within 54 55 (c .operator)) && not (present (spaceKey (sOf c)) ts)
 
 -- 6, node: "n absent from s (1–44, 46, 47), or from 0 (57)"
-unfoldable pub nodeAbsent : Call → State → Bool
+unfoldable pub nodeAbsent : Call → Tuples → Bool
 nodeAbsent c ts =
     ((within 1 44 (c .operator) || within 46 47 (c .operator)) && not (present (nodeKey (sOf c) (nOf c)) ts))
     || (eqb (c .operator) 57 && not (present (nodeKey 0 (nOf c)) ts))
 
 -- 7, node: "m, where it is read, absent from s"
-unfoldable pub secondAbsent : Call → State → Bool
+unfoldable pub secondAbsent : Call → Tuples → Bool
 secondAbsent c ts = (readsOf (c .operator) .m) && not (present (nodeKey (sOf c) (mOf c)) ts)
 
--- the tuples in s that C, B, V and X work on
+-- the keys in s that C, B, V and X work on
 unfoldable pub workedOn : Operator → Call → List Key
 workedOn (create o) c = objectKeys o (sOf c) c
 workedOn (bind o) c = objectKeys o (sOf c) c
@@ -76,30 +77,35 @@ workedOn (destroy r) c = []
 workedOn (list l) c = []
 
 -- 8, pair: "4–8: no such edge; 6 only if both are absent"
-unfoldable pub edgeAbsent : Call → State → Bool
+unfoldable pub edgeAbsent : Call → Tuples → Bool
 edgeAbsent c ts = within 4 8 (c .operator) && not (anyPresent (workedOn (operatorOf (c .operator)) c) ts)
 
 -- 9, answer list: "shorter than k"
-unfoldable pub listShort : Call → State → ℕ → Bool
-listShort c ts room = ltb room (length (toList (operatorOf (c .operator)) c ts))
+unfoldable pub listShort : Call → Tuples → ℕ → Bool
+listShort c ts room = ltb room (length (wouldList (operatorOf (c .operator)) c ts))
 
 -- 10, records: "full: tuples present + tuples to add > C"
-unfoldable pub full : ℕ → Call → State → Bool
-full C c ts = ltb C (length ts + length (missing (toAdd (operatorOf (c .operator)) c) ts))
+unfoldable pub full : ℕ → Call → Tuples → Bool
+full C c ts = ltb C (length ts + length (missing (wouldAdd (operatorOf (c .operator)) c) ts))
 
--- conditions 2 to 9, those earlier than "full", in their order; room is the length of the call's answer list
-unfoldable pub earlier : State → Call → ℕ → List Stop
-earlier ts c room =
-    stop 2 (noOperator c)
-    ∷ stop 3 (zeroName c)
-    ∷ stop 4 (destroysUniverse c)
-    ∷ stop 5 (spaceAbsent c ts)
+-- the conditions on the call alone
+unfoldable pub ofCall : Call → List Stop
+ofCall c = stop 2 (noOperator c) ∷ stop 3 (zeroName c) ∷ stop 4 (destroysUniverse c) ∷ []
+
+-- the conditions on what is present; room is the length of the call's answer list
+unfoldable pub ofTuples : Tuples → Call → ℕ → List Stop
+ofTuples ts c room =
+    stop 5 (spaceAbsent c ts)
     ∷ stop 6 (nodeAbsent c ts)
     ∷ stop 7 (secondAbsent c ts)
     ∷ stop 8 (edgeAbsent c ts)
     ∷ stop 9 (listShort c ts room)
     ∷ []
 
+-- conditions 2 to 9, those earlier than "full", in their order
+unfoldable pub earlier : Tuples → Call → ℕ → List Stop
+earlier ts c room = ofCall c ++ ofTuples ts c room
+
 -- the number of the refusal, or none where the call is not stopped
-unfoldable pub refusalOf : ℕ → State → Call → ℕ → Option ℕ
+unfoldable pub refusalOf : ℕ → Tuples → Call → ℕ → Option ℕ
 refusalOf C ts c room = first (earlier ts c room ++ (stop 10 (full C c ts) ∷ []))

@@ -9,21 +9,21 @@ use Prim.Native.Nat.{ℕ, _≤_}
 use lib.ListN.{length}
 use Rattle.model.specs.Ordered.{Ascending}
 use Rattle.model.specs.Keys.{mostName, Key, keyOf, spaceKey, nodeKey, edgeKey, compareKeys}
-use Rattle.model.specs.Tuples.{State, present}
-use Rattle.model.specs.Buffer.{word, leastLength, mostLength, capacityOf, next, tupleAt, count}
+use Rattle.model.specs.Tuples.{Tuples, present}
+use Rattle.model.specs.Buffer.{word, leastLength, mostLength, capacityOf, sizeWord, next, tupleAt, count}
 
 -- ---- the tuples
 
-abbrev pub Has : Key → State → Type 0
+abbrev pub Has : Key → Tuples → Type 0
 Has k ts = present k ts ≡ true
 
 -- "each node tuple has its space and its tuple in 0, each edge tuple has its two node tuples in s and its tuple in 0"
-pub record Supported (ts : State) (k : Key) : Type 0 where
+pub record Supported (ts : Tuples) (k : Key) : Type 0 where
   pub node : k .n ≢ 0 → k .g ≡ 0 → Has (spaceKey (k .s)) ts × Has (nodeKey 0 (k .n)) ts
   pub edge : k .g ≢ 0 → Has (nodeKey (k .s) (k .n)) ts × Has (nodeKey (k .s) (k .m)) ts × Has (edgeKey 0 (k .n) (k .g) (k .m)) ts
 
--- "nothing names a missing node or space"
-abbrev pub NothingMissing : State → Type 0
+-- "That nothing named is missing means: .."
+abbrev pub NothingMissing : Tuples → Type 0
 NothingMissing ts = (k : Key) → Has k ts → Supported ts k
 
 -- "key words are at most 65,535"
@@ -38,11 +38,11 @@ pub record Shaped (k : Key) : Type 0 where
   pub named : k .n ≡ 0 → (k .g ≡ 0) × (k .m ≡ 0)
   pub ends : (k .g ≡ 0) ↔ (k .m ≡ 0)
 
-abbrev pub firstKey : State → Option Key
+abbrev pub firstKey : Tuples → Option Key
 firstKey [] = none
 firstKey (t ∷ ts) = some (t .key)
 
-pub record TupleRules (ts : State) : Type 0 where
+pub record TupleRules (ts : Tuples) : Type 0 where
   -- "used keys strictly ascend, s first"
   pub ascends : Ascending keyOf compareKeys ts
   -- "the first is (0,0,0,0)"
@@ -64,7 +64,7 @@ pub record StoreRules (b used free : List ℕ) : Type 0 where
   pub least : leastLength ≤ length b
   pub most : length b ≤ mostLength
   -- "word 0 fits"
-  pub capacity : word b 0 ≡ capacityOf b
+  pub capacity : word b 0 ≡ sizeWord b
   -- "both heads and every next are at most C"
   pub usedHead : word b 1 ≤ capacityOf b
   pub freeHead : word b 2 ≤ capacityOf b

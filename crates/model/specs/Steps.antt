@@ -3,13 +3,14 @@ use mathlib.Core.Bool.{Bool, true, false, cond, _&&_, _||_}
 use mathlib.Core.List.{List, [], _∷_, _++_}
 use Prim.Native.Nat.{ℕ}
 use lib.Dec.{eqb}
+use lib.ListN.{length}
 use Rattle.model.specs.declared.Call.{Call}
 use Rattle.model.specs.declared.Space.{Space}
 use Rattle.model.specs.declared.Space.the-variants.{Universe, Numbered}
 use Rattle.model.specs.declared.Pair.{Pair}
 use Rattle.model.specs.Keys.{Value, NIL, Key, spaceKey, nodeKey}
-use Rattle.model.specs.Tuples.{State, present, anyPresent, valueAt, addAll, assignAll, remove}
-use Rattle.model.specs.Operators.{Direction, Object, Removal, Listing, Operator, create, bind, value, exists, destroy, list}
+use Rattle.model.specs.Tuples.{Tuples, present, anyPresent, valueAt, addAll, assignAll, remove}
+use Rattle.model.specs.Operators.{Direction, Object, Removal, Listing, Operator, create, bind, value, exists, destroy, list, within}
 use Rattle.model.specs.Pairs.{edgeOf, nodeOf, pairsAt, pairsOf, edgeNames, nodeNames, withEdge, withNode, nodesIn, spacesIn, spacesWith, pairKeys, anyPair}
 
 -- "In tuples and answers UNIVERSE is written 0."
@@ -27,10 +28,13 @@ gOf c = c .g .0
 abbrev pub mOf : Call → ℕ
 mOf c = c .m .0
 
+abbrev pub vOf : Call → Value
+vOf c = c .v
+
 abbrev pub sOf : Call → ℕ
 sOf c = spaceNumber (c .s)
 
--- the tuples in space s that C, B, V and X work on
+-- the keys in space s that C, B, V and X work on
 unfoldable pub objectKeys : Object → ℕ → Call → List Key
 objectKeys (Object.P d) s c = pairKeys d s (nOf c) (gOf c) (mOf c)
 objectKeys Object.UN s c = nodeKey s (nOf c) ∷ []
@@ -43,7 +47,7 @@ created Object.UN c = objectKeys Object.UN (sOf c) c ++ objectKeys Object.UN 0 c
 created Object.US c = objectKeys Object.US (sOf c) c
 
 -- the value of the first of some keys
-unfoldable pub firstValue : List Key → State → Value
+unfoldable pub firstValue : List Key → Tuples → Value
 firstValue [] ts = NIL
 firstValue (k ∷ ks) ts = valueAt k ts
 
@@ -60,7 +64,7 @@ unfoldable pub nodeTaken : ℕ → ℕ → Key → Bool
 nodeTaken s n k = reaches s k && (eqb (k .n) n || eqb (k .m) n)
 
 -- "the nodes of such pairs are collected first, then each is removed as by DUN"
-unfoldable pub removeNodes : ℕ → List Pair → State → State
+unfoldable pub removeNodes : ℕ → List Pair → Tuples → Tuples
 removeNodes s [] ts = ts
 removeNodes s (p ∷ ps) ts = removeNodes s ps (remove (nodeTaken s (nodeOf p)) ts)
 
@@ -69,7 +73,7 @@ unfoldable pub spaceTaken : ℕ → Key → Bool
 spaceTaken s k = eqb (k .s) s
 
 -- D: what is left
-unfoldable pub destroyed : Removal → Call → State → State
+unfoldable pub destroyed : Removal → Call → Tuples → Tuples
 destroyed (Removal.P d) c ts =
     remove (edgesTaken d (sOf c) (nOf c) (λ (p : Pair). eqb (edgeOf p) (gOf c) && eqb (nodeOf p) (mOf c))) ts
 destroyed (Removal.G d) c ts = remove (edgesTaken d (sOf c) (nOf c) (λ (p : Pair). true)) ts
@@ -81,7 +85,7 @@ destroyed Removal.UN c ts = remove (nodeTaken (sOf c) (nOf c)) ts
 destroyed Removal.US c ts = remove (spaceTaken (sOf c)) ts
 
 -- S: the pairs that it lists
-unfoldable pub listed : Listing → Call → State → List Pair
+unfoldable pub listed : Listing → Call → Tuples → List Pair
 listed (Listing.P d) c ts = pairsOf d (sOf c) (nOf c) ts
 listed (Listing.G d) c ts = edgeNames (pairsOf d (sOf c) (nOf c) ts)
 listed (Listing.GN d) c ts = edgeNames (withNode (mOf c) (pairsOf d (sOf c) (nOf c) ts))
@@ -92,20 +96,8 @@ listed Listing.US c ts = spacesIn ts
 listed Listing.USn c ts = spacesWith (nOf c) ts
 
 -- "C, B and D return the first argument (51, 52, 55: the space)"
-unfoldable pub objectName : Object → Call → ℕ
-objectName (Object.P d) c = nOf c
-objectName Object.UN c = nOf c
-objectName Object.US c = sOf c
-
-unfoldable pub removalName : Removal → Call → ℕ
-removalName (Removal.P d) c = nOf c
-removalName (Removal.G d) c = nOf c
-removalName (Removal.GG d) c = nOf c
-removalName (Removal.GN d) c = nOf c
-removalName (Removal.N d) c = nOf c
-removalName (Removal.NG d) c = nOf c
-removalName Removal.UN c = nOf c
-removalName Removal.US c = sOf c
+unfoldable pub firstArgument : Call → ℕ
+firstArgument c = cond (within 51 52 (c .operator) || eqb (c .operator) 55) (sOf c) (nOf c)
 
 -- "Answers are equal when they are of the same kind (refusal, name, value, yes or no, list) and carry the same; a list carries k and its k pairs in order."
 pub data Reply : Type 0 where
@@ -113,39 +105,39 @@ pub data Reply : Type 0 where
   name : ℕ → Reply
   valued : Value → Reply
   yesNo : Bool → Reply
-  pairs : List Pair → Reply
+  pairs : ℕ → List Pair → Reply
 
 -- "k (how many pairs the step would list)": the pairs; none but for S
-unfoldable pub toList : Operator → Call → State → List Pair
-toList (create o) c ts = []
-toList (bind o) c ts = []
-toList (value o) c ts = []
-toList (exists o) c ts = []
-toList (destroy r) c ts = []
-toList (list l) c ts = listed l c ts
+unfoldable pub wouldList : Operator → Call → Tuples → List Pair
+wouldList (create o) c ts = []
+wouldList (bind o) c ts = []
+wouldList (value o) c ts = []
+wouldList (exists o) c ts = []
+wouldList (destroy r) c ts = []
+wouldList (list l) c ts = listed l c ts
 
 -- "the keys that the step would add": none but for C
-unfoldable pub toAdd : Operator → Call → List Key
-toAdd (create o) c = created o c
-toAdd (bind o) c = []
-toAdd (value o) c = []
-toAdd (exists o) c = []
-toAdd (destroy r) c = []
-toAdd (list l) c = []
+unfoldable pub wouldAdd : Operator → Call → List Key
+wouldAdd (create o) c = created o c
+wouldAdd (bind o) c = []
+wouldAdd (value o) c = []
+wouldAdd (exists o) c = []
+wouldAdd (destroy r) c = []
+wouldAdd (list l) c = []
 
 -- what the step answers
-unfoldable pub reply : Operator → Call → State → Reply
-reply (create o) c ts = name (objectName o c)
-reply (bind o) c ts = name (objectName o c)
+unfoldable pub reply : Operator → Call → Tuples → Reply
+reply (create o) c ts = name (firstArgument c)
+reply (bind o) c ts = name (firstArgument c)
 reply (value o) c ts = valued (firstValue (objectKeys o (sOf c) c) ts)
 reply (exists o) c ts = yesNo (anyPresent (objectKeys o (sOf c) c) ts)
-reply (destroy r) c ts = name (removalName r c)
-reply (list l) c ts = pairs (listed l c ts)
+reply (destroy r) c ts = name (firstArgument c)
+reply (list l) c ts = pairs (length (listed l c ts)) (listed l c ts)
 
 -- the state after the step; "set the pair's value in s to v; A sets whichever are present"
-unfoldable pub after : Operator → Call → State → State
+unfoldable pub after : Operator → Call → Tuples → Tuples
 after (create o) c ts = addAll (created o c) ts
-after (bind o) c ts = assignAll (objectKeys o (sOf c) c) (c .v) ts
+after (bind o) c ts = assignAll (objectKeys o (sOf c) c) (vOf c) ts
 after (value o) c ts = ts
 after (exists o) c ts = ts
 after (destroy r) c ts = destroyed r c ts

@@ -55,3 +55,11 @@ pub struct Pair {
     pub edge: EdgeName,
     pub node: NodeName,
 }
+
+// What preparing answers.
+pub enum Preparation {
+    // The number of the condition that stopped it.
+    Refused(u32),
+    // C, the number of records.
+    Capacity(u32),
+}

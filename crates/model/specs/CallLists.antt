@@ -1,0 +1,77 @@
+-- Document 01, "A list of calls, as demand 3 has it": calls one after the other, and what is claimed of the whole list.
+use mathlib.Core.Bool.{true}
+use mathlib.Core.List.{List, [], _∷_, map}
+use mathlib.Core.Logic.{_↔_}
+use mathlib.Core.Option.{none}
+use mathlib.Core.Path.{_≡_}
+use Prim.Native.Nat.{ℕ, _+_, _≤_, _<_}
+use lib.ListN.{length}
+use Rattle.model.specs.declared.Call.{Call}
+use Rattle.model.specs.declared.Answer.{Answer}
+use Rattle.model.specs.declared.Answer.the-variants.{Refusal}
+use Rattle.model.specs.Ordered.{Ascending}
+use Rattle.model.specs.Keys.{keyOf, compareKeys}
+use Rattle.model.specs.Tuples.{fresh, missing}
+use Rattle.model.specs.Operators.{operatorOf}
+use Rattle.model.specs.Steps.{Reply, wouldAdd}
+use Rattle.model.specs.Refusals.{first, earlier}
+use Rattle.model.specs.Machine.{State, Request, machine, answers, final}
+use Rattle.model.specs.Buffer.{capacityOf, tuplesOf, freeOf, isStore, Prepared}
+use Rattle.model.specs.Rules.{NothingMissing}
+use Rattle.model.specs.OneCall.{OneCall, observed}
+
+-- a call that was made: the answer list lent to it, before and after, and its answer
+pub record CallMade : Type 0 where
+  pub call : Call
+  pub lent : List ℕ
+  pub answer : Answer
+  pub left : List ℕ
+
+-- "Each later call gets the buffer as the call before left it, answered or refused": calls made one after the other, from a buffer to a buffer
+pub data Trace : List ℕ → List CallMade → List ℕ → Type 0 where
+  end : {b : List ℕ} → Trace b [] b
+  then : {b b′ b″ : List ℕ} {x : CallMade} {xs : List CallMade} → OneCall b (x .lent) (x .call) (x .answer) b′ (x .left) → Trace b′ xs b″ → Trace b (x ∷ xs) b″
+
+-- what the machine is fed: "only the calls: operator, fields and the length of the call's answer list"
+abbrev pub requestOf : CallMade → Request
+requestOf x = record { call = x .call; room = length (x .lent) }
+
+abbrev pub requests : List CallMade → List Request
+requests xs = map requestOf xs
+
+-- what the callers were observed
+abbrev pub replies : List CallMade → List Reply
+replies xs = map (λ (x : CallMade). observed (x .answer) (x .left)) xs
+
+-- demand 3: "no earlier refusal applies and tuples present plus to add exceed C"
+abbrev pub Exceeds : ℕ → State → Request → Type 0
+Exceeds C ts r =
+    (first (earlier ts (r .call) (r .room)) ≡ none)
+    × (C < length ts + length (missing (wouldAdd (operatorOf (r .call .operator)) (r .call)) ts))
+
+-- demand 3: "'full' is answered exactly when ..", at each call, by the machine's state then
+abbrev pub FullExactly : ℕ → State → List CallMade → Type 0
+FullExactly C ts [] = Unit {0}
+FullExactly C ts (x ∷ xs) =
+    ((x .answer ≡ Refusal 10) ↔ Exceeds C ts (requestOf x)) × FullExactly C (machine C ts (x .call) (length (x .lent)) .state) xs
+
+-- what is claimed of a list of calls made from a store of C records that holds the tuples ts, to the buffer b
+pub record WholeList (C : ℕ) (ts : State) (xs : List CallMade) (b : List ℕ) : Type 0 where
+  -- "the answers are those of 01's tuple machine"
+  pub answered : replies xs ≡ answers C ts (requests xs)
+  -- "the used chain holds exactly the machine's tuples, each once": they ascend strictly
+  pub store : isStore b ≡ true
+  pub held : tuplesOf b ≡ final C ts (requests xs)
+  pub once : Ascending keyOf compareKeys (tuplesOf b)
+  -- "tuples + free = C"
+  pub records : length (tuplesOf b) + length (freeOf b) ≡ C
+  -- "nothing names a missing node or space"
+  pub nothingMissing : NothingMissing (tuplesOf b)
+  pub fullExactly : FullExactly C ts xs
+
+-- demand 3: "for every C in 1..2,048, every fresh store of C records and every list of calls", the empty one too.
+-- The names of a call need no bound here: a call that is made has 16-bit fields, and OneCall holds of no other that adds a name.
+abbrev pub Demand3 : Type 0
+Demand3 =
+    (C : ℕ) (raw b b′ : List ℕ) (xs : List CallMade)
+    → 1 ≤ C → C ≤ 2048 → capacityOf raw ≡ C → Prepared raw b → Trace b xs b′ → WholeList C fresh xs b′
