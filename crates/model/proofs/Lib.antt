@@ -10,4 +10,5 @@ pub mod Refusals
 pub mod Chains
 pub mod Store
 pub mod Prepared
+pub mod CallLists
 pub mod Cases

@@ -316,7 +316,7 @@ module _ (ts : Tuples) (R : TupleRules ts) (c : Call) (F : FieldsFit c) where
 
 -- ---- removing nodes that were collected
 
-every-member : (P : Pair → Type 0) (ps : List Pair) → ((q : Pair) → Member q ps → P q) → EveryPair P ps
+pub every-member : (P : Pair → Type 0) (ps : List Pair) → ((q : Pair) → Member q ps → P q) → EveryPair P ps
 unfolding holds
 every-member P [] h = tt
 every-member P (p ∷ ps) h = (h p (or-left (samePair p p) (member p ps) (own-pair p)), every-member P ps (λ q e. h q (or-right (samePair q p) (member q ps) e)))
