@@ -6,3 +6,5 @@
 pub mod buffer;
 pub mod machine;
 pub mod operators;
+pub mod raw;
+pub mod script;
