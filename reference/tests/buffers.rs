@@ -268,6 +268,12 @@ fn a_space_has_neither_edge_nor_second_node() {
     assert_no_store(&changed(&[(place(6, 3), 5)]));
     assert_no_store(&changed(&[(place(6, 4), 1)]));
     assert_no_store(&changed(&[(place(1, 4), 1)]));
+    // A space without nodes, so that no other rule is broken.
+    let heads = [2, 1, 0, 2];
+    let universe = [2, 0, 0, 0, 0, 0];
+    assert!(is_store(&buffer(heads, &[universe, [0, 9, 0, 0, 0, 0]])));
+    assert_no_store(&buffer(heads, &[universe, [0, 9, 0, 5, 1, 0]]));
+    assert_no_store(&buffer(heads, &[universe, [0, 0, 0, 5, 1, 0]]));
 }
 
 #[test]
