@@ -148,63 +148,47 @@ fn entries(machine: &mut Machine, call: &Call, operator: u32) -> Vec<(u16, u16)>
     }
 }
 
-/// The calls that the manual's formula of a D operator, or of CAP and BAP,
-/// makes; the sets are taken before the first of them.
+/// One call of the operator `part` for each entry of the set `set`; `fill`
+/// puts the entry in its fields.
+fn for_each(
+    machine: &mut Machine,
+    call: &Call,
+    set: u32,
+    part: u32,
+    fill: fn(&mut Call, Edge, Node),
+) -> Vec<Call> {
+    let mut calls = Vec::new();
+    for (edge, node) in entries(machine, call, set) {
+        let mut filled = with_operator(call, part);
+        fill(&mut filled, Edge(edge), Node(node));
+        calls.push(filled);
+    }
+    calls
+}
+
+/// The calls that the manual's formula of CAP or of a D operator makes; the
+/// sets are taken before the first of them.
 fn formula(machine: &mut Machine, call: &Call) -> Option<Vec<Call>> {
     let operator = call.operator;
-    let parts = |parts: &[u32]| {
-        parts
-            .iter()
-            .map(|&part| with_operator(call, part))
-            .collect()
-    };
-    let with_edge = |machine: &mut Machine, set: u32, part: u32| {
-        let edges = entries(machine, call, set);
-        let part = with_operator(call, part);
-        edges
-            .into_iter()
-            .map(|(g, _)| Call { g: Edge(g), ..part })
-            .collect()
-    };
-    let with_first_node = |machine: &mut Machine, set: u32| {
-        let nodes = entries(machine, call, set);
-        let part = with_operator(call, 49);
-        nodes
-            .into_iter()
-            .map(|(_, m)| Call { n: Node(m), ..part })
-            .collect()
-    };
-    match operator {
+    let (set, part, fill): (u32, u32, fn(&mut Call, Edge, Node)) = match operator {
         // CAP: COP, CIP. DAP: DOP, DIP. DAG, DAGG, DAGN likewise.
-        3 | 14 | 17 | 20 | 23 => Some(parts(&[operator - 2, operator - 1])),
+        3 | 14 | 17 | 20 | 23 => {
+            let parts = [operator - 2, operator - 1];
+            return Some(parts.map(|part| with_operator(call, part)).to_vec());
+        }
         // DOG and DIG: DOP or DIP of each pair of SOP or SIP.
-        15 | 16 => {
-            let pairs = entries(machine, call, operator + 15);
-            let part = with_operator(call, operator - 3);
-            let calls = pairs.into_iter().map(|(g, m)| Call {
-                g: Edge(g),
-                m: Node(m),
-                ..part
-            });
-            Some(calls.collect())
-        }
+        15 | 16 => (operator + 15, operator - 3, |part, g, m| {
+            (part.g, part.m) = (g, m);
+        }),
         // DOGG and DIGG: DOP or DIP of g and each node of SONG or SING.
-        18 | 19 => {
-            let nodes = entries(machine, call, operator + 24);
-            let part = with_operator(call, operator - 6);
-            Some(
-                nodes
-                    .into_iter()
-                    .map(|(_, m)| Call { m: Node(m), ..part })
-                    .collect(),
-            )
-        }
+        18 | 19 => (operator + 24, operator - 6, |part, _, m| part.m = m),
         // DOGN and DIGN: DOP or DIP of each edge of SOGN or SIGN and m.
-        21 | 22 => Some(with_edge(machine, operator + 15, operator - 9)),
+        21 | 22 => (operator + 15, operator - 9, |part, g, _| part.g = g),
         // DON to DANG: DUN of each node of SON to SANG.
-        24..=29 => Some(with_first_node(machine, operator + 15)),
-        _ => None,
-    }
+        24..=29 => (operator + 15, 49, |part, _, m| part.n = m),
+        _ => return None,
+    };
+    Some(for_each(machine, call, set, part, fill))
 }
 
 #[test]
