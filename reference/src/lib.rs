@@ -1,0 +1,10 @@
+//! A second, independent implementation of the graph store of document 01.
+//!
+//! It is written from document 01 (and the manual, GRASPER 1.0, 1978, where
+//! document 01 points to it), to be plainly right rather than fast.
+
+pub mod buffer;
+pub mod machine;
+pub mod operators;
+pub mod raw;
+pub mod script;
