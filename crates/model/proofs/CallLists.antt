@@ -1,32 +1,31 @@
 -- Demand 3 in its general form: calls that each meet OneCall, made one after the other from a buffer just prepared, answer as the tuple machine does
 -- and leave its tuples (specs/CallLists.antt).
 use mathlib.Core.Bool.{true}
-use mathlib.Core.List.{List, [], _∷_, _++_, map}
+use mathlib.Core.List.{List, [], _∷_, map}
 use mathlib.Core.Logic.{_↔_, ⊎-elim}
 use mathlib.Core.Option.{Option, none, some}
 use mathlib.Core.Path.{_≡_, refl, sym, ap, ap₂, _∙_, subst}
 use Prim.Native.Nat.{ℕ, _+_, _-_, _*_, _/_, _%_, _≤_}
 use native.Mathlib.Omega.{arith}
-use lib.ListN.{length, take, drop, length-map}
+use lib.ListN.{length, drop, length-map}
 use lib.Seq.{take-at}
 use Rattle.model.specs.declared.Call.{Call}
-use Rattle.model.specs.declared.Answer.{Answer}
 use Rattle.model.specs.declared.Answer.the-variants.{Refusal}
 use Rattle.model.specs.declared.Pair.{Pair}
-use Rattle.model.specs.Keys.{mostName, Key, Tuple}
+use Rattle.model.specs.Keys.{mostName}
 use Rattle.model.specs.Tuples.{Tuples, fresh}
 use Rattle.model.specs.Operators.{Direction, outpointing, inpointing, adjacent, Listing, Operator, create, bind, value, exists, destroy, list, operatorOf}
 use Rattle.model.specs.Pairs.{pair, edgeOf, nodeOf}
 use Rattle.model.specs.Steps.{Reply, refusal, name, valued, yesNo, pairs, nOf, sOf, listed, reply}
 use Rattle.model.specs.Refusals.{refusalOf}
-use Rattle.model.specs.Machine.{State, Request, outcomeOf, machine, answers, final}
-use Rattle.model.specs.Buffer.{capacityOf, tupleAt, usedOf, freeOf, tuplesOf, isStore, Prepared}
-use Rattle.model.specs.Rules.{TupleRules, StoreRules}
+use Rattle.model.specs.Machine.{State, outcomeOf, machine, answers, final}
+use Rattle.model.specs.Buffer.{capacityOf, tupleAt, usedOf, freeOf, tuplesOf, isStore}
+use Rattle.model.specs.Rules.{TupleRules}
 use Rattle.model.specs.Entries.{Outpointing, Inpointing, IsPair, Entry}
-use Rattle.model.specs.OneCall.{answerOf, nameCount, pack, unpack, listAfter, observed, OnStore, OneCall}
-use Rattle.model.specs.CallLists.{CallMade, Trace, end, then, requestOf, requests, replies, Exceeds, FullExactly, WholeList, Demand3}
+use Rattle.model.specs.OneCall.{answerOf, nameCount, pack, unpack, listAfter, observed, OneCall}
+use Rattle.model.specs.CallLists.{CallMade, Trace, end, then, requestOf, requests, FullExactly, WholeList, Demand3}
 use Rattle.model.proofs.Taken.{EveryPair}
-use Rattle.model.proofs.Entries.{Member, listed-sound}
+use Rattle.model.proofs.Entries.{listed-sound}
 use Rattle.model.proofs.Steps.{every-member}
 use Rattle.model.proofs.Refusals.{full-exactly}
 use Rattle.model.proofs.Store.{store-rules, rules-count}
@@ -57,8 +56,10 @@ module _ (ts : Tuples) (R : TupleRules ts) where
     where
       out : Outpointing s n ts p → SmallPair p
       out h = let S = R .small _ (h .1) in record { edge = S .g; node = S .m }
+
       inward : Inpointing s n ts p → SmallPair p
       inward h = let S = R .small _ (h .1) in record { edge = S .g; node = S .n }
+
       go : (d : Direction) → IsPair d s n ts p → SmallPair p
       go outpointing h = out h
       go inpointing h = inward h
@@ -136,7 +137,7 @@ no-calls b e =
       once = R .tuples .ascends;
       records = ap (λ (n : ℕ). n + length (freeOf b)) (length-map (usedOf b) (tupleAt b)) ∙ rules-count b (usedOf b) (freeOf b) R;
       nothingMissing = R .tuples .nothingMissing;
-      fullExactly = tt
+      fullExactly = tt;
     }
 
 -- one call before a list of calls
@@ -151,7 +152,7 @@ one-more b b′ b″ x xs e one W =
     let same : capacityOf b′ ≡ C = capacity-size b b′ (O .size) in
     let r : Reply = machine C ts (x .call) (length (x .lent)) .answer in
     let told : observed (x .answer) (x .left) ≡ r
-          = ap₂ observed (O .answer) (O .list) ∙ observed-machine C ts (x .call) (length (x .lent)) (x .lent) R in
+    = ap₂ observed (O .answer) (O .list) ∙ observed-machine C ts (x .call) (length (x .lent)) (x .lent) R in
     let ten = full-exactly C ts (requestOf x) in
     record {
       answered = ap₂ _∷_ told (W .answered ∙ ap₂ (λ (D : ℕ) (us : State). answers D us (requests xs)) same (O .tuples));
@@ -160,9 +161,10 @@ one-more b b′ b″ x xs e one W =
       once = W .once;
       records = W .records ∙ same;
       nothingMissing = W .nothingMissing;
-      fullExactly =
-          ((λ a. ten .0 (answer-ten r .0 (sym (O .answer) ∙ a)), λ h. O .answer ∙ answer-ten r .1 (ten .1 h)),
-          subst (λ (us : State). FullExactly C us xs) (O .tuples) (subst (λ (D : ℕ). FullExactly D (tuplesOf b′) xs) same (W .fullExactly)))
+      fullExactly = (
+        (λ a. ten .0 (answer-ten r .0 (sym (O .answer) ∙ a)), λ h. O .answer ∙ answer-ten r .1 (ten .1 h)),
+        subst (λ (us : State). FullExactly C us xs) (O .tuples) (subst (λ (D : ℕ). FullExactly D (tuplesOf b′) xs) same (W .fullExactly)),
+      );
     }
 
 -- a list of calls from any store

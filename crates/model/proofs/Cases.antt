@@ -8,11 +8,15 @@ use Rattle.model.specs.Pairs.{comparePairs, ascending, gather, outPair, 
 use Rattle.model.specs.Steps.{spaceNumber, objectKeys, created, firstValue, reaches, edgesTaken, nodeTaken, removeNodes, spaceTaken, destroyed, listed, firstArgument, wouldList, wouldAdd, reply, after}
 use Rattle.model.specs.Refusals.{first, zeroSpace, isUniverse, noOperator, zeroName, destroysUniverse, spaceAbsent, nodeAbsent, secondAbsent, workedOn, edgeAbsent, listShort, full, ofCall, ofTuples, earlier, refusalOf}
 use Rattle.model.specs.Machine.{outcomeOf, machine, answers, final}
+use Rattle.model.specs.Cases.{Cases, ScriptTable, FirstWins, SecondNode}
 
-use Rattle.model.specs.Cases.{Cases}
+-- to unfold this is to unfold all that the machine computes with
+unfoldable pub computed : Unit {0}
+unfolding holds put compareKeys anyPresent valueAt addAll missing assign assignAll remove table operatorOf readsOf comparePairs ascending gather outPair inPair pairsAt pairsOf edgeNames nodeNames only nodesIn spacesIn spacesWith anyPair spaceNumber objectKeys created firstValue reaches edgesTaken nodeTaken removeNodes spaceTaken destroyed listed firstArgument wouldList wouldAdd reply after first zeroSpace isUniverse noOperator zeroName destroysUniverse spaceAbsent nodeAbsent secondAbsent workedOn edgeAbsent listShort full ofCall ofTuples earlier refusalOf outcomeOf machine answers final
+computed = tt
 
 pub cases : Cases
-unfolding holds put compareKeys anyPresent valueAt addAll missing assign assignAll remove table operatorOf readsOf comparePairs ascending gather outPair inPair pairsAt pairsOf edgeNames nodeNames only nodesIn spacesIn spacesWith anyPair spaceNumber objectKeys created firstValue reaches edgesTaken nodeTaken removeNodes spaceTaken destroyed listed firstArgument wouldList wouldAdd reply after first zeroSpace isUniverse noOperator zeroName destroysUniverse spaceAbsent nodeAbsent secondAbsent workedOn edgeAbsent listShort full ofCall ofTuples earlier refusalOf outcomeOf machine answers final
+unfolding computed
 cases =
     record {
       a = refl;
@@ -25,5 +29,17 @@ cases =
       g = refl;
       h = refl;
       i = refl;
-      j = refl
+      j = refl;
     }
+
+pub script-table : ScriptTable
+unfolding computed
+script-table = refl
+
+pub first-wins : FirstWins
+unfolding computed
+first-wins = refl
+
+pub second-node : SecondNode
+unfolding computed
+second-node = refl

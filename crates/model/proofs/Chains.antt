@@ -1,7 +1,7 @@
 -- Laws of chains over a link function, and of lists that meet each record exactly once.
 use mathlib.Core.Bool.{Bool, true, false}
-use mathlib.Core.List.{List, [], _∷_, _++_, head-eq-of-cons-eq, tail-eq-of-cons-eq}
-use mathlib.Core.Logic.{_≢_, ⊎-elim}
+use mathlib.Core.List.{List, [], _∷_, _++_}
+use mathlib.Core.Logic.{_≢_}
 use mathlib.Core.Option.{Option, none, some, Option·map}
 use mathlib.Core.Path.{_≡_, refl, sym, ap, ap₂, _∙_, subst}
 use Prim.Native.Nat.{ℕ, zero, suc, _+_, _≤_, _<_}
@@ -62,10 +62,12 @@ unfolding count
 chain-agree link link′ i [] same c = c
 chain-agree link link′ i (j ∷ js) same c =
     let here : 1 ≤ oneIf (eqb i j) + count i js
-          = subst (λ (b : Bool). 1 ≤ oneIf b + count i js) (sym (eq-eqb i j (sym (c .1)))) (omega arith) in
-    (c .0, c .1,
-    subst (λ (x : ℕ). Chain link′ x js) (same i here)
-    (chain-agree link link′ (link i) js (λ k h. same k (more k h)) (c .2)))
+    = subst (λ (b : Bool). 1 ≤ oneIf b + count i js) (sym (eq-eqb i j (sym (c .1)))) (omega arith) in (
+      c .0,
+      c .1,
+      subst (λ (x : ℕ). Chain link′ x js) (same i here)
+          (chain-agree link link′ (link i) js (λ k h. same k (more k h)) (c .2)),
+    )
   where
     more : (k : ℕ) → 1 ≤ count k js → 1 ≤ oneIf (eqb k j) + count k js
     more k h = omega arith

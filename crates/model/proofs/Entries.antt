@@ -2,14 +2,14 @@
 use mathlib.Core.Bool.{Bool, true, false, cond, not, _&&_, _||_, false≢true, or-false}
 use mathlib.Core.List.{List, [], _∷_, _++_, map}
 use mathlib.Core.Logic.{_⊎_, inl, inr, ⊎-elim, _≢_, _↔_}
-use mathlib.Core.Path.{_≡_, refl, sym, ap, ap₂, _∙_, subst}
+use mathlib.Core.Path.{_≡_, refl, sym, ap, _∙_, subst}
 use Prim.Native.Nat.{ℕ}
 use lib.Dec.{eqb, isEq}
 use borrow.Author.Tests.{eqb-true, eqb-false, eq-eqb, ne-eqb}
 use Rattle.model.specs.declared.Call.{Call}
 use Rattle.model.specs.declared.Pair.{Pair}
-use Rattle.model.specs.Ordered.{holds, put, Ascending}
-use Rattle.model.specs.Keys.{Key, Tuple, keyOf, spaceKey, nodeKey, edgeKey, isNode, isEdge, sameKey}
+use Rattle.model.specs.Ordered.{holds, Ascending}
+use Rattle.model.specs.Keys.{Key, spaceKey, nodeKey, edgeKey, isNode, isEdge, sameKey}
 use Rattle.model.specs.Tuples.{Tuples, present}
 use Rattle.model.specs.Operators.{Direction, outpointing, inpointing, adjacent, Listing}
 use Rattle.model.specs.Pairs.{pair, edgeOf, nodeOf, comparePairs, itself, member, ascending, gather, onlyIf, outPair, inPair, pairsAt, pairsOf, edgeNames, nodeNames, only, withEdge, withNode, nodesIn, spacesIn, spacesWith}
@@ -90,8 +90,8 @@ map-complete f [] p e = absurd (false≢true e)
 map-complete f (r ∷ ps) p e =
     ⊎-elim
     (λ h.
-      or-left (samePair (f p) (f r)) (member (f p) (map f ps))
-      (subst (λ (x : Pair). samePair (f p) (f x) ≡ true) (same-pair p r h) (own-pair (f p))))
+    or-left (samePair (f p) (f r)) (member (f p) (map f ps))
+    (subst (λ (x : Pair). samePair (f p) (f x) ≡ true) (same-pair p r h) (own-pair (f p))))
     (λ h. or-right (samePair (f p) (f r)) (member (f p) (map f ps)) (map-complete f ps p h))
     (or-cases (samePair p r) (member p ps) e)
 
@@ -158,17 +158,19 @@ out-sound : (s n : ℕ) (ts : Tuples) (k : Key) (q : Pair) → Has k ts → k .s
 unfolding outPair
 out-sound s n ts k q h e m =
     let r = onlyIf-sound (isEdge k && eqb (k .n) n) (pair (k .g) (k .m)) q m in
-    subst (Outpointing s n ts) (sym (r .1))
-    (nonzero-yes (k .g) (and-left (isEdge k) (eqb (k .n) n) (r .0)),
-    from-node s n k ts e (eqb-true (k .n) n (and-right (isEdge k) (eqb (k .n) n) (r .0))) h)
+    subst (Outpointing s n ts) (sym (r .1)) (
+      nonzero-yes (k .g) (and-left (isEdge k) (eqb (k .n) n) (r .0)),
+      from-node s n k ts e (eqb-true (k .n) n (and-right (isEdge k) (eqb (k .n) n) (r .0))) h,
+    )
 
 in-sound : (s n : ℕ) (ts : Tuples) (k : Key) (q : Pair) → Has k ts → k .s ≡ s → Member q (inPair n k) → Inpointing s n ts q
 unfolding inPair
 in-sound s n ts k q h e m =
     let r = onlyIf-sound (isEdge k && eqb (k .m) n) (pair (k .g) (k .n)) q m in
-    subst (Inpointing s n ts) (sym (r .1))
-    (nonzero-yes (k .g) (and-left (isEdge k) (eqb (k .m) n) (r .0)),
-    to-node s n k ts e (eqb-true (k .m) n (and-right (isEdge k) (eqb (k .m) n) (r .0))) h)
+    subst (Inpointing s n ts) (sym (r .1)) (
+      nonzero-yes (k .g) (and-left (isEdge k) (eqb (k .m) n) (r .0)),
+      to-node s n k ts e (eqb-true (k .m) n (and-right (isEdge k) (eqb (k .m) n) (r .0))) h,
+    )
 
 at-sound : (d : Direction) (s n : ℕ) (ts : Tuples) (k : Key) (q : Pair) → Has k ts → k .s ≡ s → Member q (pairsAt d n k) → IsPair d s n ts q
 unfolding pairsAt
@@ -251,11 +253,12 @@ module _ (ts : Tuples) (R : TupleRules ts) where
       let i = onlyIf-sound (isNode k && eqb (k .s) s) (pair 0 (k .n)) q (r .2) in
       let node = and-left (isNode k) (eqb (k .s) s) (i .0) in
       let here : k .s ≡ s = eqb-true (k .s) s (and-right (isNode k) (eqb (k .s) s) (i .0)) in
-      let plain : k .g ≡ 0 = eqb-true (k .g) 0 (and-right (not (eqb (k .n) 0)) (eqb (k .g) 0) node) in
-      (k .n,
-      nonzero-yes (k .n) (and-left (not (eqb (k .n) 0)) (eqb (k .g) 0) node),
-      subst (λ (x : ℕ). Has (nodeKey x (k .n)) ts) here (subst (λ (j : Key). Has j ts) (node-key ts R k (r .1) plain) (r .1)),
-      i .1)
+      let plain : k .g ≡ 0 = eqb-true (k .g) 0 (and-right (not (eqb (k .n) 0)) (eqb (k .g) 0) node) in (
+        k .n,
+        nonzero-yes (k .n) (and-left (not (eqb (k .n) 0)) (eqb (k .g) 0) node),
+        subst (λ (x : ℕ). Has (nodeKey x (k .n)) ts) here (subst (λ (j : Key). Has j ts) (node-key ts R k (r .1) plain) (r .1)),
+        i .1,
+      )
 
   nodesIn-complete : (s n : ℕ) → n ≢ 0 → Has (nodeKey s n) ts → Member (pair 0 n) (nodesIn s ts)
   unfolding nodesIn
@@ -290,11 +293,12 @@ module _ (ts : Tuples) (R : TupleRules ts) where
       let i = onlyIf-sound (isNode k && eqb (k .n) n) (pair 0 (k .s)) q (r .2) in
       let node = and-left (isNode k) (eqb (k .n) n) (i .0) in
       let here : k .n ≡ n = eqb-true (k .n) n (and-right (isNode k) (eqb (k .n) n) (i .0)) in
-      let plain : k .g ≡ 0 = eqb-true (k .g) 0 (and-right (not (eqb (k .n) 0)) (eqb (k .g) 0) node) in
-      (k .s,
-      subst (λ (x : ℕ). x ≢ 0) here (nonzero-yes (k .n) (and-left (not (eqb (k .n) 0)) (eqb (k .g) 0) node)),
-      subst (λ (x : ℕ). Has (nodeKey (k .s) x) ts) here (subst (λ (j : Key). Has j ts) (node-key ts R k (r .1) plain) (r .1)),
-      i .1)
+      let plain : k .g ≡ 0 = eqb-true (k .g) 0 (and-right (not (eqb (k .n) 0)) (eqb (k .g) 0) node) in (
+        k .s,
+        subst (λ (x : ℕ). x ≢ 0) here (nonzero-yes (k .n) (and-left (not (eqb (k .n) 0)) (eqb (k .g) 0) node)),
+        subst (λ (x : ℕ). Has (nodeKey (k .s) x) ts) here (subst (λ (j : Key). Has j ts) (node-key ts R k (r .1) plain) (r .1)),
+        i .1,
+      )
 
   spacesWith-complete : (n s : ℕ) → n ≢ 0 → Has (nodeKey s n) ts → Member (pair 0 s) (spacesWith n ts)
   unfolding spacesWith

@@ -7,6 +7,7 @@ pub mod Taken
 pub mod Entries
 pub mod Steps
 pub mod Refusals
+pub mod Answers
 pub mod Chains
 pub mod Store
 pub mod Prepared

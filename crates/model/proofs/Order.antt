@@ -1,11 +1,9 @@
 -- Laws of the orders of keys and of pairs: each is a comparison of numbers, refined by the next.
-use mathlib.Core.Bool.{Bool, true, false}
 use mathlib.Core.Path.{_≡_, refl, sym, ap, ap₂, _∙_, subst}
 use Prim.Native.Nat.{ℕ, _<_, _≤_, compare, Ordering, Ordering·lt, Ordering·eq, Ordering·gt}
 use native.Mathlib.Omega.{arith}
-use lib.Dec.{T, isLe, isEq, eqb-refl}
+use lib.Dec.{isLe, isEq}
 use borrow.Author.Tests.{leb-true, leb-false, eqb-true, eqb-false}
-use Rattle.model.specs.declared.Pair.{Pair}
 use Rattle.model.specs.Ordered.{thenBy}
 use Rattle.model.specs.Keys.{Key, compareKeys}
 use Rattle.model.specs.Pairs.{comparePairs, edgeOf, nodeOf}
@@ -119,9 +117,9 @@ by-number f =
       alike = λ a b c e. ap (λ (x : ℕ). compare x (f c)) (compare-eq (f a) (f b) e);
       transitive =
           λ a b c e₁ e₂.
-            let h₁ : f a < f b = compare-lt (f a) (f b) e₁ in
-            let h₂ : f b < f c = compare-lt (f b) (f c) e₂ in
-            lt-compare (f a) (f c) (omega arith)
+          let h₁ : f a < f b = compare-lt (f a) (f b) e₁ in
+          let h₂ : f b < f c = compare-lt (f b) (f c) e₂ in
+          lt-compare (f a) (f c) (omega arith);
     }
 
 -- ---- one comparison refined by another
@@ -154,10 +152,10 @@ module _ {A : Type 0} {order₁ order₂ : A → A → Ordering} (O₁ : Compare
         flip = λ a b. ap₂ thenBy (O₁ .flip a b) (O₂ .flip a b) ∙ thenBy-opposite (order₁ a b) (order₂ a b);
         alike =
             λ a b c e.
-              ap₂ thenBy
-              (O₁ .alike a b c (thenBy-first (order₁ a b) (order₂ a b) e))
-              (O₂ .alike a b c (thenBy-second (order₁ a b) (order₂ a b) e));
-        transitive = refined-transitive
+            ap₂ thenBy
+            (O₁ .alike a b c (thenBy-first (order₁ a b) (order₂ a b) e))
+            (O₂ .alike a b c (thenBy-second (order₁ a b) (order₂ a b) e));
+        transitive = refined-transitive;
       }
 
 -- ---- keys and pairs
@@ -172,16 +170,16 @@ keys =
           (refine (by-number (λ (k : Key). k .n)) (refine (by-number (λ (k : Key). k .g)) (by-number (λ (k : Key). k .m))));
       same =
           λ a b e.
-            let n = thenBy-second (compare (a .s) (b .s)) _ e in
-            let g = thenBy-second (compare (a .n) (b .n)) _ n in
-            let m = thenBy-second (compare (a .g) (b .g)) _ g in
-            λ i.
-              record {
-                s = compare-eq (a .s) (b .s) (thenBy-first (compare (a .s) (b .s)) _ e) i;
-                n = compare-eq (a .n) (b .n) (thenBy-first (compare (a .n) (b .n)) _ n) i;
-                g = compare-eq (a .g) (b .g) (thenBy-first (compare (a .g) (b .g)) _ g) i;
-                m = compare-eq (a .m) (b .m) m i
-              }
+          let n = thenBy-second (compare (a .s) (b .s)) _ e in
+          let g = thenBy-second (compare (a .n) (b .n)) _ n in
+          let m = thenBy-second (compare (a .g) (b .g)) _ g in
+          λ i.
+          record {
+            s = compare-eq (a .s) (b .s) (thenBy-first (compare (a .s) (b .s)) _ e) i;
+            n = compare-eq (a .n) (b .n) (thenBy-first (compare (a .n) (b .n)) _ n) i;
+            g = compare-eq (a .g) (b .g) (thenBy-first (compare (a .g) (b .g)) _ g) i;
+            m = compare-eq (a .m) (b .m) m i;
+          };
     }
 
 -- "ascending by edge, then node": so is that of pairs
@@ -192,8 +190,8 @@ pairs =
       compares = refine (by-number edgeOf) (by-number nodeOf);
       same =
           λ p q e i.
-            record {
-              edge = record { 0 = compare-eq (edgeOf p) (edgeOf q) (thenBy-first (compare (edgeOf p) (edgeOf q)) _ e) i };
-              node = record { 0 = compare-eq (nodeOf p) (nodeOf q) (thenBy-second (compare (edgeOf p) (edgeOf q)) _ e) i }
-            }
+          record {
+            edge = record { 0 = compare-eq (edgeOf p) (edgeOf q) (thenBy-first (compare (edgeOf p) (edgeOf q)) _ e) i };
+            node = record { 0 = compare-eq (nodeOf p) (nodeOf q) (thenBy-second (compare (edgeOf p) (edgeOf q)) _ e) i };
+          };
     }

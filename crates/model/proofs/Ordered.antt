@@ -1,14 +1,14 @@
 -- Laws of sets as ascending lists (specs/Ordered.antt).
-use mathlib.Core.Bool.{Bool, true, false, cond, _&&_, _||_, false≢true, true≢false}
+use mathlib.Core.Bool.{Bool, true, false, _||_, false≢true, true≢false}
 use mathlib.Core.List.{List, [], _∷_}
 use mathlib.Core.Logic.{⊎-elim}
 use mathlib.Core.Path.{_≡_, refl, sym, ap, ap₂, _∙_, subst}
-use Prim.Native.Nat.{ℕ, suc, Ordering, Ordering·lt, Ordering·eq, Ordering·gt}
+use Prim.Native.Nat.{suc, Ordering, Ordering·lt, Ordering·eq, Ordering·gt}
 use lib.Dec.{isEq}
 use lib.ListN.{length}
 use Rattle.model.specs.Ordered.{byOrder, isLess, holds, put, ascendsFrom, Above, Ascending}
 use Rattle.model.proofs.Bools.{or-cases, and-left, and-right, and-both, clash}
-use Rattle.model.proofs.Order.{Compares, IsOrder, opposite, lt≢eq, lt≢gt}
+use Rattle.model.proofs.Order.{IsOrder, opposite}
 
 or-again : (a b : Bool) → (a || b) ≡ (a || (a || b))
 or-again true b = refl

@@ -1,16 +1,15 @@
 -- What preparing leaves is a store whose only tuple is UNIVERSE with NIL.
 use mathlib.Core.Bool.{Bool, true, false, cond}
-use mathlib.Core.List.{List, [], _∷_, _++_, map}
+use mathlib.Core.List.{List, [], _∷_, map}
 use mathlib.Core.Path.{_≡_, refl, sym, ap, _∙_, subst}
 use Prim.Native.Nat.{ℕ, zero, suc, _+_, _-_, _/_, _≤_, _<_}
 use native.Mathlib.Omega.{arith}
 use lib.Dec.{eqb, ltb}
-use lib.ListN.{length}
 use borrow.Author.Tests.{eqb-true, eqb-false, ltb-true, eq-eqb, ne-eqb, lt-ltb, le-ltb}
 use Rattle.model.specs.Ordered.{holds, ascendsFrom}
 use Rattle.model.specs.Keys.{compareKeys}
 use Rattle.model.specs.Tuples.{fresh}
-use Rattle.model.specs.Buffer.{word, capacityOf, next, tupleAt, oneIf, count, tuplesOf, ascendsFromUniverse, smallKey, noEdgeWithoutNode, edgeHasEnd, nodeSupported, edgeSupported, everyKey, sound, isStore, follower, Prepared}
+use Rattle.model.specs.Buffer.{capacityOf, next, tupleAt, oneIf, count, tuplesOf, ascendsFromUniverse, smallKey, noEdgeWithoutNode, edgeHasEnd, nodeSupported, edgeSupported, everyKey, sound, isStore, follower, Prepared}
 use Rattle.model.specs.Rules.{TupleRules, Chain, StoreRules}
 use Rattle.model.proofs.Store.{fits-least, fits-most, sound-exactly, rules-store, rules-tuples}
 
@@ -64,10 +63,12 @@ follower-most C i = go (ltb i C) refl
 chain-up : (link : ℕ → ℕ) (C j n : ℕ) → ((i : ℕ) → 2 ≤ i → i ≤ C → link i ≡ follower C i) → 1 ≤ j → j + n ≡ C → Chain link (follower C j) (upFrom (suc j) n)
 chain-up link C j zero links h e = follower-last C j (omega arith)
 chain-up link C j (suc n) links h e =
-    subst (λ (i : ℕ). Chain link i (suc j ∷ upFrom (suc (suc j)) n)) (sym (follower-on C j (omega arith)))
-    (λ z. omega arith, refl,
-    subst (λ (i : ℕ). Chain link i (upFrom (suc (suc j)) n)) (sym (links (suc j) (omega arith) (omega arith)))
-    (chain-up link C (suc j) n links (omega arith) (omega arith)))
+    subst (λ (i : ℕ). Chain link i (suc j ∷ upFrom (suc (suc j)) n)) (sym (follower-on C j (omega arith))) (
+      λ z. omega arith,
+      refl,
+      subst (λ (i : ℕ). Chain link i (upFrom (suc (suc j)) n)) (sym (links (suc j) (omega arith) (omega arith)))
+          (chain-up link C (suc j) n links (omega arith) (omega arith)),
+    )
 
 fresh-rules : TupleRules fresh
 fresh-rules = sound-exactly fresh .0 yes′
@@ -116,7 +117,7 @@ module _ (b₀ b : List ℕ) (P : Prepared b₀ b) where
             (omega arith) (omega (arith, prepared-capacity, capacity-least)));
         once = λ i h k. count-up i 1 (suc (C - 1)) h (omega arith);
         counted = P .used;
-        tuples = subst TupleRules (sym one-tuple) fresh-rules
+        tuples = subst TupleRules (sym one-tuple) fresh-rules;
       }
 
   pub prepared-store : isStore b ≡ true

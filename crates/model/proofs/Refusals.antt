@@ -1,23 +1,22 @@
 -- A stopped call and a call that only reads change nothing; "full" is answered exactly when it should be; what a D operator leaves.
-use mathlib.Core.Bool.{Bool, true, false, cond, not, _&&_, _||_, false≢true, true≢false, and-assoc}
+use mathlib.Core.Bool.{Bool, true, false, cond, not, _&&_, _||_, false≢true, true≢false}
 use mathlib.Core.List.{List, [], _∷_, _++_}
 use mathlib.Core.Logic.{_↔_}
 use mathlib.Core.Option.{Option, none, some}
-use mathlib.Core.Path.{_≡_, refl, sym, ap, _∙_, subst}
-use Prim.Native.Nat.{ℕ, _+_, _<_}
+use mathlib.Core.Path.{_≡_, refl, sym, ap, _∙_}
+use Prim.Native.Nat.{ℕ}
 use native.Mathlib.Omega.{arith}
 use lib.Dec.{eqb}
-use lib.ListN.{length}
 use borrow.Author.Tests.{ltb-true, lt-ltb}
 use Rattle.model.specs.declared.Call.{Call}
 use Rattle.model.specs.declared.Pair.{Pair}
 use Rattle.model.specs.Keys.{Key}
-use Rattle.model.specs.Tuples.{Tuples, present, missing, remove}
-use Rattle.model.specs.Operators.{Direction, Object, Removal, Operator, create, bind, value, exists, destroy, list, operatorOf}
-use Rattle.model.specs.Pairs.{edgeOf, nodeOf, pairsOf, nodeNames, withEdge, anyPair}
-use Rattle.model.specs.Steps.{Reply, refusal, name, valued, yesNo, pairs, nOf, gOf, sOf, nodeTaken, removeNodes, destroyed, wouldAdd, reply, after}
+use Rattle.model.specs.Tuples.{Tuples, present, remove}
+use Rattle.model.specs.Operators.{Direction, Removal, Operator, create, bind, value, exists, destroy, list, operatorOf}
+use Rattle.model.specs.Pairs.{nodeOf, pairsOf, nodeNames, withEdge, anyPair}
+use Rattle.model.specs.Steps.{Reply, refusal, name, valued, yesNo, pairs, nOf, gOf, sOf, nodeTaken, removeNodes, destroyed, reply, after}
 use Rattle.model.specs.Refusals.{Stop, stop, first, full, ofCall, ofTuples, earlier, refusalOf}
-use Rattle.model.specs.Machine.{Request, Outcome, outcomeOf, machine}
+use Rattle.model.specs.Machine.{Request, outcomeOf, machine}
 use Rattle.model.specs.OneCall.{writes}
 use Rattle.model.specs.CallLists.{Exceeds}
 use Rattle.model.proofs.Bools.{and-left, and-right}
@@ -106,6 +105,7 @@ ten-wins C ts c room e = go (first (earlier ts c room)) refl
     last : (b : Bool) → first (stop 10 b ∷ []) ≡ some 10 → b ≡ true
     last true f = refl
     last false f = absurd (none≢some f)
+
     go : (r : Option ℕ) → first (earlier ts c room) ≡ r → (first (earlier ts c room) ≡ none) × (full C c ts ≡ true)
     go none f = (f, last (full C c ts) (sym (first-none (earlier ts c room) _ f) ∙ e))
     go (some n) f =
@@ -148,9 +148,10 @@ pub full-exactly : (C : ℕ) (ts : Tuples) (r : Request) → (machine C ts (r .c
 unfolding full
 full-exactly C ts r =
     let c = r .call in
-    let i = refused-exactly C ts c (r .room) 10 in
-    (λ e. let w = ten-wins C ts c (r .room) (i .0 e) in (w .0, ltb-true C _ (w .1)),
-    λ h. i .1 (wins-ten C ts c (r .room) (h .0) (lt-ltb C _ (h .1))))
+    let i = refused-exactly C ts c (r .room) 10 in (
+      λ e. let w = ten-wins C ts c (r .room) (i .0 e) in (w .0, ltb-true C _ (w .1)),
+      λ h. i .1 (wins-ten C ts c (r .room) (h .0) (lt-ltb C _ (h .1))),
+    )
 
 -- ---- nodes that were collected
 

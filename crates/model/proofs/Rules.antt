@@ -1,23 +1,17 @@
 -- What a step can do to the state keeps the rules on tuples (specs/Rules.antt).
-use mathlib.Core.Bool.{Bool, true, false, not, _&&_, _||_, false≢true}
+use mathlib.Core.Bool.{Bool, true, false, not, false≢true}
 use mathlib.Core.List.{List, [], _∷_}
 use mathlib.Core.Logic.{_⊎_, inl, inr, ⊎-elim, _≢_}
 use mathlib.Core.Option.{Option, none, some}
 use mathlib.Core.Path.{_≡_, refl, sym, ap, _∙_, subst}
 use Prim.Native.Nat.{ℕ, compare, Ordering, Ordering·lt, Ordering·eq, Ordering·gt}
 use native.Mathlib.Omega.{arith}
-use lib.Dec.{eqb}
-use borrow.Author.Tests.{eqb-true, eqb-false, eq-eqb, ne-eqb}
-use Rattle.model.specs.declared.Pair.{Pair}
-use Rattle.model.specs.Ordered.{thenBy, holds, Above, Ascending}
+use Rattle.model.specs.Ordered.{thenBy, holds, Ascending}
 use Rattle.model.specs.Keys.{Value, Key, keyOf, spaceKey, nodeKey, edgeKey, compareKeys, sameKey}
 use Rattle.model.specs.Tuples.{Tuples, present, addAll, assign, assignAll, remove}
-use Rattle.model.specs.Operators.{Direction, outpointing, inpointing, adjacent}
-use Rattle.model.specs.Pairs.{nodeOf, outPair, inPair, pairsAt, anyPair}
-use Rattle.model.specs.Steps.{reaches, edgesTaken, nodeTaken, removeNodes, spaceTaken}
 use Rattle.model.specs.Rules.{Has, Supported, Small, Shaped, firstKey, TupleRules}
 use Rattle.model.proofs.Bools.{or-cases, or-left, or-right, and-left, and-right, and-both, not-yes, no-not, failed, clash}
-use Rattle.model.proofs.Order.{keys, lt≢gt, lt≢eq, compare-lt}
+use Rattle.model.proofs.Order.{keys, lt≢gt, compare-lt}
 use Rattle.model.proofs.Ordered.{above-held}
 use Rattle.model.proofs.Tuples.{same-key, own-key, among, present-addAll, addAll-ascending, present-remove, remove-ascending, present-assign, assign-ascending}
 
@@ -37,9 +31,9 @@ unfolding compareKeys
 never-below-universe k e =
     ⊎-elim (never-below-zero (k .s))
     (λ f.
-      ⊎-elim (never-below-zero (k .n))
-      (λ h. ⊎-elim (never-below-zero (k .g)) (never-below-zero (k .m)) (later (compare (k .g) 0) (compare (k .m) 0) h))
-      (later (compare (k .n) 0) _ f))
+    ⊎-elim (never-below-zero (k .n))
+    (λ h. ⊎-elim (never-below-zero (k .g)) (never-below-zero (k .m)) (later (compare (k .g) 0) (compare (k .m) 0) h))
+    (later (compare (k .n) 0) _ f))
     (later (compare (k .s) 0) _ e)
 
 pub universe-first : (ts : Tuples) → Ascending keyOf compareKeys ts → Has (spaceKey 0) ts → firstKey ts ≡ some (spaceKey 0)
@@ -74,8 +68,8 @@ supported-in ts us k more S =
       node = λ a b. let d = S .node a b in (more (spaceKey (k .s)) (d .0), more (nodeKey 0 (k .n)) (d .1));
       edge =
           λ a.
-            let d = S .edge a in
-            (more (nodeKey (k .s) (k .n)) (d .0), more (nodeKey (k .s) (k .m)) (d .1), more (edgeKey 0 (k .n) (k .g) (k .m)) (d .2))
+          let d = S .edge a in
+          (more (nodeKey (k .s) (k .n)) (d .0), more (nodeKey (k .s) (k .m)) (d .1), more (edgeKey 0 (k .n) (k .g) (k .m)) (d .2));
     }
 
 -- the rules look at keys alone
@@ -86,7 +80,7 @@ same-keys ts us same h R =
       first = universe-first us h (same (spaceKey 0) ∙ has-universe ts R);
       small = λ k e. R .small k (sym (same k) ∙ e);
       shaped = λ k e. R .shaped k (sym (same k) ∙ e);
-      nothingMissing = λ k e. supported-in ts us k (λ j f. same j ∙ f) (R .nothingMissing k (sym (same k) ∙ e))
+      nothingMissing = λ k e. supported-in ts us k (λ j f. same j ∙ f) (R .nothingMissing k (sym (same k) ∙ e));
     }
 
 pub assign-rules : (k : Key) (v : Value) (ts : Tuples) → TupleRules ts → TupleRules (assign k v ts)
@@ -113,13 +107,15 @@ addAll-rules ks ts R new =
       small = λ k e. ⊎-elim (λ f. new k f .small) (λ f. R .small k f) (from k e);
       shaped = λ k e. ⊎-elim (λ f. new k f .shaped) (λ f. R .shaped k f) (from k e);
       nothingMissing =
-          λ k e. ⊎-elim (λ f. new k f .supported) (λ f. supported-in ts (addAll ks ts) k kept (R .nothingMissing k f)) (from k e)
+          λ k e. ⊎-elim (λ f. new k f .supported) (λ f. supported-in ts (addAll ks ts) k kept (R .nothingMissing k f)) (from k e);
     }
   where
     h : Ascending keyOf compareKeys (addAll ks ts)
     h = addAll-ascending ks ts (R .ascends)
+
     kept : (j : Key) → Has j ts → Has j (addAll ks ts)
     kept j e = present-addAll j ks ts ∙ or-right (among j ks) (present j ts) e
+
     from : (k : Key) → Has k (addAll ks ts) → (among k ks ≡ true) ⊎ Has k ts
     from k e = or-cases (among k ks) (present k ts) (sym (present-addAll k ks ts) ∙ e)
 
@@ -143,31 +139,36 @@ remove-rules takes ts F R =
       shaped = λ k e. R .shaped k (was k e);
       nothingMissing =
           λ k e.
-            let S = R .nothingMissing k (was k e) in
-            record {
-              node =
-                  λ a b.
-                    let d = S .node a b in
-                    let f = F .node k a b in
-                    (too k e (spaceKey (k .s)) (d .0) (f .0), too k e (nodeKey 0 (k .n)) (d .1) (f .1));
-              edge =
-                  λ a.
-                    let d = S .edge a in
-                    let f = F .edge k a in
-                    (too k e (nodeKey (k .s) (k .n)) (d .0) (f .0),
-                    too k e (nodeKey (k .s) (k .m)) (d .1) (f .1),
-                    too k e (edgeKey 0 (k .n) (k .g) (k .m)) (d .2) (f .2))
-            }
+          let S = R .nothingMissing k (was k e) in
+          record {
+            node =
+                λ a b.
+                let d = S .node a b in
+                let f = F .node k a b in
+                (too k e (spaceKey (k .s)) (d .0) (f .0), too k e (nodeKey 0 (k .n)) (d .1) (f .1));
+            edge =
+                λ a.
+                let d = S .edge a in
+                let f = F .edge k a in (
+                  too k e (nodeKey (k .s) (k .n)) (d .0) (f .0),
+                  too k e (nodeKey (k .s) (k .m)) (d .1) (f .1),
+                  too k e (edgeKey 0 (k .n) (k .g) (k .m)) (d .2) (f .2),
+                );
+          };
     }
   where
     h : Ascending keyOf compareKeys (remove takes ts)
     h = remove-ascending takes ts (R .ascends)
+
     was : (k : Key) → Has k (remove takes ts) → Has k ts
     was k e = and-left (present k ts) (not (takes k)) (sym (present-remove k takes ts) ∙ e)
+
     left : (k : Key) → Has k (remove takes ts) → takes k ≡ false
     left k e = not-yes (takes k) (and-right (present k ts) (not (takes k)) (sym (present-remove k takes ts) ∙ e))
+
     stays : (k : Key) → Has k ts → takes k ≡ false → Has k (remove takes ts)
     stays k e f = present-remove k takes ts ∙ and-both (present k ts) (not (takes k)) e (no-not (takes k) f)
+
     -- where the key k is left, so is a key that would take k along
     too : (k : Key) → Has k (remove takes ts) → (j : Key) → Has j ts → (takes j ≡ true → takes k ≡ true) → Has j (remove takes ts)
     too k e j has along = stays j has (failed (takes j) (λ t. clash (along t) (left k e)))

@@ -1,31 +1,30 @@
 -- Every step keeps the state good: strictly ascending, with (0,0,0,0) first, nothing naming a missing node or space, at most C tuples.
 use mathlib.Core.Bool.{Bool, true, false, cond, not, _&&_, _||_, false≢true, true≢false}
-use mathlib.Core.List.{List, [], _∷_, _++_}
-use mathlib.Core.Logic.{_⊎_, inl, inr, ⊎-elim, _≢_, _↔_}
+use mathlib.Core.List.{List, [], _∷_}
+use mathlib.Core.Logic.{⊎-elim, _≢_}
 use mathlib.Core.Option.{Option, none, some}
 use mathlib.Core.Path.{_≡_, refl, sym, ap, _∙_, subst}
-use Prim.Native.Nat.{ℕ, zero, suc, _+_, _≤_, _<_}
+use Prim.Native.Nat.{ℕ, zero, suc, _+_, _≤_}
 use native.Mathlib.Omega.{arith}
 use lib.Dec.{eqb, ltb, leb}
 use lib.ListN.{length}
-use borrow.Author.Tests.{eqb-true, eqb-false, eq-eqb, ltb-true, ltb-false, leb-true, lt-ltb}
+use borrow.Author.Tests.{eqb-true, eqb-false, ltb-false, leb-true}
 use Rattle.model.specs.declared.Call.{Call}
 use Rattle.model.specs.declared.Space.{Space}
 use Rattle.model.specs.declared.Space.the-variants.{Universe, Numbered}
 use Rattle.model.specs.declared.Pair.{Pair}
 use Rattle.model.specs.Ordered.{holds}
 use Rattle.model.specs.Keys.{mostName, Key, spaceKey, nodeKey, edgeKey, sameKey}
-use Rattle.model.specs.Tuples.{Tuples, fresh, present, addAll, missing, assign, assignAll, remove}
-use Rattle.model.specs.Operators.{Direction, outpointing, inpointing, adjacent, Object, Removal, Listing, Operator, create, bind, value, exists, destroy, list, table, operatorOf, within, readsOf}
-use Rattle.model.specs.Pairs.{pair, edgeOf, nodeOf, member, pairsOf, nodeNames, only, withEdge}
-use Rattle.model.specs.Steps.{Reply, refusal, spaceNumber, nOf, gOf, mOf, vOf, sOf, objectKeys, created, edgesTaken, nodeTaken, removeNodes, spaceTaken, destroyed, wouldList, wouldAdd, reply, after}
+use Rattle.model.specs.Tuples.{Tuples, present, addAll, missing, assign, assignAll, remove}
+use Rattle.model.specs.Operators.{Direction, outpointing, inpointing, adjacent, Object, Removal, Operator, create, bind, value, exists, destroy, list, table, operatorOf, within, readsOf}
+use Rattle.model.specs.Pairs.{pair, nodeOf, member, pairsOf, nodeNames, withEdge}
+use Rattle.model.specs.Steps.{spaceNumber, nOf, gOf, mOf, vOf, sOf, objectKeys, created, nodeTaken, removeNodes, destroyed, wouldAdd, after}
 use Rattle.model.specs.Refusals.{Stop, first, zeroSpace, isUniverse, noOperator, zeroName, destroysUniverse, spaceAbsent, nodeAbsent, secondAbsent, edgeAbsent, listShort, full, ofCall, ofTuples, earlier, refusalOf}
-use Rattle.model.specs.Machine.{Outcome, FieldsFit, outcomeOf, machine}
+use Rattle.model.specs.Machine.{FieldsFit, outcomeOf, machine}
 use Rattle.model.specs.Buffer.{everyRecord}
-use Rattle.model.specs.Rules.{Has, Supported, Small, Shaped, TupleRules}
+use Rattle.model.specs.Rules.{Has, Small, TupleRules}
 use Rattle.model.specs.Entries.{Outpointing, Inpointing, IsPair}
-use Rattle.model.specs.OneCall.{writes}
-use Rattle.model.proofs.Bools.{or-cases, or-left, or-right, or-no-left, or-no-right, and-left, and-right, and-both, and-no, not-no, clash}
+use Rattle.model.proofs.Bools.{or-cases, or-left, or-right, or-no-left, or-no-right, and-left, and-right, and-both, and-no, not-no}
 use Rattle.model.proofs.Tuples.{same-key, own-key, among, present-addAll, length-addAll, length-remove, length-assign}
 use Rattle.model.proofs.Rules.{has-universe, assignAll-rules, Fitting, addAll-rules, remove-rules}
 use Rattle.model.proofs.Taken.{edges-fair, node-fair, EveryPair, NodeNamed, removeNodes-rules, space-fair}
@@ -76,7 +75,7 @@ passed C ts c room e =
       second = p7 .0;
       edge = p8 .0;
       list = p9 .0;
-      records = p10 .0
+      records = p10 .0;
     }
 
 -- ---- what the table of operators and the ranges of numbers say of each other
@@ -189,7 +188,7 @@ edge-fits us x a g b S ha hg hb from to universe =
     record {
       small = S;
       shaped = record { named = λ z. absurd (ha z); ends = (λ z. absurd (hg z), λ z. absurd (hb z)) };
-      supported = record { node = λ h z. absurd (hg z); edge = λ h. (from, to, universe) }
+      supported = record { node = λ h z. absurd (hg z); edge = λ h. (from, to, universe) };
     }
 
 node-fits : (us : Tuples) (x n : ℕ) → Small (nodeKey x n) → n ≢ 0 → Has (spaceKey x) us → Has (nodeKey 0 n) us → Fitting us (nodeKey x n)
@@ -197,7 +196,7 @@ node-fits us x n S h space universe =
     record {
       small = S;
       shaped = record { named = λ z. absurd (h z); ends = (λ z. refl, λ z. refl) };
-      supported = record { node = λ a b. (space, universe); edge = λ a. absurd (a refl) }
+      supported = record { node = λ a b. (space, universe); edge = λ a. absurd (a refl) };
     }
 
 space-fits : (us : Tuples) (x : ℕ) → Small (spaceKey x) → Fitting us (spaceKey x)
@@ -205,7 +204,7 @@ space-fits us x S =
     record {
       small = S;
       shaped = record { named = λ z. (refl, refl); ends = (λ z. refl, λ z. refl) };
-      supported = record { node = λ a b. absurd (a refl); edge = λ a. absurd (a refl) }
+      supported = record { node = λ a b. absurd (a refl); edge = λ a. absurd (a refl) };
     }
 
 abbrev EveryKey : (Key → Type 0) → List Key → Type 0
@@ -304,9 +303,10 @@ module _ (ts : Tuples) (R : TupleRules ts) (c : Call) (F : FieldsFit c) where
         let e = there j k (j ∷ []) (here j []) in
         let S : Small k = record { s = F .s; n = F .n; g = zero-small; m = zero-small } in
         let S₀ : Small j = record { s = zero-small; n = F .n; g = zero-small; m = zero-small } in
-        add-fitting ks
-        (node-fits (addAll ks ts) (sOf c) (nOf c) S hn (kept ks _ Hs) (new ks j e),
-        (node-fits (addAll ks ts) 0 (nOf c) S₀ hn (kept ks _ (has-universe ts R)) (new ks j e), tt))
+        add-fitting ks (
+          node-fits (addAll ks ts) (sOf c) (nOf c) S hn (kept ks _ Hs) (new ks j e),
+          (node-fits (addAll ks ts) 0 (nOf c) S₀ hn (kept ks _ (has-universe ts R)) (new ks j e), tt),
+        )
 
   space-rules : TupleRules (addAll (created Object.US c) ts)
   unfolding created objectKeys
@@ -327,8 +327,10 @@ pair-named d s n ts R p = go d
   where
     out : Outpointing s n ts p → NodeNamed p
     out h z = h .0 (R .shaped _ (h .1) .ends .1 z)
+
     in′ : Inpointing s n ts p → NodeNamed p
     in′ h z = h .0 (R .shaped _ (h .1) .named z .0)
+
     go : (d : Direction) → IsPair d s n ts p → NodeNamed p
     go outpointing h = out h
     go inpointing h = in′ h
@@ -431,5 +433,5 @@ machine-good C ts c room F G = go (refusalOf C ts c room) refl
         let P = passed C ts c room e in
         record {
           rules = after-rules (operatorOf (c .operator)) C ts c room (G .rules) F P (agree c (P .operator));
-          fits = after-length (operatorOf (c .operator)) C ts c (G .rules) (G .fits) (P .records)
+          fits = after-length (operatorOf (c .operator)) C ts c (G .rules) (G .fits) (P .records);
         }

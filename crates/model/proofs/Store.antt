@@ -4,16 +4,16 @@ use mathlib.Core.List.{List, [], _∷_, _++_, map}
 use mathlib.Core.Logic.{_↔_, _≢_, ⊎-elim}
 use mathlib.Core.Option.{Option, none, some}
 use mathlib.Core.Path.{_≡_, refl, sym, ap, ap₂, _∙_, subst}
-use Prim.Native.Nat.{ℕ, zero, suc, _+_, _≤_, _<_}
+use Prim.Native.Nat.{ℕ, zero, suc, _+_, _≤_}
 use native.Mathlib.Omega.{arith}
 use lib.Dec.{eqb, leb}
 use lib.ListN.{length}
 use borrow.Author.Tests.{eqb-true, eqb-false, eq-eqb, ne-eqb, leb-true, le-leb}
-use Rattle.model.specs.Ordered.{holds, ascendsFrom, Above, Ascending}
-use Rattle.model.specs.Keys.{mostName, Key, Tuple, keyOf, spaceKey, nodeKey, edgeKey, isNode, isEdge, compareKeys, sameKey}
+use Rattle.model.specs.Ordered.{holds, Ascending}
+use Rattle.model.specs.Keys.{mostName, Key, keyOf, spaceKey, nodeKey, isNode, isEdge, compareKeys, sameKey}
 use Rattle.model.specs.Tuples.{Tuples, present}
 use Rattle.model.specs.Buffer.{word, leastLength, mostLength, fitsLength, capacityOf, next, tupleAt, walk, ends, orNothing, usedChain, freeChain, usedOf, freeOf, tuplesOf, count, everyRecord, ascendsFromUniverse, smallKey, noEdgeWithoutNode, edgeHasEnd, nodeSupported, edgeSupported, everyKey, sound, isStore}
-use Rattle.model.specs.Rules.{Has, Supported, Small, Shaped, firstKey, TupleRules, Chain, StoreRules, IsStore}
+use Rattle.model.specs.Rules.{Has, Supported, Small, Shaped, firstKey, TupleRules, StoreRules, IsStore}
 use Rattle.model.proofs.Bools.{or-cases, or-left, or-right, and-left, and-right, and-both, not-yes, no-not, clash}
 use Rattle.model.proofs.Order.{keys}
 use Rattle.model.proofs.Ordered.{test-above, above-test}
@@ -55,7 +55,7 @@ small-yes k e =
       s = leb-true (k .s) mostName (and-left (leb (k .s) mostName) _ e);
       n = leb-true (k .n) mostName (and-left (leb (k .n) mostName) _ e₁);
       g = leb-true (k .g) mostName (and-left (leb (k .g) mostName) (leb (k .m) mostName) e₂);
-      m = leb-true (k .m) mostName (and-right (leb (k .g) mostName) (leb (k .m) mostName) e₂)
+      m = leb-true (k .m) mostName (and-right (leb (k .g) mostName) (leb (k .m) mostName) e₂);
     }
 
 yes-small : (k : Key) → Small k → smallKey k ≡ true
@@ -74,6 +74,7 @@ shaped-yes k e f = record { named = named; ends = ends′ (eqb (k .g) 0) refl f 
         ⊎-elim (λ a. absurd (clash (eq-eqb (k .n) 0 z) (not-yes (eqb (k .n) 0) a)))
         (λ a. (eqb-true (k .g) 0 (and-left (eqb (k .g) 0) (eqb (k .m) 0) a), eqb-true (k .m) 0 (and-right (eqb (k .g) 0) (eqb (k .m) 0) a)))
         (or-cases (not (eqb (k .n) 0)) (eqb (k .g) 0 && eqb (k .m) 0) e)
+
     ends′ : (b : Bool) → eqb (k .g) 0 ≡ b → cond b (eqb (k .m) 0) (not (eqb (k .m) 0)) ≡ true → (k .g ≡ 0) ↔ (k .m ≡ 0)
     ends′ true a h = (λ z. eqb-true (k .m) 0 h, λ z. eqb-true (k .g) 0 a)
     ends′ false a h = (λ z. absurd (eqb-false (k .g) 0 a z), λ z. absurd (eqb-false (k .m) 0 (not-yes (eqb (k .m) 0) h) z))
@@ -117,15 +118,16 @@ supported-yes ts k e f =
     record {
       node =
           λ a b.
-            let h = then-yes (isNode k) _ e (is-node k a b) in
-            (and-left (present (spaceKey (k .s)) ts) _ h, and-right (present (spaceKey (k .s)) ts) _ h);
+          let h = then-yes (isNode k) _ e (is-node k a b) in
+          (and-left (present (spaceKey (k .s)) ts) _ h, and-right (present (spaceKey (k .s)) ts) _ h);
       edge =
           λ a.
-            let h = then-yes (isEdge k) _ f (is-edge k a) in
-            let h₁ = and-right (present (nodeKey (k .s) (k .n)) ts) _ h in
-            (and-left (present (nodeKey (k .s) (k .n)) ts) _ h,
+          let h = then-yes (isEdge k) _ f (is-edge k a) in
+          let h₁ = and-right (present (nodeKey (k .s) (k .n)) ts) _ h in (
+            and-left (present (nodeKey (k .s) (k .n)) ts) _ h,
             and-left (present (nodeKey (k .s) (k .m)) ts) _ h₁,
-            and-right (present (nodeKey (k .s) (k .m)) ts) _ h₁)
+            and-right (present (nodeKey (k .s) (k .m)) ts) _ h₁,
+          );
     }
 
 yes-node : (ts : Tuples) (k : Key) → Supported ts k → nodeSupported ts k ≡ true
@@ -133,27 +135,28 @@ unfolding nodeSupported
 yes-node ts k S =
     yes-then (isNode k) _
     (λ e.
-      let d =
-            S .node (eqb-false (k .n) 0 (not-yes (eqb (k .n) 0) (and-left (not (eqb (k .n) 0)) (eqb (k .g) 0) e)))
-            (eqb-true (k .g) 0 (and-right (not (eqb (k .n) 0)) (eqb (k .g) 0) e)) in
-      and-both (present (spaceKey (k .s)) ts) _ (d .0) (d .1))
+    let d =
+    S .node (eqb-false (k .n) 0 (not-yes (eqb (k .n) 0) (and-left (not (eqb (k .n) 0)) (eqb (k .g) 0) e)))
+    (eqb-true (k .g) 0 (and-right (not (eqb (k .n) 0)) (eqb (k .g) 0) e)) in
+    and-both (present (spaceKey (k .s)) ts) _ (d .0) (d .1))
 
 yes-edge : (ts : Tuples) (k : Key) → Supported ts k → edgeSupported ts k ≡ true
 unfolding edgeSupported
 yes-edge ts k S =
     yes-then (isEdge k) _
     (λ e.
-      let d = S .edge (eqb-false (k .g) 0 (not-yes (eqb (k .g) 0) e)) in
-      and-both (present (nodeKey (k .s) (k .n)) ts) _ (d .0) (and-both (present (nodeKey (k .s) (k .m)) ts) _ (d .1) (d .2)))
+    let d = S .edge (eqb-false (k .g) 0 (not-yes (eqb (k .g) 0) e)) in
+    and-both (present (nodeKey (k .s) (k .n)) ts) _ (d .0) (and-both (present (nodeKey (k .s) (k .m)) ts) _ (d .1) (d .2)))
 
 -- ---- the rules on the tuples
 
 from-universe-yes : (ts : Tuples) → ascendsFromUniverse ts ≡ true → Ascending keyOf compareKeys ts × (firstKey ts ≡ some (spaceKey 0))
 unfolding ascendsFromUniverse
 from-universe-yes [] e = absurd (false≢true e)
-from-universe-yes (t ∷ ts) e =
-    (test-above keyOf compareKeys keys (t .key) ts (and-right (sameKey (t .key) (spaceKey 0)) _ e),
-    ap some (same-key (t .key) (spaceKey 0) (and-left (sameKey (t .key) (spaceKey 0)) _ e)))
+from-universe-yes (t ∷ ts) e = (
+  test-above keyOf compareKeys keys (t .key) ts (and-right (sameKey (t .key) (spaceKey 0)) _ e),
+  ap some (same-key (t .key) (spaceKey 0) (and-left (sameKey (t .key) (spaceKey 0)) _ e)),
+)
 
 yes-from-universe : (ts : Tuples) → Ascending keyOf compareKeys ts → firstKey ts ≡ some (spaceKey 0) → ascendsFromUniverse ts ≡ true
 unfolding ascendsFromUniverse
@@ -170,8 +173,8 @@ yes-from-universe (t ∷ ts) h e =
 
 pub sound-exactly : (ts : Tuples) → (sound ts ≡ true) ↔ TupleRules ts
 unfolding sound
-sound-exactly ts =
-    (λ e.
+sound-exactly ts = (
+  λ e.
       let e₁ = and-right (ascendsFromUniverse ts) _ e in
       let e₂ = and-right (everyKey smallKey ts) _ e₁ in
       let e₃ = and-right (everyKey noEdgeWithoutNode ts) _ e₂ in
@@ -183,20 +186,21 @@ sound-exactly ts =
         small = λ k h. small-yes k (every-key smallKey ts (and-left (everyKey smallKey ts) _ e₁) k h);
         shaped =
             λ k h.
-              shaped-yes k (every-key noEdgeWithoutNode ts (and-left (everyKey noEdgeWithoutNode ts) _ e₂) k h)
-              (every-key edgeHasEnd ts (and-left (everyKey edgeHasEnd ts) _ e₃) k h);
+            shaped-yes k (every-key noEdgeWithoutNode ts (and-left (everyKey noEdgeWithoutNode ts) _ e₂) k h)
+            (every-key edgeHasEnd ts (and-left (everyKey edgeHasEnd ts) _ e₃) k h);
         nothingMissing =
             λ k h.
-              supported-yes ts k (every-key (nodeSupported ts) ts (and-left (everyKey (nodeSupported ts) ts) _ e₄) k h)
-              (every-key (edgeSupported ts) ts (and-right (everyKey (nodeSupported ts) ts) _ e₄) k h)
+            supported-yes ts k (every-key (nodeSupported ts) ts (and-left (everyKey (nodeSupported ts) ts) _ e₄) k h)
+            (every-key (edgeSupported ts) ts (and-right (everyKey (nodeSupported ts) ts) _ e₄) k h);
       },
-    λ R.
+  λ R.
       and-both (ascendsFromUniverse ts) _ (yes-from-universe ts (R .ascends) (R .first))
       (and-both (everyKey smallKey ts) _ (key-every smallKey ts (λ k h. yes-small k (R .small k h)))
       (and-both (everyKey noEdgeWithoutNode ts) _ (key-every noEdgeWithoutNode ts (λ k h. yes-named k (R .shaped k h)))
       (and-both (everyKey edgeHasEnd ts) _ (key-every edgeHasEnd ts (λ k h. yes-ends k (R .shaped k h)))
       (and-both (everyKey (nodeSupported ts) ts) _ (key-every (nodeSupported ts) ts (λ k h. yes-node ts k (R .nothingMissing k h)))
-      (key-every (edgeSupported ts) ts (λ k h. yes-edge ts k (R .nothingMissing k h))))))))
+      (key-every (edgeSupported ts) ts (λ k h. yes-edge ts k (R .nothingMissing k h))))))),
+)
 
 -- ---- a store
 
@@ -243,11 +247,11 @@ store-rules b e =
       freeChain = walk-chain (next b) C (word b 2) (freeOf b) (ends-some (freeChain b) (and-left (ends (freeChain b)) _ e₇));
       once =
           λ i h k.
-            eqb-true (count i (usedOf b ++ freeOf b)) 1
-            (every-record (λ (i : ℕ). eqb (count i (usedOf b ++ freeOf b)) 1) C
-            (and-left (everyRecord (λ (i : ℕ). eqb (count i (usedOf b ++ freeOf b)) 1) C) _ e₈) i h k);
+          eqb-true (count i (usedOf b ++ freeOf b)) 1
+          (every-record (λ (i : ℕ). eqb (count i (usedOf b ++ freeOf b)) 1) C
+          (and-left (everyRecord (λ (i : ℕ). eqb (count i (usedOf b ++ freeOf b)) 1) C) _ e₈) i h k);
       counted = eqb-true (word b 3) (length (usedOf b)) (and-left (eqb (word b 3) (length (usedOf b))) _ e₉);
-      tuples = sound-exactly (tuplesOf b) .0 (and-right (eqb (word b 3) (length (usedOf b))) _ e₉)
+      tuples = sound-exactly (tuplesOf b) .0 (and-right (eqb (word b 3) (length (usedOf b))) _ e₉);
     }
 
 -- ---- from the rules to the test
@@ -292,8 +296,8 @@ rules-store b used free R =
     (and-both (everyRecord (λ (i : ℕ). eqb (count i (usedOf b ++ freeOf b)) 1) C) _
     (record-every (λ (i : ℕ). eqb (count i (usedOf b ++ freeOf b)) 1) C
     (λ i h k.
-      eq-eqb (count i (usedOf b ++ freeOf b)) 1
-      (ap₂ (λ (x y : List ℕ). count i (x ++ y)) (rules-used b used free R) (rules-free b used free R) ∙ R .once i h k)))
+    eq-eqb (count i (usedOf b ++ freeOf b)) 1
+    (ap₂ (λ (x y : List ℕ). count i (x ++ y)) (rules-used b used free R) (rules-free b used free R) ∙ R .once i h k)))
     (and-both (eqb (word b 3) (length (usedOf b))) _
     (eq-eqb (word b 3) (length (usedOf b)) (R .counted ∙ ap length (sym (rules-used b used free R))))
     (sound-exactly (tuplesOf b) .1 (subst TupleRules (sym (rules-tuples b used free R)) (R .tuples)))))))))))

@@ -1,8 +1,8 @@
 -- What each D operator takes is fair: with a tuple it takes all that names it (specs/Steps.antt).
-use mathlib.Core.Bool.{Bool, true, false, _&&_, _||_, and-false, false≢true}
+use mathlib.Core.Bool.{Bool, true, false, _&&_, _||_, and-false}
 use mathlib.Core.List.{List, [], _∷_}
 use mathlib.Core.Logic.{⊎-elim, _≢_}
-use mathlib.Core.Path.{_≡_, refl, sym, ap, ap₂, _∙_, subst}
+use mathlib.Core.Path.{_≡_, refl, sym, ap, _∙_}
 use Prim.Native.Nat.{ℕ}
 use lib.Dec.{eqb}
 use borrow.Author.Tests.{eqb-true, eq-eqb, ne-eqb}
@@ -52,16 +52,17 @@ edges-fair d s n p =
       universe = node-not-taken d s n p 0 0;
       node =
           λ k a b.
-            (λ t. absurd (clash t (node-not-taken d s n p (k .s) 0)), λ t. absurd (clash t (node-not-taken d s n p 0 (k .n))));
+          (λ t. absurd (clash t (node-not-taken d s n p (k .s) 0)), λ t. absurd (clash t (node-not-taken d s n p 0 (k .n))));
       edge =
-          λ k a.
-            (λ t. absurd (clash t (node-not-taken d s n p (k .s) (k .n))),
+          λ k a. (
+            λ t. absurd (clash t (node-not-taken d s n p (k .s) (k .n))),
             λ t. absurd (clash t (node-not-taken d s n p (k .s) (k .m))),
             λ t.
-              let j : Key = edgeKey 0 (k .n) (k .g) (k .m) in
-              and-both (reaches s k) (anyPair p (pairsAt d n k))
-              (reaches-all s j k refl (and-left (reaches s j) (anyPair p (pairsAt d n j)) t))
-              (ap (anyPair p) (sym (pairs-anywhere d n k)) ∙ and-right (reaches s j) (anyPair p (pairsAt d n j)) t))
+                let j : Key = edgeKey 0 (k .n) (k .g) (k .m) in
+                and-both (reaches s k) (anyPair p (pairsAt d n k))
+                (reaches-all s j k refl (and-left (reaches s j) (anyPair p (pairsAt d n j)) t))
+                (ap (anyPair p) (sym (pairs-anywhere d n k)) ∙ and-right (reaches s j) (anyPair p (pairsAt d n j)) t),
+          );
     }
 
 -- ---- nodes
@@ -86,28 +87,30 @@ node-fair s n h =
     record {
       universe = space-not-taken s n 0 h;
       node =
-          λ k a b.
-            (λ t. absurd (clash t (space-not-taken s n (k .s) h)),
+          λ k a b. (
+            λ t. absurd (clash t (space-not-taken s n (k .s) h)),
             λ t.
-              let j : Key = nodeKey 0 (k .n) in
-              and-both (reaches s k) (eqb (k .n) n || eqb (k .m) n)
-              (reaches-all s j k refl (and-left (reaches s j) (eqb (j .n) n || eqb (j .m) n) t))
-              (or-left (eqb (k .n) n) (eqb (k .m) n) (taken-is-n s n 0 (k .n) h t)));
+                let j : Key = nodeKey 0 (k .n) in
+                and-both (reaches s k) (eqb (k .n) n || eqb (k .m) n)
+                (reaches-all s j k refl (and-left (reaches s j) (eqb (j .n) n || eqb (j .m) n) t))
+                (or-left (eqb (k .n) n) (eqb (k .m) n) (taken-is-n s n 0 (k .n) h t)),
+          );
       edge =
-          λ k a.
-            (λ t.
-              and-both (reaches s k) (eqb (k .n) n || eqb (k .m) n)
-              (and-left (reaches s k) (eqb (k .n) n || eqb 0 n) t)
-              (or-left (eqb (k .n) n) (eqb (k .m) n) (taken-is-n s n (k .s) (k .n) h t)),
+          λ k a. (
             λ t.
-              and-both (reaches s k) (eqb (k .n) n || eqb (k .m) n)
-              (and-left (reaches s k) (eqb (k .m) n || eqb 0 n) t)
-              (or-right (eqb (k .n) n) (eqb (k .m) n) (taken-is-n s n (k .s) (k .m) h t)),
+                and-both (reaches s k) (eqb (k .n) n || eqb (k .m) n)
+                (and-left (reaches s k) (eqb (k .n) n || eqb 0 n) t)
+                (or-left (eqb (k .n) n) (eqb (k .m) n) (taken-is-n s n (k .s) (k .n) h t)),
             λ t.
-              let j : Key = edgeKey 0 (k .n) (k .g) (k .m) in
-              and-both (reaches s k) (eqb (k .n) n || eqb (k .m) n)
-              (reaches-all s j k refl (and-left (reaches s j) (eqb (k .n) n || eqb (k .m) n) t))
-              (and-right (reaches s j) (eqb (k .n) n || eqb (k .m) n) t))
+                and-both (reaches s k) (eqb (k .n) n || eqb (k .m) n)
+                (and-left (reaches s k) (eqb (k .m) n || eqb 0 n) t)
+                (or-right (eqb (k .n) n) (eqb (k .m) n) (taken-is-n s n (k .s) (k .m) h t)),
+            λ t.
+                let j : Key = edgeKey 0 (k .n) (k .g) (k .m) in
+                and-both (reaches s k) (eqb (k .n) n || eqb (k .m) n)
+                (reaches-all s j k refl (and-left (reaches s j) (eqb (k .n) n || eqb (k .m) n) t))
+                (and-right (reaches s j) (eqb (k .n) n || eqb (k .m) n) t),
+          );
     }
 
 -- each of the pairs has such a property
@@ -133,5 +136,5 @@ space-fair s h =
     record {
       universe = zero;
       node = λ k a b. (λ t. t, λ t. absurd (clash t zero));
-      edge = λ k a. (λ t. t, λ t. t, λ t. absurd (clash t zero))
+      edge = λ k a. (λ t. t, λ t. t, λ t. absurd (clash t zero));
     }

@@ -1,17 +1,15 @@
 -- Laws of what a step can do to the machine's state (specs/Tuples.antt): which keys are present afterwards, that keys still ascend, how many tuples there are.
-use mathlib.Core.Bool.{Bool, true, false, cond, not, _&&_, _||_, false≢true, and-false}
+use mathlib.Core.Bool.{Bool, true, false, cond, not, _&&_, _||_, and-false}
 use mathlib.Core.List.{List, [], _∷_}
-use mathlib.Core.Logic.{_⊎_, inl, inr, ⊎-elim}
 use mathlib.Core.Path.{_≡_, refl, sym, ap, ap₂, _∙_, subst}
-use Prim.Native.Nat.{ℕ, suc, _+_, _≤_, Ordering, Ordering·lt}
+use Prim.Native.Nat.{suc, _+_, _≤_, Ordering·lt}
 use native.Mathlib.Nat.{add-zero}
 use native.Mathlib.Omega.{arith}
-use lib.Dec.{isEq}
 use lib.ListN.{length}
 use Rattle.model.specs.Ordered.{holds, Above, Ascending}
 use Rattle.model.specs.Keys.{Value, NIL, Key, Tuple, keyOf, compareKeys, sameKey}
-use Rattle.model.specs.Tuples.{Tuples, present, add, addAll, missing, assign, assignAll, remove}
-use Rattle.model.proofs.Bools.{or-cases, or-left, or-right, clash, failed}
+use Rattle.model.specs.Tuples.{Tuples, present, add, addAll, missing, assign, remove}
+use Rattle.model.proofs.Bools.{or-left}
 use Rattle.model.proofs.Order.{keys}
 use Rattle.model.proofs.Ordered.{at-element, self, holds-put, above-less, ascending-tail, put-ascending, put-held, put-length}
 
@@ -63,6 +61,7 @@ length-addAll (k ∷ ks) ts h = go (present k ts) refl (length-addAll ks ts h) (
   where
     new : Tuple
     new = record { key = k; value = NIL }
+
     go : (b : Bool) → present k ts ≡ b → length (addAll ks ts) ≡ length ts + length (missing ks ts)
         → length (addAll ks (add k ts)) ≡ length (add k ts) + length (missing ks (add k ts))
         → length (addAll ks (add k ts)) ≡ length ts + length (cond b (missing ks ts) (k ∷ missing ks (add k ts)))
@@ -105,6 +104,7 @@ missing-once (k ∷ ks) ts = go (present k ts) (missing-once ks ts) (missing-onc
   where
     taken : present k (add k ts) ≡ true
     taken = present-add k k ts ∙ or-left (sameKey k k) (present k ts) (own-key k)
+
     go : (b : Bool) → Once (missing ks ts) → Once (missing ks (add k ts)) → Once (cond b (missing ks ts) (k ∷ missing ks (add k ts)))
     go true here there = here
     go false here there =

@@ -1,23 +1,29 @@
--- Document 01, "Marked for proof": cases (a) to (j) in one conjunction. proofs/Cases.antt proves it by computation.
+-- Examples: document 01's cases (a) to (j), "Marked for proof", in one conjunction; its table of sixteen script lines; which refusal wins.
+-- proofs/Cases.antt proves them by computation.
+use mathlib.Core.Bool.{false}
 use mathlib.Core.List.{List, [], _∷_}
 use mathlib.Core.Path.{_≡_}
 use Prim.Native.Nat.{ℕ}
 use lib.ListN.{length}
 use Rattle.model.specs.declared.Space.{Space}
 use Rattle.model.specs.declared.Space.the-variants.{Universe, Numbered}
-use Rattle.model.specs.Keys.{NIL, Key, Tuple, spaceKey, nodeKey, edgeKey}
+use Rattle.model.specs.Keys.{Value, NIL, Key, Tuple, spaceKey, nodeKey, edgeKey}
 use Rattle.model.specs.Tuples.{fresh}
-use Rattle.model.specs.Steps.{refusal, name, pairs}
+use Rattle.model.specs.Pairs.{pair}
+use Rattle.model.specs.Steps.{Reply, refusal, name, valued, yesNo, pairs}
 use Rattle.model.specs.Machine.{State, Request, answers, final}
 
 -- ---- calls as a script writes them, with an answer list of so many places
 
-abbrev pub call : ℕ → ℕ → ℕ → ℕ → Space → Request
-call operator n g m s =
+abbrev pub callWith : ℕ → ℕ → ℕ → ℕ → Value → Space → Request
+callWith operator n g m v s =
     record {
-      call = record { operator = operator; n = record { 0 = n }; g = record { 0 = g }; m = record { 0 = m }; v = 0; s = s };
-      room = 2048
+      call = record { operator = operator; n = record { 0 = n }; g = record { 0 = g }; m = record { 0 = m }; v = v; s = s };
+      room = 2048;
     }
+
+abbrev pub call : ℕ → ℕ → ℕ → ℕ → Space → Request
+call operator n g m s = callWith operator n g m 0 s
 
 abbrev pub numbered : ℕ → Space
 numbered s = Numbered (record { 0 = s })
@@ -28,11 +34,20 @@ COP n g m s = call 1 n g m s
 abbrev pub CAP : ℕ → ℕ → ℕ → Space → Request
 CAP n g m s = call 3 n g m s
 
+abbrev pub BOP : ℕ → ℕ → ℕ → Value → Space → Request
+BOP n g m v s = callWith 4 n g m v s
+
+abbrev pub VOP : ℕ → ℕ → ℕ → Space → Request
+VOP n g m s = call 7 n g m s
+
 abbrev pub DON : ℕ → Space → Request
 DON n s = call 24 n 0 0 s
 
 abbrev pub CUN : ℕ → Space → Request
 CUN n s = call 45 n 0 0 s
+
+abbrev pub XUN : ℕ → Space → Request
+XUN n s = call 48 n 0 0 s
 
 abbrev pub DUN : ℕ → Space → Request
 DUN n s = call 49 n 0 0 s
@@ -42,6 +57,9 @@ SUN s = call 50 0 0 0 s
 
 abbrev pub CUS : Space → Request
 CUS s = call 51 0 0 0 s
+
+abbrev pub DUS : Space → Request
+DUS s = call 55 0 0 0 s
 
 abbrev pub withRoom : ℕ → Request → Request
 withRoom room r = record { call = r .call; room = room }
@@ -91,3 +109,60 @@ pub record Cases : Type 0 where
   pub i : answers 2048 fresh (CUS Universe ∷ []) ≡ name 0 ∷ []
   -- a list of length 0 and k = 0: answered; k = 1: 9
   pub j : answers 2048 fresh (withRoom 0 (SUN Universe) ∷ CUN 1 Universe ∷ withRoom 0 (SUN Universe) ∷ []) ≡ pairs 0 [] ∷ name 1 ∷ refusal 9 ∷ []
+
+-- ---- the table of script lines, left columns first, then right
+
+abbrev pub scriptCalls : List Request
+scriptCalls =
+    CUN 1 Universe
+    ∷ CUN 2 Universe
+    ∷ CUS (numbered 9)
+    ∷ SUN (numbered 9)
+    ∷ SUN Universe
+    ∷ CUN 1 (numbered 9)
+    ∷ COP 1 5 2 (numbered 9)
+    ∷ COP 1 5 2 Universe
+    ∷ BOP 1 5 2 60 Universe
+    ∷ VOP 1 5 2 Universe
+    ∷ VOP 1 5 2 (numbered 9)
+    ∷ DUN 1 Universe
+    ∷ SUN Universe
+    ∷ XUN 1 (numbered 9)
+    ∷ DUS Universe
+    ∷ CUN 0 Universe
+    ∷ []
+
+abbrev pub scriptReplies : List Reply
+scriptReplies =
+    name 1
+    ∷ name 2
+    ∷ name 9
+    ∷ pairs 0 []
+    ∷ pairs 2 (pair 0 1 ∷ pair 0 2 ∷ [])
+    ∷ name 1
+    ∷ refusal 7
+    ∷ name 1
+    ∷ name 1
+    ∷ valued 60
+    ∷ refusal 7
+    ∷ name 1
+    ∷ pairs 1 (pair 0 2 ∷ [])
+    ∷ yesNo false
+    ∷ refusal 4
+    ∷ refusal 3
+    ∷ []
+
+abbrev pub ScriptTable : Type 0
+ScriptTable = answers 2048 fresh scriptCalls ≡ scriptReplies
+
+-- ---- "The first that applies wins"
+
+-- two conditions at once: 2 and 3; 3 and 5; 5 and 6; 6 and 7
+abbrev pub FirstWins : Type 0
+FirstWins =
+    answers 1 fresh (call 58 0 0 0 Universe ∷ CUN 0 (numbered 9) ∷ COP 1 5 2 (numbered 9) ∷ COP 1 5 2 Universe ∷ [])
+    ≡ refusal 2 ∷ refusal 3 ∷ refusal 5 ∷ refusal 6 ∷ []
+
+-- 7 and 8; 7 and 10 (the store is full)
+abbrev pub SecondNode : Type 0
+SecondNode = answers 2 fresh (CUN 1 Universe ∷ VOP 1 5 2 Universe ∷ COP 1 5 2 Universe ∷ []) ≡ name 1 ∷ refusal 7 ∷ refusal 7 ∷ []

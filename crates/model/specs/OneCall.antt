@@ -1,7 +1,7 @@
 -- All that one call does, on any buffer and with any answer list: the contract of the entry.
 use mathlib.Core.Bool.{Bool, true, false}
 use mathlib.Core.List.{List, _++_, map}
-use mathlib.Core.Option.{Option, some}
+use mathlib.Core.Option.{some}
 use mathlib.Core.Path.{_≡_}
 use Prim.Native.Nat.{ℕ, _+_, _*_, _/_, _%_}
 use lib.ListN.{length, take, drop}
@@ -13,7 +13,7 @@ use Rattle.model.specs.Operators.{Operator, create, bind, value, exists,
 use Rattle.model.specs.Pairs.{pair, edgeOf, nodeOf}
 use Rattle.model.specs.Steps.{Reply, refusal, name, valued, yesNo, pairs}
 use Rattle.model.specs.Refusals.{refusalOf}
-use Rattle.model.specs.Machine.{Outcome, machine}
+use Rattle.model.specs.Machine.{machine}
 use Rattle.model.specs.Buffer.{capacityOf, tuplesOf, isStore, pastRecords}
 
 -- ---- answers in the caller's types

@@ -7,7 +7,6 @@ use Prim.Native.Nat.{ℕ, _+_}
 use lib.Dec.{eqb, ltb}
 use lib.ListN.{length}
 use Rattle.model.specs.declared.Call.{Call}
-use Rattle.model.specs.declared.Reads.{Reads}
 use Rattle.model.specs.declared.Space.{Space}
 use Rattle.model.specs.declared.Space.the-variants.{Universe, Numbered}
 use Rattle.model.specs.Keys.{Key, spaceKey, nodeKey}

@@ -1,5 +1,5 @@
 -- Document 01, the column "step" of the table of operators: what each operator adds, sets, removes and answers.
-use mathlib.Core.Bool.{Bool, true, false, cond, _&&_, _||_}
+use mathlib.Core.Bool.{Bool, true, cond, _&&_, _||_}
 use mathlib.Core.List.{List, [], _∷_, _++_}
 use Prim.Native.Nat.{ℕ}
 use lib.Dec.{eqb}
@@ -9,7 +9,7 @@ use Rattle.model.specs.declared.Space.{Space}
 use Rattle.model.specs.declared.Space.the-variants.{Universe, Numbered}
 use Rattle.model.specs.declared.Pair.{Pair}
 use Rattle.model.specs.Keys.{Value, NIL, Key, spaceKey, nodeKey}
-use Rattle.model.specs.Tuples.{Tuples, present, anyPresent, valueAt, addAll, assignAll, remove}
+use Rattle.model.specs.Tuples.{Tuples, anyPresent, valueAt, addAll, assignAll, remove}
 use Rattle.model.specs.Operators.{Direction, Object, Removal, Listing, Operator, create, bind, value, exists, destroy, list, within}
 use Rattle.model.specs.Pairs.{edgeOf, nodeOf, pairsAt, pairsOf, edgeNames, nodeNames, withEdge, withNode, nodesIn, spacesIn, spacesWith, pairKeys, anyPair}
 
