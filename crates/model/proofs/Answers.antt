@@ -6,7 +6,8 @@ use mathlib.Core.Path.{_≡_, refl, sym, ap, _∙_, subst}
 use Prim.Native.Nat.{Ordering, Ordering·lt, Ordering·eq, Ordering·gt}
 use Rattle.model.specs.declared.Call.{Call}
 use Rattle.model.specs.Ordered.{byOrder, holds, put, Ascending}
-use Rattle.model.specs.Keys.{Value, NIL, Key, Tuple, keyOf, spaceKey, nodeKey, edgeKey, compareKeys, sameKey}
+use Rattle.model.specs.declared.Key.{Key}
+use Rattle.model.specs.Keys.{Value, NIL, Tuple, keyOf, spaceKey, nodeKey, edgeKey, compareKeys, sameKey}
 use Rattle.model.specs.Tuples.{Tuples, present, anyPresent, valueAt, add, assign, remove}
 use Rattle.model.specs.Operators.{outpointing, inpointing, adjacent, Object, create, exists}
 use Rattle.model.specs.Pairs.{pair}

@@ -9,7 +9,8 @@ use borrow.Author.Tests.{eqb-true, eqb-false, eq-eqb, ne-eqb}
 use Rattle.model.specs.declared.Call.{Call}
 use Rattle.model.specs.declared.Pair.{Pair}
 use Rattle.model.specs.Ordered.{holds, Ascending}
-use Rattle.model.specs.Keys.{Key, spaceKey, nodeKey, edgeKey, isNode, isEdge, sameKey}
+use Rattle.model.specs.declared.Key.{Key}
+use Rattle.model.specs.Keys.{spaceKey, nodeKey, edgeKey, isNode, isEdge, sameKey}
 use Rattle.model.specs.Tuples.{Tuples, present}
 use Rattle.model.specs.Operators.{Direction, outpointing, inpointing, adjacent, Listing}
 use Rattle.model.specs.Pairs.{pair, edgeOf, nodeOf, comparePairs, itself, member, ascending, gather, onlyIf, outPair, inPair, pairsAt, pairsOf, edgeNames, nodeNames, only, withEdge, withNode, nodesIn, spacesIn, spacesWith}

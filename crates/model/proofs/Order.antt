@@ -5,7 +5,8 @@ use native.Mathlib.Omega.{arith}
 use lib.Dec.{isLe, isEq}
 use borrow.Author.Tests.{leb-true, leb-false, eqb-true, eqb-false}
 use Rattle.model.specs.Ordered.{thenBy}
-use Rattle.model.specs.Keys.{Key, compareKeys}
+use Rattle.model.specs.declared.Key.{Key}
+use Rattle.model.specs.Keys.{compareKeys}
 use Rattle.model.specs.Pairs.{comparePairs, edgeOf, nodeOf}
 
 -- ---- orderings

@@ -7,7 +7,8 @@ use mathlib.Core.Path.{_≡_, refl, sym, ap, _∙_, subst}
 use Prim.Native.Nat.{ℕ, compare, Ordering, Ordering·lt, Ordering·eq, Ordering·gt}
 use native.Mathlib.Omega.{arith}
 use Rattle.model.specs.Ordered.{thenBy, holds, Ascending}
-use Rattle.model.specs.Keys.{Value, Key, keyOf, spaceKey, nodeKey, edgeKey, compareKeys, sameKey}
+use Rattle.model.specs.declared.Key.{Key}
+use Rattle.model.specs.Keys.{Value, keyOf, spaceKey, nodeKey, edgeKey, compareKeys, sameKey}
 use Rattle.model.specs.Tuples.{Tuples, present, addAll, assign, assignAll, remove}
 use Rattle.model.specs.Rules.{Has, Supported, Small, Shaped, firstKey, TupleRules}
 use Rattle.model.proofs.Bools.{or-cases, or-left, or-right, and-left, and-right, and-both, not-yes, no-not, failed, clash}

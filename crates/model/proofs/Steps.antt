@@ -14,7 +14,8 @@ use Rattle.model.specs.declared.Space.{Space}
 use Rattle.model.specs.declared.Space.the-variants.{Universe, Numbered}
 use Rattle.model.specs.declared.Pair.{Pair}
 use Rattle.model.specs.Ordered.{holds}
-use Rattle.model.specs.Keys.{mostName, Key, spaceKey, nodeKey, edgeKey, sameKey}
+use Rattle.model.specs.declared.Key.{Key}
+use Rattle.model.specs.Keys.{mostName, spaceKey, nodeKey, edgeKey, sameKey}
 use Rattle.model.specs.Tuples.{Tuples, present, addAll, missing, assign, assignAll, remove}
 use Rattle.model.specs.Operators.{Direction, outpointing, inpointing, adjacent, Object, Removal, Operator, create, bind, value, exists, destroy, list, table, operatorOf, within, readsOf}
 use Rattle.model.specs.Pairs.{pair, nodeOf, member, pairsOf, nodeNames, withEdge}

@@ -10,7 +10,8 @@ use lib.Dec.{eqb, leb}
 use lib.ListN.{length}
 use borrow.Author.Tests.{eqb-true, eqb-false, eq-eqb, ne-eqb, leb-true, le-leb}
 use Rattle.model.specs.Ordered.{holds, Ascending}
-use Rattle.model.specs.Keys.{mostName, Key, keyOf, spaceKey, nodeKey, isNode, isEdge, compareKeys, sameKey}
+use Rattle.model.specs.declared.Key.{Key}
+use Rattle.model.specs.Keys.{mostName, keyOf, spaceKey, nodeKey, isNode, isEdge, compareKeys, sameKey}
 use Rattle.model.specs.Tuples.{Tuples, present}
 use Rattle.model.specs.Buffer.{word, leastLength, mostLength, fitsLength, capacityOf, next, tupleAt, walk, ends, orNothing, usedChain, freeChain, usedOf, freeOf, tuplesOf, count, everyRecord, ascendsFromUniverse, smallKey, noEdgeWithoutNode, edgeHasEnd, nodeSupported, edgeSupported, everyKey, sound, isStore}
 use Rattle.model.specs.Rules.{Has, Supported, Small, Shaped, firstKey, TupleRules, StoreRules, IsStore}

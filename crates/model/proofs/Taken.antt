@@ -7,7 +7,8 @@ use Prim.Native.Nat.{ℕ}
 use lib.Dec.{eqb}
 use borrow.Author.Tests.{eqb-true, eq-eqb, ne-eqb}
 use Rattle.model.specs.declared.Pair.{Pair}
-use Rattle.model.specs.Keys.{Key, spaceKey, nodeKey, edgeKey}
+use Rattle.model.specs.declared.Key.{Key}
+use Rattle.model.specs.Keys.{spaceKey, nodeKey, edgeKey}
 use Rattle.model.specs.Tuples.{Tuples, remove}
 use Rattle.model.specs.Operators.{Direction, outpointing, inpointing, adjacent}
 use Rattle.model.specs.Pairs.{nodeOf, outPair, inPair, pairsAt, anyPair}

@@ -7,7 +7,8 @@ use native.Mathlib.Nat.{add-zero}
 use native.Mathlib.Omega.{arith}
 use lib.ListN.{length}
 use Rattle.model.specs.Ordered.{holds, Above, Ascending}
-use Rattle.model.specs.Keys.{Value, NIL, Key, Tuple, keyOf, compareKeys, sameKey}
+use Rattle.model.specs.declared.Key.{Key}
+use Rattle.model.specs.Keys.{Value, NIL, Tuple, keyOf, compareKeys, sameKey}
 use Rattle.model.specs.Tuples.{Tuples, present, add, addAll, missing, assign, remove}
 use Rattle.model.proofs.Bools.{or-left}
 use Rattle.model.proofs.Order.{keys}

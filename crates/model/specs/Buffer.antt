@@ -10,7 +10,8 @@ use lib.ListN.{length, getD, drop}
 use Rattle.model.specs.declared.Preparation.{Preparation}
 use Rattle.model.specs.declared.Preparation.the-variants.{Refused, Capacity}
 use Rattle.model.specs.Ordered.{ascendsFrom}
-use Rattle.model.specs.Keys.{mostName, NIL, Key, Tuple, keyOf, spaceKey, nodeKey, edgeKey, isNode, isEdge, compareKeys, sameKey}
+use Rattle.model.specs.declared.Key.{Key}
+use Rattle.model.specs.Keys.{mostName, NIL, Tuple, keyOf, spaceKey, nodeKey, edgeKey, isNode, isEdge, compareKeys, sameKey}
 use Rattle.model.specs.Tuples.{Tuples, present}
 
 -- ---- the layout

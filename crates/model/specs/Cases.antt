@@ -7,7 +7,8 @@ use Prim.Native.Nat.{ℕ}
 use lib.ListN.{length}
 use Rattle.model.specs.declared.Space.{Space}
 use Rattle.model.specs.declared.Space.the-variants.{Universe, Numbered}
-use Rattle.model.specs.Keys.{Value, NIL, Key, Tuple, spaceKey, nodeKey, edgeKey}
+use Rattle.model.specs.declared.Key.{Key}
+use Rattle.model.specs.Keys.{Value, NIL, Tuple, spaceKey, nodeKey, edgeKey}
 use Rattle.model.specs.Tuples.{fresh}
 use Rattle.model.specs.Pairs.{pair}
 use Rattle.model.specs.Steps.{Reply, refusal, name, valued, yesNo, pairs}

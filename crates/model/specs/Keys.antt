@@ -3,6 +3,7 @@
 use mathlib.Core.Bool.{Bool, not, _&&_}
 use Prim.Native.Nat.{ℕ, compare, Ordering}
 use lib.Dec.{eqb, isEq}
+use Rattle.model.specs.declared.Key.{Key}
 use Rattle.model.specs.Ordered.{thenBy}
 
 -- "Nodes, edges and spaces are named by 1 to 65,535 (16 bits), separately."
@@ -16,14 +17,7 @@ Value = ℕ
 abbrev pub NIL : Value
 NIL = 0
 
--- "A tuple has a key (s, n, g, m) .."
-pub record Key : Type 0 where
-  pub s : ℕ
-  pub n : ℕ
-  pub g : ℕ
-  pub m : ℕ
-
--- ".. and a value"
+-- "A tuple has a key (s, n, g, m) [the struct Key] and a value"
 pub record Tuple : Type 0 where
   pub key : Key
   pub value : Value

@@ -5,7 +5,8 @@ use Prim.Native.Nat.{ℕ, compare, Ordering}
 use lib.Dec.{eqb}
 use Rattle.model.specs.declared.Pair.{Pair}
 use Rattle.model.specs.Ordered.{holds, put, thenBy}
-use Rattle.model.specs.Keys.{Key, isNode, isEdge, edgeKey}
+use Rattle.model.specs.declared.Key.{Key}
+use Rattle.model.specs.Keys.{isNode, isEdge, edgeKey}
 use Rattle.model.specs.Tuples.{Tuples}
 use Rattle.model.specs.Operators.{Direction, outpointing, inpointing, adjacent}
 

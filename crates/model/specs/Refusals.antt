@@ -9,7 +9,8 @@ use lib.ListN.{length}
 use Rattle.model.specs.declared.Call.{Call}
 use Rattle.model.specs.declared.Space.{Space}
 use Rattle.model.specs.declared.Space.the-variants.{Universe, Numbered}
-use Rattle.model.specs.Keys.{Key, spaceKey, nodeKey}
+use Rattle.model.specs.declared.Key.{Key}
+use Rattle.model.specs.Keys.{spaceKey, nodeKey}
 use Rattle.model.specs.Tuples.{Tuples, present, anyPresent, missing}
 use Rattle.model.specs.Operators.{Operator, create, bind, value, exists, destroy, list, operatorOf, within, readsOf}
 use Rattle.model.specs.Steps.{nOf, gOf, mOf, sOf, objectKeys, wouldList, wouldAdd}

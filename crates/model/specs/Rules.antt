@@ -8,7 +8,8 @@ use mathlib.Core.Path.{_≡_}
 use Prim.Native.Nat.{ℕ, _≤_}
 use lib.ListN.{length}
 use Rattle.model.specs.Ordered.{Ascending}
-use Rattle.model.specs.Keys.{mostName, Key, keyOf, spaceKey, nodeKey, edgeKey, compareKeys}
+use Rattle.model.specs.declared.Key.{Key}
+use Rattle.model.specs.Keys.{mostName, keyOf, spaceKey, nodeKey, edgeKey, compareKeys}
 use Rattle.model.specs.Tuples.{Tuples, present}
 use Rattle.model.specs.Buffer.{word, leastLength, mostLength, capacityOf, sizeWord, next, tupleAt, count}
 

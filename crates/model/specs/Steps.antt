@@ -8,7 +8,8 @@ use Rattle.model.specs.declared.Call.{Call}
 use Rattle.model.specs.declared.Space.{Space}
 use Rattle.model.specs.declared.Space.the-variants.{Universe, Numbered}
 use Rattle.model.specs.declared.Pair.{Pair}
-use Rattle.model.specs.Keys.{Value, NIL, Key, spaceKey, nodeKey}
+use Rattle.model.specs.declared.Key.{Key}
+use Rattle.model.specs.Keys.{Value, NIL, spaceKey, nodeKey}
 use Rattle.model.specs.Tuples.{Tuples, anyPresent, valueAt, addAll, assignAll, remove}
 use Rattle.model.specs.Operators.{Direction, Object, Removal, Listing, Operator, create, bind, value, exists, destroy, list, within}
 use Rattle.model.specs.Pairs.{edgeOf, nodeOf, pairsAt, pairsOf, edgeNames, nodeNames, withEdge, withNode, nodesIn, spacesIn, spacesWith, pairKeys, anyPair}

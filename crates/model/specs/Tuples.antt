@@ -3,7 +3,8 @@
 use mathlib.Core.Bool.{Bool, false, cond, _||_}
 use mathlib.Core.List.{List, [], _∷_}
 use Rattle.model.specs.Ordered.{holds, put}
-use Rattle.model.specs.Keys.{Value, NIL, Key, Tuple, keyOf, spaceKey, compareKeys, sameKey}
+use Rattle.model.specs.declared.Key.{Key}
+use Rattle.model.specs.Keys.{Value, NIL, Tuple, keyOf, spaceKey, compareKeys, sameKey}
 
 abbrev pub Tuples : Type 0
 Tuples = List Tuple

@@ -50,6 +50,14 @@ pub enum Answer {
     List(usize),
 }
 
+// "A tuple has a key (s, n, g, m)": the four key words of a record.
+pub struct Key {
+    pub s: u32,
+    pub n: u32,
+    pub g: u32,
+    pub m: u32,
+}
+
 // "The answer list is a lent list of pairs (edge, node)."
 pub struct Pair {
     pub edge: EdgeName,
