@@ -28,7 +28,7 @@ use Rattle.model.proofs.Taken.{EveryPair}
 use Rattle.model.proofs.Entries.{listed-sound}
 use Rattle.model.proofs.Steps.{every-member}
 use Rattle.model.proofs.Refusals.{full-exactly}
-use Rattle.model.proofs.Store.{store-rules, rules-count}
+use Rattle.model.proofs.Store.{store-rules, chains-count}
 use Rattle.model.proofs.Prepared.{prepared-capacity, prepared-store, prepared-tuples}
 
 -- ---- pairs and words
@@ -135,7 +135,7 @@ no-calls b e =
       store = e;
       held = refl;
       once = R .tuples .ascends;
-      records = ap (λ (n : ℕ). n + length (freeOf b)) (length-map (usedOf b) (tupleAt b)) ∙ rules-count b (usedOf b) (freeOf b) R;
+      records = ap (λ (n : ℕ). n + length (freeOf b)) (length-map (usedOf b) (tupleAt b)) ∙ chains-count b (usedOf b) (freeOf b) (R .chains);
       nothingMissing = R .tuples .nothingMissing;
       fullExactly = tt;
     }

@@ -11,7 +11,7 @@ use Rattle.model.specs.Keys.{compareKeys}
 use Rattle.model.specs.Tuples.{fresh}
 use Rattle.model.specs.Buffer.{capacityOf, next, tupleAt, oneIf, count, tuplesOf, ascendsFromUniverse, smallKey, noEdgeWithoutNode, edgeHasEnd, nodeSupported, edgeSupported, everyKey, sound, isStore, follower, Prepared}
 use Rattle.model.specs.Rules.{TupleRules, Chain, StoreRules}
-use Rattle.model.proofs.Store.{fits-least, fits-most, sound-exactly, rules-store, rules-tuples}
+use Rattle.model.proofs.Store.{fits-least, fits-most, sound-exactly, rules-store, tuples-of}
 
 -- n records from record i on
 abbrev pub upFrom : ℕ → ℕ → List ℕ
@@ -103,20 +103,23 @@ module _ (b₀ b : List ℕ) (P : Prepared b₀ b) where
   prepared-rules =
       let C : ℕ = capacityOf b in
       record {
-        least = omega (arith, fits-least b₀ (P .fits), P .size);
-        most = omega (arith, fits-most b₀ (P .fits), P .size);
-        capacity = P .capacity ∙ sym prepared-capacity;
-        usedHead = omega (arith, P .usedHead, prepared-capacity, capacity-least);
-        freeHead = omega (arith, P .freeHead, follower-most (capacityOf b₀) 1, prepared-capacity);
-        nexts = next-most;
-        usedChain = subst (λ (i : ℕ). Chain (next b) i (1 ∷ [])) (sym (P .usedHead)) (λ z. omega arith, refl, P .universeLast);
-        freeChain =
-            subst (λ (i : ℕ). Chain (next b) i (upFrom 2 (C - 1))) (ap (λ (D : ℕ). follower D 1) prepared-capacity ∙ sym (P .freeHead))
-            (chain-up (next b) C 1 (C - 1)
-            (λ i h k. P .free i h (omega (arith, prepared-capacity)) ∙ ap (λ (D : ℕ). follower D i) (sym prepared-capacity))
-            (omega arith) (omega (arith, prepared-capacity, capacity-least)));
-        once = λ i h k. count-up i 1 (suc (C - 1)) h (omega arith);
-        counted = P .used;
+        chains =
+            record {
+              least = omega (arith, fits-least b₀ (P .fits), P .size);
+              most = omega (arith, fits-most b₀ (P .fits), P .size);
+              capacity = P .capacity ∙ sym prepared-capacity;
+              usedHead = omega (arith, P .usedHead, prepared-capacity, capacity-least);
+              freeHead = omega (arith, P .freeHead, follower-most (capacityOf b₀) 1, prepared-capacity);
+              nexts = next-most;
+              usedChain = subst (λ (i : ℕ). Chain (next b) i (1 ∷ [])) (sym (P .usedHead)) (λ z. omega arith, refl, P .universeLast);
+              freeChain =
+                  subst (λ (i : ℕ). Chain (next b) i (upFrom 2 (C - 1))) (ap (λ (D : ℕ). follower D 1) prepared-capacity ∙ sym (P .freeHead))
+                  (chain-up (next b) C 1 (C - 1)
+                  (λ i h k. P .free i h (omega (arith, prepared-capacity)) ∙ ap (λ (D : ℕ). follower D i) (sym prepared-capacity))
+                  (omega arith) (omega (arith, prepared-capacity, capacity-least)));
+              once = λ i h k. count-up i 1 (suc (C - 1)) h (omega arith);
+              counted = P .used;
+            };
         tuples = subst TupleRules (sym one-tuple) fresh-rules;
       }
 
@@ -125,4 +128,4 @@ module _ (b₀ b : List ℕ) (P : Prepared b₀ b) where
 
   -- "at first only (0,0,0,0) with NIL"
   pub prepared-tuples : tuplesOf b ≡ fresh
-  prepared-tuples = rules-tuples b (1 ∷ []) (upFrom 2 (capacityOf b - 1)) prepared-rules ∙ one-tuple
+  prepared-tuples = tuples-of b (1 ∷ []) (upFrom 2 (capacityOf b - 1)) (prepared-rules .chains) ∙ one-tuple

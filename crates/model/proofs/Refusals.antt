@@ -11,7 +11,6 @@ use borrow.Author.Tests.{ltb-true, lt-ltb}
 use Rattle.model.specs.declared.Call.{Call}
 use Rattle.model.specs.declared.Pair.{Pair}
 use Rattle.model.specs.declared.Key.{Key}
-
 use Rattle.model.specs.Tuples.{Tuples, present, remove}
 use Rattle.model.specs.Operators.{Direction, Removal, Operator, create, bind, value, exists, destroy, list, operatorOf}
 use Rattle.model.specs.Pairs.{nodeOf, pairsOf, nodeNames, withEdge, anyPair}

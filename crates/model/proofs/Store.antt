@@ -14,7 +14,7 @@ use Rattle.model.specs.declared.Key.{Key}
 use Rattle.model.specs.Keys.{mostName, keyOf, spaceKey, nodeKey, isNode, isEdge, compareKeys, sameKey}
 use Rattle.model.specs.Tuples.{Tuples, present}
 use Rattle.model.specs.Buffer.{word, leastLength, mostLength, fitsLength, capacityOf, next, tupleAt, walk, ends, orNothing, usedChain, freeChain, usedOf, freeOf, tuplesOf, count, everyRecord, ascendsFromUniverse, smallKey, noEdgeWithoutNode, edgeHasEnd, nodeSupported, edgeSupported, everyKey, sound, isStore}
-use Rattle.model.specs.Rules.{Has, Supported, Small, Shaped, firstKey, TupleRules, StoreRules, IsStore}
+use Rattle.model.specs.Rules.{Has, Supported, Small, Shaped, firstKey, TupleRules, ChainRules, StoreRules, IsStore}
 use Rattle.model.proofs.Bools.{or-cases, or-left, or-right, and-left, and-right, and-both, not-yes, no-not, clash}
 use Rattle.model.proofs.Order.{keys}
 use Rattle.model.proofs.Ordered.{test-above, above-test}
@@ -238,70 +238,75 @@ store-rules b e =
     let e₈ = and-right (ends (freeChain b)) _ e₇ in
     let e₉ = and-right (everyRecord (λ (i : ℕ). eqb (count i (usedOf b ++ freeOf b)) 1) C) _ e₈ in
     record {
-      least = fits-least b fits;
-      most = fits-most b fits;
-      capacity = eqb-true (word b 0) C (and-left (eqb (word b 0) C) _ e₂);
-      usedHead = leb-true (word b 1) C (and-left (leb (word b 1) C) _ e₃);
-      freeHead = leb-true (word b 2) C (and-left (leb (word b 2) C) _ e₄);
-      nexts = λ i h k. leb-true (next b i) C (every-record (λ (i : ℕ). leb (next b i) C) C (and-left (everyRecord (λ (i : ℕ). leb (next b i) C) C) _ e₅) i h k);
-      usedChain = walk-chain (next b) C (word b 1) (usedOf b) (ends-some (usedChain b) (and-left (ends (usedChain b)) _ e₆));
-      freeChain = walk-chain (next b) C (word b 2) (freeOf b) (ends-some (freeChain b) (and-left (ends (freeChain b)) _ e₇));
-      once =
-          λ i h k.
-          eqb-true (count i (usedOf b ++ freeOf b)) 1
-          (every-record (λ (i : ℕ). eqb (count i (usedOf b ++ freeOf b)) 1) C
-          (and-left (everyRecord (λ (i : ℕ). eqb (count i (usedOf b ++ freeOf b)) 1) C) _ e₈) i h k);
-      counted = eqb-true (word b 3) (length (usedOf b)) (and-left (eqb (word b 3) (length (usedOf b))) _ e₉);
+      chains =
+          record {
+            least = fits-least b fits;
+            most = fits-most b fits;
+            capacity = eqb-true (word b 0) C (and-left (eqb (word b 0) C) _ e₂);
+            usedHead = leb-true (word b 1) C (and-left (leb (word b 1) C) _ e₃);
+            freeHead = leb-true (word b 2) C (and-left (leb (word b 2) C) _ e₄);
+            nexts = λ i h k. leb-true (next b i) C (every-record (λ (i : ℕ). leb (next b i) C) C (and-left (everyRecord (λ (i : ℕ). leb (next b i) C) C) _ e₅) i h k);
+            usedChain = walk-chain (next b) C (word b 1) (usedOf b) (ends-some (usedChain b) (and-left (ends (usedChain b)) _ e₆));
+            freeChain = walk-chain (next b) C (word b 2) (freeOf b) (ends-some (freeChain b) (and-left (ends (freeChain b)) _ e₇));
+            once =
+                λ i h k.
+                eqb-true (count i (usedOf b ++ freeOf b)) 1
+                (every-record (λ (i : ℕ). eqb (count i (usedOf b ++ freeOf b)) 1) C
+                (and-left (everyRecord (λ (i : ℕ). eqb (count i (usedOf b ++ freeOf b)) 1) C) _ e₈) i h k);
+            counted = eqb-true (word b 3) (length (usedOf b)) (and-left (eqb (word b 3) (length (usedOf b))) _ e₉);
+          };
       tuples = sound-exactly (tuplesOf b) .0 (and-right (eqb (word b 3) (length (usedOf b))) _ e₉);
     }
 
 -- ---- from the rules to the test
 
 -- used + free = C
-pub rules-count : (b used free : List ℕ) → StoreRules b used free → length used + length free ≡ capacityOf b
-rules-count b used free R =
+pub chains-count : (b used free : List ℕ) → ChainRules b used free → length used + length free ≡ capacityOf b
+chains-count b used free R =
     once-length (capacityOf b) used free (chain-within (next b) (capacityOf b) (word b 1) used (R .usedChain) (R .usedHead) (R .nexts))
     (chain-within (next b) (capacityOf b) (word b 2) free (R .freeChain) (R .freeHead) (R .nexts)) (R .once)
 
-pub rules-used-chain : (b used free : List ℕ) → StoreRules b used free → usedChain b ≡ some used
+pub used-chain : (b used free : List ℕ) → ChainRules b used free → usedChain b ≡ some used
 unfolding usedChain
-rules-used-chain b used free R = chain-walk (next b) (capacityOf b) (word b 1) used (R .usedChain) (omega (arith, rules-count b used free R))
+used-chain b used free R = chain-walk (next b) (capacityOf b) (word b 1) used (R .usedChain) (omega (arith, chains-count b used free R))
 
-pub rules-free-chain : (b used free : List ℕ) → StoreRules b used free → freeChain b ≡ some free
+pub free-chain : (b used free : List ℕ) → ChainRules b used free → freeChain b ≡ some free
 unfolding freeChain
-rules-free-chain b used free R = chain-walk (next b) (capacityOf b) (word b 2) free (R .freeChain) (omega (arith, rules-count b used free R))
+free-chain b used free R = chain-walk (next b) (capacityOf b) (word b 2) free (R .freeChain) (omega (arith, chains-count b used free R))
 
-pub rules-used : (b used free : List ℕ) → StoreRules b used free → usedOf b ≡ used
+-- the chains that a walk meets are those of the rules
+pub used-of : (b used free : List ℕ) → ChainRules b used free → usedOf b ≡ used
 unfolding usedOf orNothing
-rules-used b used free R = ap orNothing (rules-used-chain b used free R)
+used-of b used free R = ap orNothing (used-chain b used free R)
 
-pub rules-free : (b used free : List ℕ) → StoreRules b used free → freeOf b ≡ free
+pub free-of : (b used free : List ℕ) → ChainRules b used free → freeOf b ≡ free
 unfolding freeOf orNothing
-rules-free b used free R = ap orNothing (rules-free-chain b used free R)
+free-of b used free R = ap orNothing (free-chain b used free R)
 
-pub rules-tuples : (b used free : List ℕ) → StoreRules b used free → tuplesOf b ≡ map (tupleAt b) used
+pub tuples-of : (b used free : List ℕ) → ChainRules b used free → tuplesOf b ≡ map (tupleAt b) used
 unfolding tuplesOf
-rules-tuples b used free R = ap (map (tupleAt b)) (rules-used b used free R)
+tuples-of b used free R = ap (map (tupleAt b)) (used-of b used free R)
 
 pub rules-store : (b used free : List ℕ) → StoreRules b used free → isStore b ≡ true
 unfolding isStore ends
-rules-store b used free R =
+rules-store b used free S =
     let C : ℕ = capacityOf b in
+    let R : ChainRules b used free = S .chains in
     and-both (fitsLength b) _ (fits-length b (R .least) (R .most))
     (and-both (eqb (word b 0) C) _ (eq-eqb (word b 0) C (R .capacity))
     (and-both (leb (word b 1) C) _ (le-leb (word b 1) C (R .usedHead))
     (and-both (leb (word b 2) C) _ (le-leb (word b 2) C (R .freeHead))
     (and-both (everyRecord (λ (i : ℕ). leb (next b i) C) C) _ (record-every (λ (i : ℕ). leb (next b i) C) C (λ i h k. le-leb (next b i) C (R .nexts i h k)))
-    (and-both (ends (usedChain b)) _ (ap ends (rules-used-chain b used free R))
-    (and-both (ends (freeChain b)) _ (ap ends (rules-free-chain b used free R))
+    (and-both (ends (usedChain b)) _ (ap ends (used-chain b used free R))
+    (and-both (ends (freeChain b)) _ (ap ends (free-chain b used free R))
     (and-both (everyRecord (λ (i : ℕ). eqb (count i (usedOf b ++ freeOf b)) 1) C) _
     (record-every (λ (i : ℕ). eqb (count i (usedOf b ++ freeOf b)) 1) C
     (λ i h k.
     eq-eqb (count i (usedOf b ++ freeOf b)) 1
-    (ap₂ (λ (x y : List ℕ). count i (x ++ y)) (rules-used b used free R) (rules-free b used free R) ∙ R .once i h k)))
+    (ap₂ (λ (x y : List ℕ). count i (x ++ y)) (used-of b used free R) (free-of b used free R) ∙ R .once i h k)))
     (and-both (eqb (word b 3) (length (usedOf b))) _
-    (eq-eqb (word b 3) (length (usedOf b)) (R .counted ∙ ap length (sym (rules-used b used free R))))
-    (sound-exactly (tuplesOf b) .1 (subst TupleRules (sym (rules-tuples b used free R)) (R .tuples)))))))))))
+    (eq-eqb (word b 3) (length (usedOf b)) (R .counted ∙ ap length (sym (used-of b used free R))))
+    (sound-exactly (tuplesOf b) .1 (subst TupleRules (sym (tuples-of b used free R)) (S .tuples)))))))))))
 
 -- "A buffer is accepted as a store exactly when it meets the rules"
 pub store-exactly : (b : List ℕ) → (isStore b ≡ true) ↔ IsStore b

@@ -46,7 +46,7 @@ abbrev pub sizeWord : List ℕ → ℕ
 sizeWord b = capacityOf b
 
 -- "Record i, 1 to C, starts at word 4 + 6 × (i − 1): next index, s, n, g, m, value."
-unfoldable pub recordStart : ℕ → ℕ
+abbrev pub recordStart : ℕ → ℕ
 recordStart i = headWords + recordWords * (i - 1)
 
 unfoldable pub next : List ℕ → ℕ → ℕ

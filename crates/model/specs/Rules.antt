@@ -59,8 +59,8 @@ abbrev pub Chain : (ℕ → ℕ) → ℕ → List ℕ → Type 0
 Chain link i [] = i ≡ 0
 Chain link i (j ∷ js) = (i ≢ 0) × (j ≡ i) × Chain link (link i) js
 
--- ---- a store, whose used and free chains meet these records
-pub record StoreRules (b used free : List ℕ) : Type 0 where
+-- the rules on words 0 to 3 and the chains of a buffer whose used and free chains meet these records
+pub record ChainRules (b used free : List ℕ) : Type 0 where
   -- "a buffer of 10 to 12,297 words"
   pub least : leastLength ≤ length b
   pub most : length b ≤ mostLength
@@ -76,6 +76,11 @@ pub record StoreRules (b used free : List ℕ) : Type 0 where
   pub once : (i : ℕ) → 1 ≤ i → i ≤ capacityOf b → count i (used ++ free) ≡ 1
   -- "word 3 is right"
   pub counted : word b 3 ≡ length used
+
+-- ---- a store
+
+pub record StoreRules (b used free : List ℕ) : Type 0 where
+  pub chains : ChainRules b used free
   pub tuples : TupleRules (map (tupleAt b) used)
 
 -- the rules of a store
