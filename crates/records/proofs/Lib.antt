@@ -1,1 +1,2 @@
 pub mod KeyOrder
+pub mod Words
