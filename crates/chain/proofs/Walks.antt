@@ -1,0 +1,72 @@
+-- A walk of a chain: what is known of the records from the one that it stands at, and the number that falls with each step.
+use mathlib.Core.List.{List, [], _∷_, _++_}
+use mathlib.Core.Logic.{_≢_}
+use mathlib.Core.Option.{Option}
+use mathlib.Core.Path.{_≡_, refl, sym, ap, _∙_, subst}
+use Prim.Native.Nat.{ℕ, suc, _+_, _≤_, _<_}
+use native.Mathlib.Omega.{arith}
+use lib.ListN.{length}
+use Rattle.model.specs.Buffer.{word, capacityOf, next, walk, orNothing, usedOf, freeOf}
+use Rattle.model.specs.Rules.{Chain, ChainRules}
+use Rattle.model.proofs.Chains.{Within, chain-walk, chain-within}
+use Rattle.model.proofs.Store.{chains-count}
+use Rattle.records.specs.Words.{Inside}
+use Rattle.records.proofs.Words.{inside}
+
+-- the records from `at` to the end of its chain
+pub record Rest (b : List ℕ) (at : ℕ) : Type 0 where
+  pub rest : List ℕ
+  pub chain : Chain (next b) at rest
+  pub within : Within (capacityOf b) rest
+  pub short : length rest ≤ capacityOf b
+
+-- how many they are
+unfoldable pub remaining : List ℕ → ℕ → ℕ
+remaining b at = length (orNothing (walk (next b) (capacityOf b) at))
+
+pub remaining-is : (b : List ℕ) (at : ℕ) (R : Rest b at) → remaining b at ≡ length (R .rest)
+unfolding remaining orNothing
+remaining-is b at R = ap (λ (r : Option (List ℕ)). length (orNothing r)) (chain-walk (next b) (capacityOf b) at (R .rest) (R .chain) (R .short))
+
+-- at the end nothing is left
+pub at-end : (b : List ℕ) (at : ℕ) (R : Rest b at) → at ≡ 0 → R .rest ≡ []
+at-end b at R e = go (R .rest) (R .chain)
+  where
+    go : (is : List ℕ) → Chain (next b) at is → is ≡ []
+    go [] c = refl
+    go (i ∷ is) c = absurd (c .0 e)
+
+-- before the end the walk stands at the first of the records left; the others are those from its next
+pub record Step (b : List ℕ) (at : ℕ) (rest : List ℕ) : Type 0 where
+  pub inside : Inside b at
+  pub after : Rest b (next b at)
+  pub split : rest ≡ at ∷ after .rest
+
+pub step : (b : List ℕ) (at : ℕ) (R : Rest b at) → at ≢ 0 → Step b at (R .rest)
+step b at R h = go (R .rest) (R .chain) (R .within) (R .short)
+  where
+    go : (is : List ℕ) → Chain (next b) at is → Within (capacityOf b) is → length is ≤ capacityOf b → Step b at is
+    go [] c w s = absurd (h c)
+    go (i ∷ is) c w s =
+        let same : i ≡ at = c .1 in
+        record {
+          inside = inside b at (omega (arith, w .0)) (omega (arith, w .1));
+          after = record { rest = is; chain = c .2; within = w .2; short = omega arith };
+          split = ap (λ (x : ℕ). x ∷ is) same
+        }
+
+-- each step leaves fewer
+pub falls : (b : List ℕ) (at : ℕ) (R : Rest b at) → at ≢ 0 → remaining b (next b at) < remaining b at
+falls b at R h =
+    let S = step b at R h in
+    omega (arith, remaining-is b at R, remaining-is b (next b at) (S .after), ap length (S .split))
+
+-- the used chain from its head
+unfoldable pub used-rest : (b : List ℕ) → ChainRules b (usedOf b) (freeOf b) → Rest b (word b 1)
+used-rest b R =
+    record {
+      rest = usedOf b;
+      chain = R .usedChain;
+      within = chain-within (next b) (capacityOf b) (word b 1) (usedOf b) (R .usedChain) (R .usedHead) (R .nexts);
+      short = omega (arith, chains-count b (usedOf b) (freeOf b) R)
+    }

@@ -1,0 +1,41 @@
+-- The chains of a buffer: what the functions of this crate ask of it, where a key's place is, and the words after a tuple is linked or unlinked.
+use mathlib.Core.Bool.{cond}
+use mathlib.Core.List.{List, [], _∷_}
+use mathlib.Core.Option.{some}
+use mathlib.Core.Path.{_≡_}
+use Prim.Native.Nat.{ℕ, _+_, _-_}
+use lib.ListN.{set}
+use Rattle.model.specs.declared.Key.{Key}
+use Rattle.model.specs.Ordered.{isLess, Ascending}
+use Rattle.model.specs.Keys.{Value, keyOf, spaceKey, compareKeys}
+use Rattle.model.specs.Buffer.{word, next, usedOf, freeOf, tuplesOf}
+use Rattle.model.specs.Rules.{firstKey, ChainRules}
+use Rattle.chain.specs.declared.Place.{Place}
+use Rattle.records.specs.Words.{putNext, putTuple}
+
+-- a store but for what its tuples name: chains that meet each record once, keys that ascend from (0,0,0,0).
+-- Within a call that adds or removes several tuples the buffer is that much at each moment.
+pub record Linked (b : List ℕ) : Type 0 where
+  pub chains : ChainRules b (usedOf b) (freeOf b)
+  pub ascends : Ascending keyOf compareKeys (tuplesOf b)
+  pub first : firstKey (tuplesOf b) ≡ some (spaceKey 0)
+
+abbrev pub place : ℕ → ℕ → Place
+place before at = record { before = before; at = at }
+
+-- a key's place among records whose keys ascend: the last record whose key is below it (`last` where there is none), and the record after that (0 for none)
+unfoldable pub placeIn : (ℕ → Key) → Key → ℕ → List ℕ → Place
+placeIn key k last [] = place last 0
+placeIn key k last (i ∷ is) = cond (isLess (compareKeys (key i) k)) (placeIn key k i is) (place last i)
+
+-- a free record is taken, written whole, and linked after record `before`
+unfoldable pub insertAfter : List ℕ → ℕ → Key → Value → List ℕ
+insertAfter b before k v =
+    let taken = word b 2 in
+    set (putNext (putNext (putTuple (set b 2 (next b taken)) taken k v) taken (next b before)) before taken) 3 (word b 3 + 1)
+
+-- the record after record `before` is unlinked and put first in the free chain
+unfoldable pub removeAfter : List ℕ → ℕ → List ℕ
+removeAfter b before =
+    let gone = next b before in
+    set (set (putNext (putNext b before (next b gone)) gone (word b 2)) 2 gone) 3 (word b 3 - 1)
