@@ -3,15 +3,15 @@ use mathlib.Core.Bool.{cond}
 use mathlib.Core.List.{List, [], _∷_}
 use mathlib.Core.Option.{some}
 use mathlib.Core.Path.{_≡_}
-use Prim.Native.Nat.{ℕ, _+_, _-_}
+use Prim.Native.Nat.{ℕ, _+_, _-_, _≤_}
 use lib.ListN.{set}
 use Rattle.model.specs.declared.Key.{Key}
 use Rattle.model.specs.Ordered.{isLess, Ascending}
 use Rattle.model.specs.Keys.{Value, keyOf, spaceKey, compareKeys}
-use Rattle.model.specs.Buffer.{word, next, usedOf, freeOf, tuplesOf}
+use Rattle.model.specs.Buffer.{word, capacityOf, next, usedOf, freeOf, tuplesOf}
 use Rattle.model.specs.Rules.{firstKey, ChainRules}
 use Rattle.chain.specs.declared.Place.{Place}
-use Rattle.records.specs.Words.{putNext, putTuple}
+use Rattle.records.specs.Words.{Inside, putNext, putTuple}
 
 -- a store but for what its tuples name: chains that meet each record once, keys that ascend from (0,0,0,0).
 -- Within a call that adds or removes several tuples the buffer is that much at each moment.
@@ -28,11 +28,29 @@ unfoldable pub placeIn : (ℕ → Key) → Key → ℕ → List ℕ → Place
 placeIn key k last [] = place last 0
 placeIn key k last (i ∷ is) = cond (isLess (compareKeys (key i) k)) (placeIn key k i is) (place last i)
 
+-- what linking after record `before` needs: that record, a free record, and words that fit
+pub record Linking (b : List ℕ) (before : ℕ) : Type 0 where
+  pub there : Inside b before
+  pub taken : Inside b (word b 2)
+  pub small : capacityOf b ≤ 2048
+  pub free : next b (word b 2) ≤ capacityOf b
+  pub after : next b before ≤ capacityOf b
+  pub used : word b 3 ≤ capacityOf b
+
 -- a free record is taken, written whole, and linked after record `before`
 unfoldable pub insertAfter : List ℕ → ℕ → Key → Value → List ℕ
 insertAfter b before k v =
     let taken = word b 2 in
     set (putNext (putNext (putTuple (set b 2 (next b taken)) taken k v) taken (next b before)) before taken) 3 (word b 3 + 1)
+
+-- what unlinking the record after record `before` needs: both records, a tuple, and words that fit
+pub record Unlinking (b : List ℕ) (before : ℕ) : Type 0 where
+  pub there : Inside b before
+  pub gone : Inside b (next b before)
+  pub small : capacityOf b ≤ 2048
+  pub after : next b (next b before) ≤ capacityOf b
+  pub free : word b 2 ≤ capacityOf b
+  pub used : (1 ≤ word b 3) × (word b 3 ≤ capacityOf b)
 
 -- the record after record `before` is unlinked and put first in the free chain
 unfoldable pub removeAfter : List ℕ → ℕ → List ℕ

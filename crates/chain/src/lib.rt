@@ -5,7 +5,7 @@ use model::Key;
 ghost use mathlib.Core.Path.{_≡_};
 ghost use Prim.Native.Nat.{_+_, _≤_, _<_};
 ghost use Rattle.model.specs.Buffer.{usedOf, keyAt};
-ghost use Rattle.chain.specs.Links.{Linked, placeIn, insertAfter, removeAfter};
+ghost use Rattle.chain.specs.Links.{Linked, placeIn, Linking, insertAfter, Unlinking, removeAfter};
 
 // A place in the used chain: a record and the one after it; 0 for none.
 pub struct Place {
@@ -31,4 +31,35 @@ pub fn seek(b: &[u32], k: Key) -> Place
         before: before,
         at: at,
     }
+}
+
+// A free record is taken, written whole, and linked after record `before`.
+pub fn insert_after(b: &mut [u32], before: usize, k: Key, v: u32)
+    requires { ⌜ Linking (now b) before ⌝ }
+    ensures { λ _. ⌜ now (b .exit) ≡ insertAfter (now (b .entry)) before k v ⌝ }
+{
+    let taken = records::head_word(b, 2);
+    let free = records::next_of(b, taken);
+    let after = records::next_of(b, before);
+    let used = records::head_word(b, 3);
+    records::put_head_word(b, 2, free);
+    records::put_tuple(b, taken, k, v);
+    records::put_next(b, taken, after);
+    records::put_next(b, before, taken);
+    records::put_head_word(b, 3, used + 1);
+}
+
+// The record after record `before` is unlinked and put first in the free chain.
+pub fn remove_after(b: &mut [u32], before: usize)
+    requires { ⌜ Unlinking (now b) before ⌝ }
+    ensures { λ _. ⌜ now (b .exit) ≡ removeAfter (now (b .entry)) before ⌝ }
+{
+    let gone = records::next_of(b, before);
+    let after = records::next_of(b, gone);
+    let free = records::head_word(b, 2);
+    let used = records::head_word(b, 3);
+    records::put_next(b, before, after);
+    records::put_next(b, gone, free);
+    records::put_head_word(b, 2, gone);
+    records::put_head_word(b, 3, used - 1);
 }
