@@ -1,3 +1,5 @@
 pub mod Walks
 pub mod Places
 pub mod Written
+pub mod Paths
+pub mod Relinked

@@ -107,10 +107,10 @@ abbrev hits : ℕ → ℕ → ℕ
 hits zero x = 0
 hits (suc C) x = oneIf (eqb (suc C) x) + hits C x
 
-hit : (a x : ℕ) → a ≡ x → oneIf (eqb a x) ≡ 1
+pub hit : (a x : ℕ) → a ≡ x → oneIf (eqb a x) ≡ 1
 hit a x e = ap oneIf (eq-eqb a x e)
 
-miss : (a x : ℕ) → (a ≡ x → ⊥) → oneIf (eqb a x) ≡ 0
+pub miss : (a x : ℕ) → (a ≡ x → ⊥) → oneIf (eqb a x) ≡ 0
 miss a x e = ap oneIf (ne-eqb a x e)
 
 hits-above : (C x : ℕ) → C < x → hits C x ≡ 0

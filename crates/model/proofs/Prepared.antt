@@ -5,24 +5,19 @@ use mathlib.Core.Path.{_≡_, refl, sym, ap, _∙_, subst}
 use Prim.Native.Nat.{ℕ, zero, suc, _+_, _-_, _/_, _≤_, _<_}
 use native.Mathlib.Omega.{arith}
 use lib.Dec.{eqb, ltb}
-use borrow.Author.Tests.{eqb-true, eqb-false, ltb-true, eq-eqb, ne-eqb, lt-ltb, le-ltb}
+use borrow.Author.Tests.{eqb-true, eqb-false, ltb-true, lt-ltb, le-ltb}
 use Rattle.model.specs.Ordered.{holds, ascendsFrom}
 use Rattle.model.specs.Keys.{compareKeys}
 use Rattle.model.specs.Tuples.{fresh}
 use Rattle.model.specs.Buffer.{capacityOf, next, tupleAt, oneIf, count, tuplesOf, ascendsFromUniverse, smallKey, noEdgeWithoutNode, edgeHasEnd, nodeSupported, edgeSupported, everyKey, sound, isStore, follower, Prepared}
 use Rattle.model.specs.Rules.{TupleRules, Chain, StoreRules}
+use Rattle.model.proofs.Chains.{hit, miss}
 use Rattle.model.proofs.Store.{fits-least, fits-most, sound-exactly, rules-store, tuples-of}
 
 -- n records from record i on
 abbrev pub upFrom : ℕ → ℕ → List ℕ
 upFrom i zero = []
 upFrom i (suc n) = i ∷ upFrom (suc i) n
-
-hit : (a x : ℕ) → a ≡ x → oneIf (eqb a x) ≡ 1
-hit a x e = ap oneIf (eq-eqb a x e)
-
-miss : (a x : ℕ) → (a ≡ x → ⊥) → oneIf (eqb a x) ≡ 0
-miss a x e = ap oneIf (ne-eqb a x e)
 
 count-below : (i j n : ℕ) → i < j → count i (upFrom j n) ≡ 0
 unfolding count
