@@ -247,118 +247,235 @@ same-or-other P i j f g = go (eqb i j) refl
     go true e = f (eqb-true i j e)
     go false e = g (eqb-false i j e)
 
--- how often a record stands in the used and free chains, taken apart at `before` and at the record that moves
+-- how often a record stands in the used and free chains, taken apart at `before`
 sum-of : (k before : ℕ) (pre post free : List ℕ)
     → count k ((pre ++ before ∷ post) ++ free) ≡ count k pre + (oneIf (eqb k before) + count k post) + count k free
 unfolding count
 sum-of k before pre post free =
     count-append k (pre ++ before ∷ post) free ∙ ap (λ (n : ℕ). n + count k free) (count-append k pre (before ∷ post))
 
+-- the records of a buffer in parts: those before `before`, those after, the free ones, and the one that moves from one chain to the other
+pub record Parts (C before moves : ℕ) (pre post free : List ℕ) : Type 0 where
+  pub preWithin : Within C pre
+  pub postWithin : Within C post
+  pub freeWithin : Within C free
+  pub low : 1 ≤ before
+  pub high : before ≤ C
+  pub movesLow : 1 ≤ moves
+  pub movesHigh : moves ≤ C
+  pub once : (k : ℕ) → 1 ≤ k → k ≤ C → count k pre + (oneIf (eqb k before) + count k post) + (oneIf (eqb k moves) + count k free) ≡ 1
+
+module _ (C before moves : ℕ) (pre post free : List ℕ) (P : Parts C before moves pre post free) where
+  -- a record of the lists is neither `before` nor the one that moves
+  elsewhere : (k : ℕ) → 1 ≤ k → k ≤ C → 1 ≤ count k pre + count k post + count k free → (k ≢ moves) × (k ≢ before)
+  elsewhere k h m one = (λ e. omega (arith, P .once k h m, hit k moves e), λ e. omega (arith, P .once k h m, hit k before e))
+
+  apart : before ≢ moves
+  apart e = omega (arith, P .once before (P .low) (P .high), hit before before refl, hit before moves e)
+
+  -- so links and tuples that are kept but for these two are kept on the lists
+  module _ {A : Type 0} (f g : ℕ → A) (kept : (j : ℕ) → 1 ≤ j → j ≢ moves → j ≢ before → f j ≡ g j) where
+    on-list : (is : List ℕ) → Within C is → ((k : ℕ) → count k is ≤ count k pre + count k post + count k free)
+        → (k : ℕ) → 1 ≤ count k is → f k ≡ g k
+    on-list is w part k one =
+        let r = counted-within C is w k one in
+        let d = elsewhere k (r .0) (r .1) (omega (arith, part k)) in
+        kept k (r .0) (d .0) (d .1)
+
+    on-pre : (k : ℕ) → 1 ≤ count k pre → f k ≡ g k
+    on-pre = on-list pre (P .preWithin) (λ k. omega arith)
+
+    on-post : (k : ℕ) → 1 ≤ count k post → f k ≡ g k
+    on-post = on-list post (P .postWithin) (λ k. omega arith)
+
+    on-free : (k : ℕ) → 1 ≤ count k free → f k ≡ g k
+    on-free = on-list free (P .freeWithin) (λ k. omega arith)
+
+-- ---- a tuple linked
+
 module _ (b b′ : List ℕ) (before taken : ℕ) (t : Tuple) (pre post free : List ℕ)
     (R : ChainRules b (pre ++ before ∷ post) (taken ∷ free)) (N : Inserted b b′ before taken t) where
-  C : ℕ
-  C = capacityOf b
-
-  same-capacity : capacityOf b′ ≡ capacityOf b
-  same-capacity = capacity-length b b′ (N .size)
-
-  used-within : Within (capacityOf b) (pre ++ before ∷ post)
-  used-within = chain-within (next b) (capacityOf b) (word b 1) (pre ++ before ∷ post) (R .usedChain) (R .usedHead) (R .nexts)
-
-  free-within : Within (capacityOf b) (taken ∷ free)
-  free-within = chain-within (next b) (capacityOf b) (word b 2) (taken ∷ free) (R .freeChain) (R .freeHead) (R .nexts)
-
-  pre-within : Within (capacityOf b) pre
-  pre-within = within-left (capacityOf b) pre (before ∷ post) used-within
-
-  rest-within : Within (capacityOf b) (before ∷ post)
-  rest-within = within-right (capacityOf b) pre (before ∷ post) used-within
-
-  -- each record stands once in all
-  once-sum : (k : ℕ) → 1 ≤ k → k ≤ capacityOf b
-      → count k pre + (oneIf (eqb k before) + count k post) + (oneIf (eqb k taken) + count k free) ≡ 1
+  pub inserting : Parts (capacityOf b) before taken pre post free
   unfolding count
-  once-sum k h m = sym (sum-of k before pre post (taken ∷ free)) ∙ R .once k h m
+  inserting =
+      let used = chain-within (next b) (capacityOf b) (word b 1) (pre ++ before ∷ post) (R .usedChain) (R .usedHead) (R .nexts) in
+      let rest = within-right (capacityOf b) pre (before ∷ post) used in
+      let unused = chain-within (next b) (capacityOf b) (word b 2) (taken ∷ free) (R .freeChain) (R .freeHead) (R .nexts) in
+      record {
+        preWithin = within-left (capacityOf b) pre (before ∷ post) used;
+        postWithin = rest .2;
+        freeWithin = unused .2;
+        low = rest .0;
+        high = rest .1;
+        movesLow = unused .0;
+        movesHigh = unused .1;
+        once = λ k h m. sym (sum-of k before pre post (taken ∷ free)) ∙ R .once k h m
+      }
 
-  -- a record of one of the other parts is neither `before` nor `taken`
-  elsewhere : (k : ℕ) → 1 ≤ k → k ≤ capacityOf b → 1 ≤ count k pre + count k post + count k free → (k ≢ taken) × (k ≢ before)
-  elsewhere k h m one =
-      (λ e. omega (arith, once-sum k h m, hit k taken e), λ e. omega (arith, once-sum k h m, hit k before e))
+  size-kept : capacityOf b′ ≡ capacityOf b
+  size-kept = capacity-length b b′ (N .size)
 
-  apart-taken : before ≢ taken
-  apart-taken e = omega (arith, once-sum before (rest-within .0) (rest-within .1), hit before before refl, hit before taken e)
+  links : (j : ℕ) → 1 ≤ j → j ≢ taken → j ≢ before → next b j ≡ next b′ j
+  links j h d e = sym (N .nextOther j h d e)
 
-  kept-link : (k : ℕ) → 1 ≤ k → k ≤ capacityOf b → 1 ≤ count k pre + count k post + count k free → next b k ≡ next b′ k
-  kept-link k h m one = let d = elsewhere k h m one in sym (N .nextOther k h (d .0) (d .1))
-
-  pre-link : (k : ℕ) → 1 ≤ count k pre → next b k ≡ next b′ k
-  pre-link k one = let w = counted-within (capacityOf b) pre pre-within k one in kept-link k (w .0) (w .1) (omega arith)
-
-  post-link : (k : ℕ) → 1 ≤ count k post → next b k ≡ next b′ k
-  post-link k one = let w = counted-within (capacityOf b) post (rest-within .2) k one in kept-link k (w .0) (w .1) (omega arith)
-
-  free-link : (k : ℕ) → 1 ≤ count k free → next b k ≡ next b′ k
-  free-link k one = let w = counted-within (capacityOf b) free (free-within .2) k one in kept-link k (w .0) (w .1) (omega arith)
+  tuples : (j : ℕ) → 1 ≤ j → j ≢ taken → j ≢ before → tupleAt b′ j ≡ tupleAt b j
+  tuples j h d e = N .tupleOther j h d
 
   new-used : Chain (next b′) (word b′ 1) (pre ++ before ∷ taken ∷ post)
   new-used =
+      let P = inserting in
       let s = chain-split (next b) (word b 1) pre (before ∷ post) (R .usedChain) in
       let at : before ≡ s .0 = s .2 .1 in
       let rest : Chain (next b) (next b before) post = subst (λ (i : ℕ). Chain (next b) (next b i) post) (sym at) (s .2 .2) in
       let after : Chain (next b′) (next b′ taken) post
-            = subst (λ (i : ℕ). Chain (next b′) i post) (sym (N .nextTaken)) (chain-agree (next b) (next b′) (next b before) post post-link rest) in
-      let from-taken : Chain (next b′) taken (taken ∷ post) = (λ z. omega (arith, free-within .0), refl, after) in
+            = subst (λ (i : ℕ). Chain (next b′) i post) (sym (N .nextTaken))
+            (chain-agree (next b) (next b′) (next b before) post
+            (on-post (capacityOf b) before taken pre post free P (next b) (next b′) links) rest) in
+      let from-taken : Chain (next b′) taken (taken ∷ post) = (λ z. omega (arith, P .movesLow), refl, after) in
       let from-before : Chain (next b′) before (before ∷ taken ∷ post)
-            = (λ z. omega (arith, rest-within .0), refl, subst (λ (i : ℕ). Chain (next b′) i (taken ∷ post)) (sym (N .nextBefore)) from-taken) in
+            = (λ z. omega (arith, P .low), refl, subst (λ (i : ℕ). Chain (next b′) i (taken ∷ post)) (sym (N .nextBefore)) from-taken) in
       subst (λ (i : ℕ). Chain (next b′) i (pre ++ before ∷ taken ∷ post)) (sym (N .usedHead))
       (path-chain (next b′) (word b 1) before pre (before ∷ taken ∷ post)
-      (subst (λ (j : ℕ). Path (next b′) (word b 1) pre j) (sym at) (path-agree (next b) (next b′) (word b 1) (s .0) pre pre-link (s .1)))
+      (subst (λ (j : ℕ). Path (next b′) (word b 1) pre j) (sym at)
+      (path-agree (next b) (next b′) (word b 1) (s .0) pre (on-pre (capacityOf b) before taken pre post free P (next b) (next b′) links) (s .1)))
       from-before)
 
   new-free : Chain (next b′) (word b′ 2) free
   new-free =
       let at : taken ≡ word b 2 = R .freeChain .1 in
       subst (λ (i : ℕ). Chain (next b′) i free) (sym (N .freeHead ∙ ap (next b) at))
-      (chain-agree (next b) (next b′) (next b (word b 2)) free free-link (R .freeChain .2))
+      (chain-agree (next b) (next b′) (next b (word b 2)) free
+      (on-free (capacityOf b) before taken pre post free inserting (next b) (next b′) links) (R .freeChain .2))
 
   new-next : (i : ℕ) → 1 ≤ i → i ≤ capacityOf b → next b′ i ≤ capacityOf b
   new-next i h m =
+      let P = inserting in
       same-or-other (next b′ i ≤ capacityOf b) i taken
-      (λ e. subst (λ (j : ℕ). next b′ j ≤ capacityOf b) (sym e) (omega (arith, N .nextTaken, R .nexts before (rest-within .0) (rest-within .1))))
+      (λ e. subst (λ (j : ℕ). next b′ j ≤ capacityOf b) (sym e) (omega (arith, N .nextTaken, R .nexts before (P .low) (P .high))))
       (λ d.
         same-or-other (next b′ i ≤ capacityOf b) i before
-        (λ e. subst (λ (j : ℕ). next b′ j ≤ capacityOf b) (sym e) (omega (arith, N .nextBefore, free-within .1)))
+        (λ e. subst (λ (j : ℕ). next b′ j ≤ capacityOf b) (sym e) (omega (arith, N .nextBefore, P .movesHigh)))
         (λ f. omega (arith, N .nextOther i h d f, R .nexts i h m)))
+
+  new-once : (i : ℕ) → 1 ≤ i → i ≤ capacityOf b → count i ((pre ++ before ∷ taken ∷ post) ++ free) ≡ 1
+  unfolding count
+  new-once i h m = sum-of i before pre (taken ∷ post) free ∙ omega (arith, inserting .once i h m)
 
   pub inserted-rules : ChainRules b′ (pre ++ before ∷ taken ∷ post) free
   inserted-rules =
       record {
         least = omega (arith, N .size, R .least);
         most = omega (arith, N .size, R .most);
-        capacity = N .capacity ∙ R .capacity ∙ sym same-capacity;
-        usedHead = omega (arith, N .usedHead, R .usedHead, same-capacity);
-        freeHead = omega (arith, N .freeHead, R .nexts taken (free-within .0) (free-within .1), same-capacity);
-        nexts = λ i h m. omega (arith, new-next i h (omega (arith, same-capacity)), same-capacity);
+        capacity = N .capacity ∙ R .capacity ∙ sym size-kept;
+        usedHead = omega (arith, N .usedHead, R .usedHead, size-kept);
+        freeHead = omega (arith, N .freeHead, R .nexts taken (inserting .movesLow) (inserting .movesHigh), size-kept);
+        nexts = λ i h m. omega (arith, new-next i h (omega (arith, size-kept)), size-kept);
         usedChain = new-used;
         freeChain = new-free;
-        once = λ i h m. new-once i h (omega (arith, same-capacity));
-        counted = N .used ∙ new-count
+        once = λ i h m. new-once i h (omega (arith, size-kept));
+        counted = omega (arith, N .used, R .counted, length-append pre (before ∷ post), length-append pre (before ∷ taken ∷ post))
       }
-    where
-      new-once : (i : ℕ) → 1 ≤ i → i ≤ capacityOf b → count i ((pre ++ before ∷ taken ∷ post) ++ free) ≡ 1
-      new-once i h m = unfold count in (sum-of i before pre (taken ∷ post) free ∙ omega (arith, once-sum i h m))
-      new-count : word b 3 + 1 ≡ length (pre ++ before ∷ taken ∷ post)
-      new-count = omega (arith, R .counted, length-append pre (before ∷ post), length-append pre (before ∷ taken ∷ post))
 
   -- the tuples are those of before, and the new one after `before`
   pub inserted-tuples : map (tupleAt b′) (pre ++ before ∷ taken ∷ post) ≡ map (tupleAt b) pre ++ tupleAt b before ∷ t ∷ map (tupleAt b) post
   inserted-tuples =
+      let P = inserting in
       map-append (tupleAt b′) pre (before ∷ taken ∷ post)
-      ∙ ap₂ _++_ (map-agree (tupleAt b′) (tupleAt b) pre (λ k one. kept-tuple k (counted-within (capacityOf b) pre pre-within k one) (omega arith)))
-      (ap₂ _∷_ (N .tupleOther before (rest-within .0) apart-taken)
+      ∙ ap₂ _++_ (map-agree (tupleAt b′) (tupleAt b) pre (on-pre (capacityOf b) before taken pre post free P (tupleAt b′) (tupleAt b) tuples))
+      (ap₂ _∷_ (N .tupleOther before (P .low) (apart (capacityOf b) before taken pre post free P))
       (ap₂ _∷_ (N .tupleTaken)
-      (map-agree (tupleAt b′) (tupleAt b) post
-      (λ k one. kept-tuple k (counted-within (capacityOf b) post (rest-within .2) k one) (omega arith)))))
-    where
-      kept-tuple : (k : ℕ) → (1 ≤ k) × (k ≤ capacityOf b) → 1 ≤ count k pre + count k post + count k free → tupleAt b′ k ≡ tupleAt b k
-      kept-tuple k w one = N .tupleOther k (w .0) (elsewhere k (w .0) (w .1) one .0)
+      (map-agree (tupleAt b′) (tupleAt b) post (on-post (capacityOf b) before taken pre post free P (tupleAt b′) (tupleAt b) tuples))))
+
+-- ---- a tuple unlinked
+
+module _ (b b′ : List ℕ) (before gone : ℕ) (pre post free : List ℕ)
+    (R : ChainRules b (pre ++ before ∷ gone ∷ post) free) (N : Removed b b′ before gone) where
+  pub removing : Parts (capacityOf b) before gone pre post free
+  unfolding count
+  removing =
+      let used = chain-within (next b) (capacityOf b) (word b 1) (pre ++ before ∷ gone ∷ post) (R .usedChain) (R .usedHead) (R .nexts) in
+      let rest = within-right (capacityOf b) pre (before ∷ gone ∷ post) used in
+      record {
+        preWithin = within-left (capacityOf b) pre (before ∷ gone ∷ post) used;
+        postWithin = rest .2 .2;
+        freeWithin = chain-within (next b) (capacityOf b) (word b 2) free (R .freeChain) (R .freeHead) (R .nexts);
+        low = rest .0;
+        high = rest .1;
+        movesLow = rest .2 .0;
+        movesHigh = rest .2 .1;
+        once = λ k h m. omega (arith, sum-of k before pre (gone ∷ post) free, R .once k h m)
+      }
+
+  kept-size : capacityOf b′ ≡ capacityOf b
+  kept-size = capacity-length b b′ (N .size)
+
+  kept-links : (j : ℕ) → 1 ≤ j → j ≢ gone → j ≢ before → next b j ≡ next b′ j
+  kept-links j h d e = sym (N .nextOther j h d e)
+
+  kept-tuples : (j : ℕ) → 1 ≤ j → j ≢ gone → j ≢ before → tupleAt b′ j ≡ tupleAt b j
+  kept-tuples j h d e = N .tuple j h
+
+  left-used : Chain (next b′) (word b′ 1) (pre ++ before ∷ post)
+  left-used =
+      let P = removing in
+      let s = chain-split (next b) (word b 1) pre (before ∷ gone ∷ post) (R .usedChain) in
+      let at : before ≡ s .0 = s .2 .1 in
+      let second : gone ≡ next b (s .0) = s .2 .2 .1 in
+      let rest : Chain (next b) (next b gone) post = subst (λ (i : ℕ). Chain (next b) (next b i) post) (sym second) (s .2 .2 .2) in
+      let from-before : Chain (next b′) before (before ∷ post)
+            = (λ z. omega (arith, P .low), refl,
+            subst (λ (i : ℕ). Chain (next b′) i post) (sym (N .nextBefore))
+            (chain-agree (next b) (next b′) (next b gone) post
+            (on-post (capacityOf b) before gone pre post free P (next b) (next b′) kept-links) rest)) in
+      subst (λ (i : ℕ). Chain (next b′) i (pre ++ before ∷ post)) (sym (N .usedHead))
+      (path-chain (next b′) (word b 1) before pre (before ∷ post)
+      (subst (λ (j : ℕ). Path (next b′) (word b 1) pre j) (sym at)
+      (path-agree (next b) (next b′) (word b 1) (s .0) pre
+      (on-pre (capacityOf b) before gone pre post free P (next b) (next b′) kept-links) (s .1)))
+      from-before)
+
+  left-free : Chain (next b′) (word b′ 2) (gone ∷ free)
+  left-free =
+      let P = removing in
+      subst (λ (i : ℕ). Chain (next b′) i (gone ∷ free)) (sym (N .freeHead))
+      (λ z. omega (arith, P .movesLow), refl,
+      subst (λ (i : ℕ). Chain (next b′) i free) (sym (N .nextGone))
+      (chain-agree (next b) (next b′) (word b 2) free (on-free (capacityOf b) before gone pre post free P (next b) (next b′) kept-links) (R .freeChain)))
+
+  left-next : (i : ℕ) → 1 ≤ i → i ≤ capacityOf b → next b′ i ≤ capacityOf b
+  left-next i h m =
+      let P = removing in
+      same-or-other (next b′ i ≤ capacityOf b) i gone
+      (λ e. subst (λ (j : ℕ). next b′ j ≤ capacityOf b) (sym e) (omega (arith, N .nextGone, R .freeHead)))
+      (λ d.
+        same-or-other (next b′ i ≤ capacityOf b) i before
+        (λ e. subst (λ (j : ℕ). next b′ j ≤ capacityOf b) (sym e) (omega (arith, N .nextBefore, R .nexts gone (P .movesLow) (P .movesHigh))))
+        (λ f. omega (arith, N .nextOther i h d f, R .nexts i h m)))
+
+  left-once : (i : ℕ) → 1 ≤ i → i ≤ capacityOf b → count i ((pre ++ before ∷ post) ++ gone ∷ free) ≡ 1
+  unfolding count
+  left-once i h m = sum-of i before pre post (gone ∷ free) ∙ removing .once i h m
+
+  pub removed-rules : ChainRules b′ (pre ++ before ∷ post) (gone ∷ free)
+  removed-rules =
+      record {
+        least = omega (arith, N .size, R .least);
+        most = omega (arith, N .size, R .most);
+        capacity = N .capacity ∙ R .capacity ∙ sym kept-size;
+        usedHead = omega (arith, N .usedHead, R .usedHead, kept-size);
+        freeHead = omega (arith, N .freeHead, removing .movesHigh, kept-size);
+        nexts = λ i h m. omega (arith, left-next i h (omega (arith, kept-size)), kept-size);
+        usedChain = left-used;
+        freeChain = left-free;
+        once = λ i h m. left-once i h (omega (arith, kept-size));
+        counted = omega (arith, N .used, R .counted, length-append pre (before ∷ post), length-append pre (before ∷ gone ∷ post))
+      }
+
+  -- the tuples are those of before, without that of the record that is gone
+  pub removed-tuples : map (tupleAt b′) (pre ++ before ∷ post) ≡ map (tupleAt b) pre ++ tupleAt b before ∷ map (tupleAt b) post
+  removed-tuples =
+      let P = removing in
+      map-append (tupleAt b′) pre (before ∷ post)
+      ∙ ap₂ _++_ (map-agree (tupleAt b′) (tupleAt b) pre (on-pre (capacityOf b) before gone pre post free P (tupleAt b′) (tupleAt b) kept-tuples))
+      (ap₂ _∷_ (N .tuple before (P .low))
+      (map-agree (tupleAt b′) (tupleAt b) post (on-post (capacityOf b) before gone pre post free P (tupleAt b′) (tupleAt b) kept-tuples)))
