@@ -3,3 +3,4 @@ pub mod Places
 pub mod Written
 pub mod Paths
 pub mod Relinked
+pub mod Found

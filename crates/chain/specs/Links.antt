@@ -4,11 +4,12 @@ use mathlib.Core.List.{List, [], _∷_}
 use mathlib.Core.Option.{some}
 use mathlib.Core.Path.{_≡_}
 use Prim.Native.Nat.{ℕ, _+_, _-_, _≤_}
-use lib.ListN.{set}
+use lib.ListN.{length, set}
 use Rattle.model.specs.declared.Key.{Key}
 use Rattle.model.specs.Ordered.{isLess, Ascending}
-use Rattle.model.specs.Keys.{Value, keyOf, spaceKey, compareKeys}
-use Rattle.model.specs.Buffer.{word, capacityOf, next, usedOf, freeOf, tuplesOf}
+use Rattle.model.specs.Keys.{Value, keyOf, spaceKey, compareKeys, sameKey}
+use Rattle.model.specs.Tuples.{Tuples}
+use Rattle.model.specs.Buffer.{word, capacityOf, next, pastRecords, usedOf, freeOf, tuplesOf}
 use Rattle.model.specs.Rules.{firstKey, ChainRules}
 use Rattle.chain.specs.declared.Place.{Place}
 use Rattle.records.specs.Words.{Inside, putNext, putTuple}
@@ -27,6 +28,19 @@ place before at = record { before = before; at = at }
 unfoldable pub placeIn : (ℕ → Key) → Key → ℕ → List ℕ → Place
 placeIn key k last [] = place last 0
 placeIn key k last (i ∷ is) = cond (isLess (compareKeys (key i) k)) (placeIn key k i is) (place last i)
+
+-- the record that holds a key; 0 for none
+unfoldable pub findIn : (ℕ → Key) → Key → List ℕ → ℕ
+findIn key k [] = 0
+findIn key k (i ∷ is) = cond (sameKey k (key i)) i (findIn key k is)
+
+-- the buffer after an edit: it holds these tuples, and has the same length and the same words past record C.
+-- Left to the builder: which record holds a tuple, and with it the order of the free chain; the words of free records besides next.
+pub record Edited (b b′ : List ℕ) (ts : Tuples) : Type 0 where
+  pub linked : Linked b′
+  pub tuples : tuplesOf b′ ≡ ts
+  pub size : length b′ ≡ length b
+  pub past : pastRecords b′ ≡ pastRecords b
 
 -- what linking after record `before` needs: that record, a free record, and words that fit
 pub record Linking (b : List ℕ) (before : ℕ) : Type 0 where

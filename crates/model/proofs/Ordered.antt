@@ -1,6 +1,6 @@
 -- Laws of sets as ascending lists (specs/Ordered.antt).
-use mathlib.Core.Bool.{Bool, true, false, _||_, false≢true, true≢false}
-use mathlib.Core.List.{List, [], _∷_}
+use mathlib.Core.Bool.{Bool, true, false, _||_, or-assoc, false≢true, true≢false}
+use mathlib.Core.List.{List, [], _∷_, _++_}
 use mathlib.Core.Logic.{⊎-elim}
 use mathlib.Core.Path.{_≡_, refl, sym, ap, ap₂, _∙_, subst}
 use Prim.Native.Nat.{suc, Ordering, Ordering·lt, Ordering·eq, Ordering·gt}
@@ -129,6 +129,42 @@ module _ {A K : Type 0} (key : A → K) (order : K → K → Ordering) (L : IsOr
       go Ordering·lt f ih = refl
       go Ordering·eq f ih = absurd (true≢false (subst (λ (o : Ordering). (isEq o || holds key order (key a) xs) ≡ false) f e))
       go Ordering·gt f ih = ap suc (ih (subst (λ (o : Ordering). (isEq o || holds key order (key a) xs) ≡ false) f e))
+
+  -- ---- a list cut at a key's place
+
+  -- all keys are below k
+  abbrev pub Below : K → List A → Type 0
+  Below k [] = Unit {0}
+  Below k (x ∷ xs) = (order (key x) k ≡ Ordering·lt) × Below k xs
+
+  -- less is more the other way round
+  more : (j k : K) → order j k ≡ Ordering·lt → order k j ≡ Ordering·gt
+  more j k e = L .compares .flip j k ∙ ap opposite e
+
+  pub holds-append : (k : K) (xs ys : List A) → holds key order k (xs ++ ys) ≡ (holds key order k xs || holds key order k ys)
+  unfolding holds
+  holds-append k [] ys = refl
+  holds-append k (x ∷ xs) ys =
+      ap (λ (b : Bool). isEq (order k (key x)) || b) (holds-append k xs ys)
+      ∙ sym (or-assoc (isEq (order k (key x))) (holds key order k xs) (holds key order k ys))
+
+  pub below-not-held : (k : K) (xs : List A) → Below k xs → holds key order k xs ≡ false
+  unfolding holds
+  below-not-held k [] h = refl
+  below-not-held k (x ∷ xs) h = ap₂ _||_ (ap isEq (more (key x) k (h .0))) (below-not-held k xs (h .1))
+
+  -- an element goes behind those whose keys are below its own
+  pub put-below : (a : A) (xs ys : List A) → Below (key a) xs → put key order a (xs ++ ys) ≡ xs ++ put key order a ys
+  unfolding put
+  put-below a [] ys h = refl
+  put-below a (x ∷ xs) ys h =
+      ap (λ (o : Ordering). byOrder o (a ∷ x ∷ (xs ++ ys)) (x ∷ (xs ++ ys)) (x ∷ put key order a (xs ++ ys))) (more (key x) (key a) (h .0))
+      ∙ ap (λ (zs : List A). x ∷ zs) (put-below a xs ys (h .1))
+
+  -- and before one whose key is above
+  pub put-before : (a x : A) (xs : List A) → order (key a) (key x) ≡ Ordering·lt → put key order a (x ∷ xs) ≡ a ∷ x ∷ xs
+  unfolding put
+  put-before a x xs e = ap (λ (o : Ordering). byOrder o (a ∷ x ∷ xs) (x ∷ xs) (x ∷ put key order a xs)) e
 
   -- ---- the test
 
