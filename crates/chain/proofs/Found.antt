@@ -3,7 +3,7 @@ use mathlib.Core.Bool.{Bool, true, false, cond, not, _||_, false≢true}
 use mathlib.Core.List.{List, [], _∷_, _++_, map}
 use mathlib.Core.Logic.{_≢_}
 use mathlib.Core.Path.{_≡_, refl, sym, ap, ap₂, _∙_, subst}
-use Prim.Native.Nat.{ℕ, _≤_, Ordering, Ordering·lt, Ordering·eq, Ordering·gt}
+use Prim.Native.Nat.{ℕ, _+_, _≤_, Ordering, Ordering·lt, Ordering·eq, Ordering·gt}
 use native.Mathlib.Omega.{arith}
 use lib.Dec.{eqb, isEq}
 use borrow.Author.Tests.{eq-eqb, ne-eqb, eqb-true}
@@ -17,6 +17,8 @@ use Rattle.model.proofs.Order.{keys, opposite, lt≢gt}
 use Rattle.model.proofs.Ordered.{Below, holds-append, below-not-held, above-not-held, ascending-tail, above-less}
 use Rattle.model.proofs.Tuples.{same-key, own-key}
 use Rattle.model.proofs.Chains.{Within}
+use Rattle.records.specs.Words.{Inside}
+use Rattle.records.proofs.Words.{inside}
 use Rattle.chain.specs.declared.Place.{Place}
 use Rattle.chain.specs.Links.{Linked, place, placeIn, findIn}
 use Rattle.chain.proofs.Walks.{Rest, used-rest}
@@ -204,3 +206,66 @@ module _ (b : List ℕ) (k : Key) where
       → valueAt k (tuplesOf b) ≡ cond (eqb (findIn (keyAt b) k (usedOf b)) 0) 0 (tupleAt b (findIn (keyAt b) k (usedOf b)) .value)
   unfolding used-rest tuplesOf
   value-found L = found-value (usedOf b) (used-rest b (L .chains) .within)
+
+  -- ---- the answers of `find`, `has` and `value_at`
+
+  head-inside : (is : List ℕ) → Within (capacityOf b) is → headOf is ≢ 0 → Inside b (headOf is)
+  head-inside [] w h = absurd (h refl)
+  head-inside (i ∷ is) w h = inside b i (w .0) (w .1)
+
+  module _ (p : Place) (L : Linked b) (e : p ≡ placeIn (keyAt b) k 0 (usedOf b)) where
+    here : AtPlace (p .before) (p .at)
+    here = at-place p L e
+
+    pub place-inside : p .at ≢ 0 → Inside b (p .at)
+    place-inside h =
+        subst (Inside b) (sym (here .head)) (head-inside (here .post) (here .within) (λ z. h (here .head ∙ z)))
+
+    pub find-none : p .at ≡ 0 → 0 ≡ findIn (keyAt b) k (usedOf b)
+    find-none z =
+        sym (find-at (p .before) (p .at) here (sameKey k (keyAt b (p .at))) refl
+        ∙ ap (λ (t : Bool). cond t 0 (cond (sameKey k (keyAt b (p .at))) (p .at) 0)) (eq-eqb (p .at) 0 z))
+
+    find-some : p .at ≢ 0 → (key : Key) (t : Bool) → key ≡ keyAt b (p .at) → t ≡ sameKey k key
+        → cond t (p .at) 0 ≡ findIn (keyAt b) k (usedOf b)
+    find-some h key t ek et =
+        sym (find-at (p .before) (p .at) here t (et ∙ ap (sameKey k) ek)
+        ∙ ap (λ (u : Bool). cond u 0 (cond t (p .at) 0)) (ne-eqb (p .at) 0 h))
+
+    pub find-yes : p .at ≢ 0 → (key : Key) (t : Bool) → key ≡ keyAt b (p .at) → t ≡ sameKey k key → t ≡ true → p .at ≡ findIn (keyAt b) k (usedOf b)
+    find-yes h key t ek et is = sym (ap (λ (u : Bool). cond u (p .at) 0) is) ∙ find-some h key t ek et
+
+    pub find-no : p .at ≢ 0 → (key : Key) (t : Bool) → key ≡ keyAt b (p .at) → t ≡ sameKey k key → t ≡ false → 0 ≡ findIn (keyAt b) k (usedOf b)
+    find-no h key t ek et is = sym (ap (λ (u : Bool). cond u (p .at) 0) is) ∙ find-some h key t ek et
+
+  find-within : (is : List ℕ) → Within (capacityOf b) is → findIn (keyAt b) k is ≢ 0 → Inside b (findIn (keyAt b) k is)
+  unfolding findIn
+  find-within [] w h = absurd (h refl)
+  find-within (i ∷ is) w h = go (sameKey k (keyAt b i)) (find-within is (w .2)) h
+    where
+      go : (t : Bool) → (findIn (keyAt b) k is ≢ 0 → Inside b (findIn (keyAt b) k is)) → cond t i (findIn (keyAt b) k is) ≢ 0
+          → Inside b (cond t i (findIn (keyAt b) k is))
+      go true ih d = inside b i (w .0) (w .1)
+      go false ih d = ih d
+
+  module _ (at : ℕ) (L : Linked b) (e : at ≡ findIn (keyAt b) k (usedOf b)) where
+    pub found-inside : at ≢ 0 → Inside b at
+    unfolding used-rest
+    found-inside h = subst (Inside b) (sym e) (find-within (usedOf b) (used-rest b (L .chains) .within) (λ z. h (e ∙ z)))
+
+    pub has-found : not (eqb at 0) ≡ present k (tuplesOf b)
+    has-found = ap (λ (i : ℕ). not (eqb i 0)) e ∙ sym (present-found L)
+
+    pub value-none : at ≡ 0 → 0 ≡ valueAt k (tuplesOf b)
+    value-none z =
+        sym (value-found L
+        ∙ ap (λ (i : ℕ). cond (eqb i 0) 0 (tupleAt b i .value)) (sym e)
+        ∙ ap (λ (t : Bool). cond t 0 (tupleAt b at .value)) (eq-eqb at 0 z))
+
+    pub value-some : at ≢ 0 → (v : ℕ) → v ≡ word b (recordStart at + 5) → v ≡ valueAt k (tuplesOf b)
+    unfolding tupleAt
+    value-some h v ev =
+        ev
+        ∙ sym (value-found L
+        ∙ ap (λ (i : ℕ). cond (eqb i 0) 0 (tupleAt b i .value)) (sym e)
+        ∙ ap (λ (t : Bool). cond t 0 (tupleAt b at .value)) (ne-eqb at 0 h))

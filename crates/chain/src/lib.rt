@@ -4,8 +4,9 @@ use model::Key;
 
 ghost use mathlib.Core.Path.{_≡_};
 ghost use Prim.Native.Nat.{_+_, _≤_, _<_};
-ghost use Rattle.model.specs.Buffer.{usedOf, keyAt};
-ghost use Rattle.chain.specs.Links.{Linked, placeIn, Linking, insertAfter, Unlinking, removeAfter};
+ghost use Rattle.model.specs.Tuples.{present, valueAt};
+ghost use Rattle.model.specs.Buffer.{usedOf, tuplesOf, keyAt};
+ghost use Rattle.chain.specs.Links.{Linked, placeIn, findIn, Linking, insertAfter, Unlinking, removeAfter};
 
 // A place in the used chain: a record and the one after it; 0 for none.
 pub struct Place {
@@ -62,4 +63,40 @@ pub fn remove_after(b: &mut [u32], before: usize)
     records::put_next(b, gone, free);
     records::put_head_word(b, 2, gone);
     records::put_head_word(b, 3, used - 1);
+}
+
+// The record that holds a key; 0 for none.
+pub fn find(b: &[u32], k: Key) -> usize
+    requires { ⌜ Linked (now b) ⌝ }
+    ensures { λ r. ⌜ r ≡ findIn (keyAt (now (b .entry))) k (usedOf (now (b .entry))) ⌝ }
+{
+    let place = seek(b, k);
+    let at = place.at;
+    if at == 0 {
+        return 0;
+    }
+    if records::key_same(k, records::key_of(b, at)) {
+        return at;
+    }
+    0
+}
+
+// Is there a tuple with this key.
+pub fn has(b: &[u32], k: Key) -> bool
+    requires { ⌜ Linked (now b) ⌝ }
+    ensures { λ r. ⌜ r ≡ present k (tuplesOf (now (b .entry))) ⌝ }
+{
+    find(b, k) != 0
+}
+
+// The value at a key; NIL where the key is missing.
+pub fn value_at(b: &[u32], k: Key) -> u32
+    requires { ⌜ Linked (now b) ⌝ }
+    ensures { λ r. ⌜ r ≡ valueAt k (tuplesOf (now (b .entry))) ⌝ }
+{
+    let at = find(b, k);
+    if at == 0 {
+        return 0;
+    }
+    records::value_of(b, at)
 }
