@@ -70,7 +70,7 @@ module _ (b : List ℕ) (k : Key) where
             split = ap (λ (js : List ℕ). i ∷ js) (P .split);
             below = (is-less (compareKeys (keyAt b i) k) e, P .below);
             stop = P .stop;
-            at-place = ap (λ (t : Bool). cond t (placeIn (keyAt b) k i is) (place last i)) e ∙ P .at-place
+            at-place = ap (λ (t : Bool). cond t (placeIn (keyAt b) k i is) (place last i)) e ∙ P .at-place;
           }
       go false e P =
           record {
@@ -79,7 +79,7 @@ module _ (b : List ℕ) (k : Key) where
             split = refl;
             below = tt;
             stop = e;
-            at-place = ap (λ (t : Bool). cond t (placeIn (keyAt b) k i is) (place last i)) e
+            at-place = ap (λ (t : Bool). cond t (placeIn (keyAt b) k i is) (place last i)) e;
           }
 
   -- ---- finding
@@ -105,13 +105,14 @@ module _ (b : List ℕ) (k : Key) where
       go false ih f = ih f
 
   -- a record that is not below and not the key's own is above, and so are all after it
-  above-all : (i : ℕ) (is : List ℕ) → NotBelow (i ∷ is) → sameKey k (keyAt b i) ≡ false → Ascending keyOf compareKeys (tuplesAt (i ∷ is))
+  pub above-all : (i : ℕ) (is : List ℕ) → NotBelow (i ∷ is) → sameKey k (keyAt b i) ≡ false → Ascending keyOf compareKeys (tuplesAt (i ∷ is))
       → Above keyOf compareKeys k (tuplesAt (i ∷ is))
   unfolding tupleAt
   above-all i is stop differs h = (go (compareKeys (keyAt b i) k) refl, h)
     where
       back : compareKeys k (keyAt b i) ≡ opposite (compareKeys (keyAt b i) k)
       back = keys .compares .flip (keyAt b i) k
+
       go : (o : Ordering) → compareKeys (keyAt b i) k ≡ o → compareKeys k (keyAt b i) ≡ Ordering·lt
       go Ordering·lt e = absurd (false≢true (sym stop ∙ ap isLess e))
       go Ordering·eq e = absurd (false≢true (sym differs ∙ ap isEq (back ∙ ap opposite e)))
@@ -147,7 +148,7 @@ module _ (b : List ℕ) (k : Key) where
         ascends = ascending-right (P .pre) (P .post) (subst (λ (is : List ℕ). Ascending keyOf compareKeys (map (tupleAt b) is)) (P .split) (L .ascends));
         last = ap (λ (r : Place). r .before) q;
         head = ap (λ (r : Place). r .at) q;
-        within = within-right (capacityOf b) (P .pre) (P .post) (subst (Within (capacityOf b)) (P .split) (used-rest b (L .chains) .within))
+        within = within-right (capacityOf b) (P .pre) (P .post) (subst (Within (capacityOf b)) (P .split) (used-rest b (L .chains) .within));
       }
 
   find-post : (is : List ℕ) → NotBelow is → Within (capacityOf b) is → Ascending keyOf compareKeys (tuplesAt is)

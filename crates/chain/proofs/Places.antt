@@ -47,7 +47,7 @@ module _ (b : List ℕ) (k : Key) where
         subst (Seeking b k at) (sym ea)
         (record {
           walked = T .after;
-          whole = turn h key t ek et T ∙ ap (λ (u : Bool). cond u (placeIn (keyAt b) k at (T .after .rest)) (place before at)) yes′
+          whole = turn h key t ek et T ∙ ap (λ (u : Bool). cond u (placeIn (keyAt b) k at (T .after .rest)) (place before at)) yes′;
         })
 
     -- a key that is not below

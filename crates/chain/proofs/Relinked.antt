@@ -120,11 +120,11 @@ module _ (b : List ℕ) (before : ℕ) (k : Key) (v : Value) (L : Linking b befo
         nextBefore = next-head b₄ 3 (word b 3 + 1) last before ∙ next-putNext b₃ before taken I₃;
         nextOther =
             λ j h d e.
-              next-head b₄ 3 (word b 3 + 1) last j
-              ∙ next-putNext-other b₃ before taken I₃ j h e
-              ∙ next-putNext-other b₂ taken (next b before) I₂ j h d
-              ∙ next-putTuple b₁ taken k v I₁ j h
-              ∙ next-head b 2 (next b taken) second j;
+            next-head b₄ 3 (word b 3 + 1) last j
+            ∙ next-putNext-other b₃ before taken I₃ j h e
+            ∙ next-putNext-other b₂ taken (next b before) I₂ j h d
+            ∙ next-putTuple b₁ taken k v I₁ j h
+            ∙ next-head b 2 (next b taken) second j;
         tupleTaken =
             tuple-head b₄ 3 (word b 3 + 1) last taken
             ∙ tuple-putNext b₃ before taken I₃ taken at
@@ -132,17 +132,17 @@ module _ (b : List ℕ) (before : ℕ) (k : Key) (v : Value) (L : Linking b befo
             ∙ tuple-putTuple b₁ taken k v I₁;
         tupleOther =
             λ j h d.
-              tuple-head b₄ 3 (word b 3 + 1) last j
-              ∙ tuple-putNext b₃ before taken I₃ j h
-              ∙ tuple-putNext b₂ taken (next b before) I₂ j h
-              ∙ tuple-putTuple-other b₁ taken k v I₁ j h d
-              ∙ tuple-head b 2 (next b taken) second j;
+            tuple-head b₄ 3 (word b 3 + 1) last j
+            ∙ tuple-putNext b₃ before taken I₃ j h
+            ∙ tuple-putNext b₂ taken (next b before) I₂ j h
+            ∙ tuple-putTuple-other b₁ taken k v I₁ j h d
+            ∙ tuple-head b 2 (next b taken) second j;
         past =
             past-head b₄ 3 (word b 3 + 1) last
             ∙ past-putNext b₃ before taken I₃
             ∙ past-putNext b₂ taken (next b before) I₂
             ∙ past-putTuple b₁ taken k v I₁
-            ∙ past-head b 2 (next b taken) second
+            ∙ past-head b 2 (next b taken) second;
       }
 
 -- ---- what is read after a tuple is unlinked
@@ -221,21 +221,21 @@ module _ (b : List ℕ) (before : ℕ) (L : Unlinking b before) (apart : before 
             next-head c₃ 3 (word b 3 - 1) last gone ∙ next-head c₂ 2 gone second gone ∙ next-putNext c₁ gone (word b 2) J₁;
         nextOther =
             λ j h d e.
-              next-head c₃ 3 (word b 3 - 1) last j
-              ∙ next-head c₂ 2 gone second j
-              ∙ next-putNext-other c₁ gone (word b 2) J₁ j h d
-              ∙ next-putNext-other b before (next b gone) (L .there) j h e;
+            next-head c₃ 3 (word b 3 - 1) last j
+            ∙ next-head c₂ 2 gone second j
+            ∙ next-putNext-other c₁ gone (word b 2) J₁ j h d
+            ∙ next-putNext-other b before (next b gone) (L .there) j h e;
         tuple =
             λ j h.
-              tuple-head c₃ 3 (word b 3 - 1) last j
-              ∙ tuple-head c₂ 2 gone second j
-              ∙ tuple-putNext c₁ gone (word b 2) J₁ j h
-              ∙ tuple-putNext b before (next b gone) (L .there) j h;
+            tuple-head c₃ 3 (word b 3 - 1) last j
+            ∙ tuple-head c₂ 2 gone second j
+            ∙ tuple-putNext c₁ gone (word b 2) J₁ j h
+            ∙ tuple-putNext b before (next b gone) (L .there) j h;
         past =
             past-head c₃ 3 (word b 3 - 1) last
             ∙ past-head c₂ 2 gone second
             ∙ past-putNext c₁ gone (word b 2) J₁
-            ∙ past-putNext b before (next b gone) (L .there)
+            ∙ past-putNext b before (next b gone) (L .there);
       }
 
 -- ---- from the reads to the rules
@@ -270,7 +270,7 @@ module _ (C before moves : ℕ) (pre post free : List ℕ) (P : Parts C before m
   elsewhere : (k : ℕ) → 1 ≤ k → k ≤ C → 1 ≤ count k pre + count k post + count k free → (k ≢ moves) × (k ≢ before)
   elsewhere k h m one = (λ e. omega (arith, P .once k h m, hit k moves e), λ e. omega (arith, P .once k h m, hit k before e))
 
-  apart : before ≢ moves
+  pub apart : before ≢ moves
   apart e = omega (arith, P .once before (P .low) (P .high), hit before before refl, hit before moves e)
 
   -- so links and tuples that are kept but for these two are kept on the lists
@@ -293,24 +293,28 @@ module _ (C before moves : ℕ) (pre post free : List ℕ) (P : Parts C before m
 
 -- ---- a tuple linked
 
+pub inserting : (b : List ℕ) (before taken : ℕ) (pre post free : List ℕ) → ChainRules b (pre ++ before ∷ post) (taken ∷ free)
+    → Parts (capacityOf b) before taken pre post free
+unfolding count
+inserting b before taken pre post free R =
+    let used = chain-within (next b) (capacityOf b) (word b 1) (pre ++ before ∷ post) (R .usedChain) (R .usedHead) (R .nexts) in
+    let rest = within-right (capacityOf b) pre (before ∷ post) used in
+    let unused = chain-within (next b) (capacityOf b) (word b 2) (taken ∷ free) (R .freeChain) (R .freeHead) (R .nexts) in
+    record {
+      preWithin = within-left (capacityOf b) pre (before ∷ post) used;
+      postWithin = rest .2;
+      freeWithin = unused .2;
+      low = rest .0;
+      high = rest .1;
+      movesLow = unused .0;
+      movesHigh = unused .1;
+      once = λ k h m. sym (sum-of k before pre post (taken ∷ free)) ∙ R .once k h m;
+    }
+
 module _ (b b′ : List ℕ) (before taken : ℕ) (t : Tuple) (pre post free : List ℕ)
     (R : ChainRules b (pre ++ before ∷ post) (taken ∷ free)) (N : Inserted b b′ before taken t) where
-  pub inserting : Parts (capacityOf b) before taken pre post free
-  unfolding count
-  inserting =
-      let used = chain-within (next b) (capacityOf b) (word b 1) (pre ++ before ∷ post) (R .usedChain) (R .usedHead) (R .nexts) in
-      let rest = within-right (capacityOf b) pre (before ∷ post) used in
-      let unused = chain-within (next b) (capacityOf b) (word b 2) (taken ∷ free) (R .freeChain) (R .freeHead) (R .nexts) in
-      record {
-        preWithin = within-left (capacityOf b) pre (before ∷ post) used;
-        postWithin = rest .2;
-        freeWithin = unused .2;
-        low = rest .0;
-        high = rest .1;
-        movesLow = unused .0;
-        movesHigh = unused .1;
-        once = λ k h m. sym (sum-of k before pre post (taken ∷ free)) ∙ R .once k h m
-      }
+  I : Parts (capacityOf b) before taken pre post free
+  I = inserting b before taken pre post free R
 
   size-kept : capacityOf b′ ≡ capacityOf b
   size-kept = capacity-length b b′ (N .size)
@@ -323,17 +327,17 @@ module _ (b b′ : List ℕ) (before taken : ℕ) (t : Tuple) (pre post free : L
 
   new-used : Chain (next b′) (word b′ 1) (pre ++ before ∷ taken ∷ post)
   new-used =
-      let P = inserting in
+      let P = I in
       let s = chain-split (next b) (word b 1) pre (before ∷ post) (R .usedChain) in
       let at : before ≡ s .0 = s .2 .1 in
       let rest : Chain (next b) (next b before) post = subst (λ (i : ℕ). Chain (next b) (next b i) post) (sym at) (s .2 .2) in
       let after : Chain (next b′) (next b′ taken) post
-            = subst (λ (i : ℕ). Chain (next b′) i post) (sym (N .nextTaken))
-            (chain-agree (next b) (next b′) (next b before) post
-            (on-post (capacityOf b) before taken pre post free P (next b) (next b′) links) rest) in
+      = subst (λ (i : ℕ). Chain (next b′) i post) (sym (N .nextTaken))
+      (chain-agree (next b) (next b′) (next b before) post
+      (on-post (capacityOf b) before taken pre post free P (next b) (next b′) links) rest) in
       let from-taken : Chain (next b′) taken (taken ∷ post) = (λ z. omega (arith, P .movesLow), refl, after) in
       let from-before : Chain (next b′) before (before ∷ taken ∷ post)
-            = (λ z. omega (arith, P .low), refl, subst (λ (i : ℕ). Chain (next b′) i (taken ∷ post)) (sym (N .nextBefore)) from-taken) in
+      = (λ z. omega (arith, P .low), refl, subst (λ (i : ℕ). Chain (next b′) i (taken ∷ post)) (sym (N .nextBefore)) from-taken) in
       subst (λ (i : ℕ). Chain (next b′) i (pre ++ before ∷ taken ∷ post)) (sym (N .usedHead))
       (path-chain (next b′) (word b 1) before pre (before ∷ taken ∷ post)
       (subst (λ (j : ℕ). Path (next b′) (word b 1) pre j) (sym at)
@@ -345,21 +349,21 @@ module _ (b b′ : List ℕ) (before taken : ℕ) (t : Tuple) (pre post free : L
       let at : taken ≡ word b 2 = R .freeChain .1 in
       subst (λ (i : ℕ). Chain (next b′) i free) (sym (N .freeHead ∙ ap (next b) at))
       (chain-agree (next b) (next b′) (next b (word b 2)) free
-      (on-free (capacityOf b) before taken pre post free inserting (next b) (next b′) links) (R .freeChain .2))
+      (on-free (capacityOf b) before taken pre post free I (next b) (next b′) links) (R .freeChain .2))
 
   new-next : (i : ℕ) → 1 ≤ i → i ≤ capacityOf b → next b′ i ≤ capacityOf b
   new-next i h m =
-      let P = inserting in
+      let P = I in
       same-or-other (next b′ i ≤ capacityOf b) i taken
       (λ e. subst (λ (j : ℕ). next b′ j ≤ capacityOf b) (sym e) (omega (arith, N .nextTaken, R .nexts before (P .low) (P .high))))
       (λ d.
-        same-or-other (next b′ i ≤ capacityOf b) i before
-        (λ e. subst (λ (j : ℕ). next b′ j ≤ capacityOf b) (sym e) (omega (arith, N .nextBefore, P .movesHigh)))
-        (λ f. omega (arith, N .nextOther i h d f, R .nexts i h m)))
+      same-or-other (next b′ i ≤ capacityOf b) i before
+      (λ e. subst (λ (j : ℕ). next b′ j ≤ capacityOf b) (sym e) (omega (arith, N .nextBefore, P .movesHigh)))
+      (λ f. omega (arith, N .nextOther i h d f, R .nexts i h m)))
 
   new-once : (i : ℕ) → 1 ≤ i → i ≤ capacityOf b → count i ((pre ++ before ∷ taken ∷ post) ++ free) ≡ 1
   unfolding count
-  new-once i h m = sum-of i before pre (taken ∷ post) free ∙ omega (arith, inserting .once i h m)
+  new-once i h m = sum-of i before pre (taken ∷ post) free ∙ omega (arith, I .once i h m)
 
   pub inserted-rules : ChainRules b′ (pre ++ before ∷ taken ∷ post) free
   inserted-rules =
@@ -368,18 +372,18 @@ module _ (b b′ : List ℕ) (before taken : ℕ) (t : Tuple) (pre post free : L
         most = omega (arith, N .size, R .most);
         capacity = N .capacity ∙ R .capacity ∙ sym size-kept;
         usedHead = omega (arith, N .usedHead, R .usedHead, size-kept);
-        freeHead = omega (arith, N .freeHead, R .nexts taken (inserting .movesLow) (inserting .movesHigh), size-kept);
+        freeHead = omega (arith, N .freeHead, R .nexts taken (I .movesLow) (I .movesHigh), size-kept);
         nexts = λ i h m. omega (arith, new-next i h (omega (arith, size-kept)), size-kept);
         usedChain = new-used;
         freeChain = new-free;
         once = λ i h m. new-once i h (omega (arith, size-kept));
-        counted = omega (arith, N .used, R .counted, length-append pre (before ∷ post), length-append pre (before ∷ taken ∷ post))
+        counted = omega (arith, N .used, R .counted, length-append pre (before ∷ post), length-append pre (before ∷ taken ∷ post));
       }
 
   -- the tuples are those of before, and the new one after `before`
   pub inserted-tuples : map (tupleAt b′) (pre ++ before ∷ taken ∷ post) ≡ map (tupleAt b) pre ++ tupleAt b before ∷ t ∷ map (tupleAt b) post
   inserted-tuples =
-      let P = inserting in
+      let P = I in
       map-append (tupleAt b′) pre (before ∷ taken ∷ post)
       ∙ ap₂ _++_ (map-agree (tupleAt b′) (tupleAt b) pre (on-pre (capacityOf b) before taken pre post free P (tupleAt b′) (tupleAt b) tuples))
       (ap₂ _∷_ (N .tupleOther before (P .low) (apart (capacityOf b) before taken pre post free P))
@@ -388,23 +392,27 @@ module _ (b b′ : List ℕ) (before taken : ℕ) (t : Tuple) (pre post free : L
 
 -- ---- a tuple unlinked
 
+pub removing : (b : List ℕ) (before gone : ℕ) (pre post free : List ℕ) → ChainRules b (pre ++ before ∷ gone ∷ post) free
+    → Parts (capacityOf b) before gone pre post free
+unfolding count
+removing b before gone pre post free R =
+    let used = chain-within (next b) (capacityOf b) (word b 1) (pre ++ before ∷ gone ∷ post) (R .usedChain) (R .usedHead) (R .nexts) in
+    let rest = within-right (capacityOf b) pre (before ∷ gone ∷ post) used in
+    record {
+      preWithin = within-left (capacityOf b) pre (before ∷ gone ∷ post) used;
+      postWithin = rest .2 .2;
+      freeWithin = chain-within (next b) (capacityOf b) (word b 2) free (R .freeChain) (R .freeHead) (R .nexts);
+      low = rest .0;
+      high = rest .1;
+      movesLow = rest .2 .0;
+      movesHigh = rest .2 .1;
+      once = λ k h m. omega (arith, sum-of k before pre (gone ∷ post) free, R .once k h m);
+    }
+
 module _ (b b′ : List ℕ) (before gone : ℕ) (pre post free : List ℕ)
     (R : ChainRules b (pre ++ before ∷ gone ∷ post) free) (N : Removed b b′ before gone) where
-  pub removing : Parts (capacityOf b) before gone pre post free
-  unfolding count
-  removing =
-      let used = chain-within (next b) (capacityOf b) (word b 1) (pre ++ before ∷ gone ∷ post) (R .usedChain) (R .usedHead) (R .nexts) in
-      let rest = within-right (capacityOf b) pre (before ∷ gone ∷ post) used in
-      record {
-        preWithin = within-left (capacityOf b) pre (before ∷ gone ∷ post) used;
-        postWithin = rest .2 .2;
-        freeWithin = chain-within (next b) (capacityOf b) (word b 2) free (R .freeChain) (R .freeHead) (R .nexts);
-        low = rest .0;
-        high = rest .1;
-        movesLow = rest .2 .0;
-        movesHigh = rest .2 .1;
-        once = λ k h m. omega (arith, sum-of k before pre (gone ∷ post) free, R .once k h m)
-      }
+  J : Parts (capacityOf b) before gone pre post free
+  J = removing b before gone pre post free R
 
   kept-size : capacityOf b′ ≡ capacityOf b
   kept-size = capacity-length b b′ (N .size)
@@ -417,16 +425,19 @@ module _ (b b′ : List ℕ) (before gone : ℕ) (pre post free : List ℕ)
 
   left-used : Chain (next b′) (word b′ 1) (pre ++ before ∷ post)
   left-used =
-      let P = removing in
+      let P = J in
       let s = chain-split (next b) (word b 1) pre (before ∷ gone ∷ post) (R .usedChain) in
       let at : before ≡ s .0 = s .2 .1 in
       let second : gone ≡ next b (s .0) = s .2 .2 .1 in
       let rest : Chain (next b) (next b gone) post = subst (λ (i : ℕ). Chain (next b) (next b i) post) (sym second) (s .2 .2 .2) in
       let from-before : Chain (next b′) before (before ∷ post)
-            = (λ z. omega (arith, P .low), refl,
-            subst (λ (i : ℕ). Chain (next b′) i post) (sym (N .nextBefore))
+      = (
+        λ z. omega (arith, P .low),
+        refl,
+        subst (λ (i : ℕ). Chain (next b′) i post) (sym (N .nextBefore))
             (chain-agree (next b) (next b′) (next b gone) post
-            (on-post (capacityOf b) before gone pre post free P (next b) (next b′) kept-links) rest)) in
+            (on-post (capacityOf b) before gone pre post free P (next b) (next b′) kept-links) rest),
+      ) in
       subst (λ (i : ℕ). Chain (next b′) i (pre ++ before ∷ post)) (sym (N .usedHead))
       (path-chain (next b′) (word b 1) before pre (before ∷ post)
       (subst (λ (j : ℕ). Path (next b′) (word b 1) pre j) (sym at)
@@ -436,25 +447,27 @@ module _ (b b′ : List ℕ) (before gone : ℕ) (pre post free : List ℕ)
 
   left-free : Chain (next b′) (word b′ 2) (gone ∷ free)
   left-free =
-      let P = removing in
-      subst (λ (i : ℕ). Chain (next b′) i (gone ∷ free)) (sym (N .freeHead))
-      (λ z. omega (arith, P .movesLow), refl,
-      subst (λ (i : ℕ). Chain (next b′) i free) (sym (N .nextGone))
-      (chain-agree (next b) (next b′) (word b 2) free (on-free (capacityOf b) before gone pre post free P (next b) (next b′) kept-links) (R .freeChain)))
+      let P = J in
+      subst (λ (i : ℕ). Chain (next b′) i (gone ∷ free)) (sym (N .freeHead)) (
+        λ z. omega (arith, P .movesLow),
+        refl,
+        subst (λ (i : ℕ). Chain (next b′) i free) (sym (N .nextGone))
+            (chain-agree (next b) (next b′) (word b 2) free (on-free (capacityOf b) before gone pre post free P (next b) (next b′) kept-links) (R .freeChain)),
+      )
 
   left-next : (i : ℕ) → 1 ≤ i → i ≤ capacityOf b → next b′ i ≤ capacityOf b
   left-next i h m =
-      let P = removing in
+      let P = J in
       same-or-other (next b′ i ≤ capacityOf b) i gone
       (λ e. subst (λ (j : ℕ). next b′ j ≤ capacityOf b) (sym e) (omega (arith, N .nextGone, R .freeHead)))
       (λ d.
-        same-or-other (next b′ i ≤ capacityOf b) i before
-        (λ e. subst (λ (j : ℕ). next b′ j ≤ capacityOf b) (sym e) (omega (arith, N .nextBefore, R .nexts gone (P .movesLow) (P .movesHigh))))
-        (λ f. omega (arith, N .nextOther i h d f, R .nexts i h m)))
+      same-or-other (next b′ i ≤ capacityOf b) i before
+      (λ e. subst (λ (j : ℕ). next b′ j ≤ capacityOf b) (sym e) (omega (arith, N .nextBefore, R .nexts gone (P .movesLow) (P .movesHigh))))
+      (λ f. omega (arith, N .nextOther i h d f, R .nexts i h m)))
 
   left-once : (i : ℕ) → 1 ≤ i → i ≤ capacityOf b → count i ((pre ++ before ∷ post) ++ gone ∷ free) ≡ 1
   unfolding count
-  left-once i h m = sum-of i before pre post (gone ∷ free) ∙ removing .once i h m
+  left-once i h m = sum-of i before pre post (gone ∷ free) ∙ J .once i h m
 
   pub removed-rules : ChainRules b′ (pre ++ before ∷ post) (gone ∷ free)
   removed-rules =
@@ -463,18 +476,18 @@ module _ (b b′ : List ℕ) (before gone : ℕ) (pre post free : List ℕ)
         most = omega (arith, N .size, R .most);
         capacity = N .capacity ∙ R .capacity ∙ sym kept-size;
         usedHead = omega (arith, N .usedHead, R .usedHead, kept-size);
-        freeHead = omega (arith, N .freeHead, removing .movesHigh, kept-size);
+        freeHead = omega (arith, N .freeHead, J .movesHigh, kept-size);
         nexts = λ i h m. omega (arith, left-next i h (omega (arith, kept-size)), kept-size);
         usedChain = left-used;
         freeChain = left-free;
         once = λ i h m. left-once i h (omega (arith, kept-size));
-        counted = omega (arith, N .used, R .counted, length-append pre (before ∷ post), length-append pre (before ∷ gone ∷ post))
+        counted = omega (arith, N .used, R .counted, length-append pre (before ∷ post), length-append pre (before ∷ gone ∷ post));
       }
 
   -- the tuples are those of before, without that of the record that is gone
   pub removed-tuples : map (tupleAt b′) (pre ++ before ∷ post) ≡ map (tupleAt b) pre ++ tupleAt b before ∷ map (tupleAt b) post
   removed-tuples =
-      let P = removing in
+      let P = J in
       map-append (tupleAt b′) pre (before ∷ post)
       ∙ ap₂ _++_ (map-agree (tupleAt b′) (tupleAt b) pre (on-pre (capacityOf b) before gone pre post free P (tupleAt b′) (tupleAt b) kept-tuples))
       (ap₂ _∷_ (N .tuple before (P .low))

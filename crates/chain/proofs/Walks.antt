@@ -52,7 +52,7 @@ step b at R h = go (R .rest) (R .chain) (R .within) (R .short)
         record {
           inside = inside b at (omega (arith, w .0)) (omega (arith, w .1));
           after = record { rest = is; chain = c .2; within = w .2; short = omega arith };
-          split = ap (λ (x : ℕ). x ∷ is) same
+          split = ap (λ (x : ℕ). x ∷ is) same;
         }
 
 -- each step leaves fewer
@@ -68,5 +68,5 @@ used-rest b R =
       rest = usedOf b;
       chain = R .usedChain;
       within = chain-within (next b) (capacityOf b) (word b 1) (usedOf b) (R .usedChain) (R .usedHead) (R .nexts);
-      short = omega (arith, chains-count b (usedOf b) (freeOf b) R)
+      short = omega (arith, chains-count b (usedOf b) (freeOf b) R);
     }

@@ -1,7 +1,6 @@
 // The used and free chains of the buffer.
 // Each function is pub for the crates above, which have proved what it requires.
 use model::Key;
-
 ghost use mathlib.Core.Path.{_≡_};
 ghost use Prim.Native.Nat.{_+_, _≤_, _<_};
 ghost use Rattle.model.specs.Tuples.{present, valueAt};

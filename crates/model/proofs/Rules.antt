@@ -27,7 +27,7 @@ never-below-zero : (n : ℕ) → compare n 0 ≡ Ordering·lt → ⊥
 never-below-zero n e = omega (arith, compare-lt n 0 e)
 
 -- no key is below (0,0,0,0)
-never-below-universe : (k : Key) → compareKeys k (spaceKey 0) ≡ Ordering·lt → ⊥
+pub never-below-universe : (k : Key) → compareKeys k (spaceKey 0) ≡ Ordering·lt → ⊥
 unfolding compareKeys
 never-below-universe k e =
     ⊎-elim (never-below-zero (k .s))

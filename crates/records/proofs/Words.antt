@@ -194,18 +194,18 @@ module _ (b : List ℕ) (i : ℕ) (k : Key) (v : Value) (I : Inside b i) where
       let l₃ : at + 4 < length b₃ = simp length-set (omega arith) in
       let l₄ : at + 5 < length b₄ = simp length-set (omega arith) in
       let s : word (putTuple b i k v) (at + 1) ≡ k .s
-            = other b₄ (at + 5) (at + 1) v (omega arith)
-            ∙ other b₃ (at + 4) (at + 1) (k .m) (omega arith)
-            ∙ other b₂ (at + 3) (at + 1) (k .g) (omega arith)
-            ∙ other b₁ (at + 2) (at + 1) (k .n) (omega arith)
-            ∙ same b (at + 1) (k .s) (omega arith) in
+      = other b₄ (at + 5) (at + 1) v (omega arith)
+      ∙ other b₃ (at + 4) (at + 1) (k .m) (omega arith)
+      ∙ other b₂ (at + 3) (at + 1) (k .g) (omega arith)
+      ∙ other b₁ (at + 2) (at + 1) (k .n) (omega arith)
+      ∙ same b (at + 1) (k .s) (omega arith) in
       let n : word (putTuple b i k v) (at + 2) ≡ k .n
-            = other b₄ (at + 5) (at + 2) v (omega arith)
-            ∙ other b₃ (at + 4) (at + 2) (k .m) (omega arith)
-            ∙ other b₂ (at + 3) (at + 2) (k .g) (omega arith)
-            ∙ same b₁ (at + 2) (k .n) l₁ in
+      = other b₄ (at + 5) (at + 2) v (omega arith)
+      ∙ other b₃ (at + 4) (at + 2) (k .m) (omega arith)
+      ∙ other b₂ (at + 3) (at + 2) (k .g) (omega arith)
+      ∙ same b₁ (at + 2) (k .n) l₁ in
       let g : word (putTuple b i k v) (at + 3) ≡ k .g
-            = other b₄ (at + 5) (at + 3) v (omega arith) ∙ other b₃ (at + 4) (at + 3) (k .m) (omega arith) ∙ same b₂ (at + 3) (k .g) l₂ in
+      = other b₄ (at + 5) (at + 3) v (omega arith) ∙ other b₃ (at + 4) (at + 3) (k .m) (omega arith) ∙ same b₂ (at + 3) (k .g) l₂ in
       let m : word (putTuple b i k v) (at + 4) ≡ k .m = other b₄ (at + 5) (at + 4) v (omega arith) ∙ same b₃ (at + 4) (k .m) l₃ in
       tuple-words s n g m (same b₄ (at + 5) v l₄)
 
