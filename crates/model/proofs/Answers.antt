@@ -9,7 +9,11 @@ use Rattle.model.specs.Ordered.{byOrder, holds, put, Ascending}
 use Rattle.model.specs.declared.Key.{Key}
 use Rattle.model.specs.Keys.{Value, NIL, Tuple, keyOf, spaceKey, nodeKey, edgeKey, compareKeys, sameKey}
 use Rattle.model.specs.Tuples.{Tuples, present, anyPresent, valueAt, add, assign, remove}
-use Rattle.model.specs.Operators.{outpointing, inpointing, adjacent, Object, create, exists}
+use Rattle.model.specs.declared.Direction.the-variants.{Outpointing, Inpointing, Adjacent}
+use Rattle.model.specs.declared.Object.{Object}
+use Rattle.model.specs.declared.Operator.the-variants.{Create, Exists}
+use Rattle.model.specs.declared.Direction.the-variants.{Outpointing, Inpointing, Adjacent}
+use Rattle.model.specs.declared.Operator.the-variants.{Create, Exists}
 use Rattle.model.specs.Pairs.{pair}
 use Rattle.model.specs.Steps.{yesNo, nOf, gOf, mOf, sOf, objectKeys, created, reply, after}
 use Rattle.model.specs.Rules.{Has}
@@ -97,27 +101,27 @@ value-remove j takes (t ∷ ts) e = go (takes (t .key)) refl (value-remove j tak
 -- ---- C: "add"
 
 -- exactly the keys of the step are new
-pub create-adds : (o : Object) (c : Call) (ts : Tuples) (k : Key) → present k (after (create o) c ts) ≡ (among k (created o c) || present k ts)
+pub create-adds : (o : Object) (c : Call) (ts : Tuples) (k : Key) → present k (after (Create o) c ts) ≡ (among k (created o c) || present k ts)
 unfolding after
 create-adds o c ts k = present-addAll k (created o c) ts
 
 -- ---- X: "yes if the pair (g,m) of n is present in s", "is it there"
 
 -- what X asks
-abbrev pub Exists : Object → Call → Tuples → Type 0
-Exists (Object.P d) c ts = IsPair d (sOf c) (nOf c) ts (pair (gOf c) (mOf c))
-Exists Object.UN c ts = Has (nodeKey (sOf c) (nOf c)) ts
-Exists Object.US c ts = Has (spaceKey (sOf c)) ts
+abbrev pub Asked : Object → Call → Tuples → Type 0
+Asked (Object.P d) c ts = IsPair d (sOf c) (nOf c) ts (pair (gOf c) (mOf c))
+Asked Object.UN c ts = Has (nodeKey (sOf c) (nOf c)) ts
+Asked Object.US c ts = Has (spaceKey (sOf c)) ts
 
 yes-said : {b : Bool} → yesNo b ≡ yesNo true → b ≡ true
 yes-said e = cc
 
 -- X says yes exactly when what it asks is there (g is not 0: condition 3)
-pub exists-exactly : (o : Object) (c : Call) (ts : Tuples) → gOf c ≢ 0 → (reply (exists o) c ts ≡ yesNo true) ↔ Exists o c ts
+pub exists-exactly : (o : Object) (c : Call) (ts : Tuples) → gOf c ≢ 0 → (reply (Exists o) c ts ≡ yesNo true) ↔ Asked o c ts
 unfolding reply objectKeys anyPresent
-exists-exactly (Object.P outpointing) c ts g = (λ e. (g, sym (or-false _) ∙ yes-said e), λ h. ap yesNo (or-false _ ∙ h .1))
-exists-exactly (Object.P inpointing) c ts g = (λ e. (g, sym (or-false _) ∙ yes-said e), λ h. ap yesNo (or-false _ ∙ h .1))
-exists-exactly (Object.P adjacent) c ts g = (
+exists-exactly (Object.P Outpointing) c ts g = (λ e. (g, sym (or-false _) ∙ yes-said e), λ h. ap yesNo (or-false _ ∙ h .1))
+exists-exactly (Object.P Inpointing) c ts g = (λ e. (g, sym (or-false _) ∙ yes-said e), λ h. ap yesNo (or-false _ ∙ h .1))
+exists-exactly (Object.P Adjacent) c ts g = (
   λ e. ⊎-elim (λ h. inl (g, h)) (λ h. inr (g, sym (or-false _) ∙ h)) (or-cases _ _ (yes-said e)),
   λ h.
       let there : Bool = present (edgeKey (sOf c) (nOf c) (gOf c) (mOf c)) ts in

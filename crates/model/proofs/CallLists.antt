@@ -14,14 +14,19 @@ use Rattle.model.specs.declared.Answer.the-variants.{Refusal}
 use Rattle.model.specs.declared.Pair.{Pair}
 use Rattle.model.specs.Keys.{mostName}
 use Rattle.model.specs.Tuples.{Tuples, fresh}
-use Rattle.model.specs.Operators.{Direction, outpointing, inpointing, adjacent, Listing, Operator, create, bind, value, exists, destroy, list, operatorOf}
+use Rattle.model.specs.declared.Direction.{Direction}
+use Rattle.model.specs.declared.Direction.the-variants.{Outpointing, Inpointing, Adjacent}
+use Rattle.model.specs.declared.Listing.{Listing}
+use Rattle.model.specs.declared.Operator.{Operator}
+use Rattle.model.specs.declared.Operator.the-variants.{Create, Bind, Value as Values, Exists, Destroy, List as Lists}
+use Rattle.model.specs.Operators.{operatorOf}
 use Rattle.model.specs.Pairs.{pair, edgeOf, nodeOf}
 use Rattle.model.specs.Steps.{Reply, refusal, name, valued, yesNo, pairs, nOf, sOf, listed, reply}
 use Rattle.model.specs.Refusals.{refusalOf}
 use Rattle.model.specs.Machine.{State, outcomeOf, machine, answers, final}
 use Rattle.model.specs.Buffer.{capacityOf, tupleAt, usedOf, freeOf, tuplesOf, isStore}
 use Rattle.model.specs.Rules.{TupleRules}
-use Rattle.model.specs.Entries.{Outpointing, Inpointing, IsPair, Entry}
+use Rattle.model.specs.Entries.{PointsOut, PointsIn, IsPair, Entry}
 use Rattle.model.specs.OneCall.{answerOf, nameCount, pack, unpack, listAfter, observed, OneCall}
 use Rattle.model.specs.CallLists.{CallMade, Trace, end, then, requestOf, requests, FullExactly, WholeList, Demand3}
 use Rattle.model.proofs.Taken.{EveryPair}
@@ -54,16 +59,16 @@ module _ (ts : Tuples) (R : TupleRules ts) where
   pair-small : (d : Direction) (s n : ℕ) (p : Pair) → IsPair d s n ts p → SmallPair p
   pair-small d s n p = go d
     where
-      out : Outpointing s n ts p → SmallPair p
+      out : PointsOut s n ts p → SmallPair p
       out h = let S = R .small _ (h .1) in record { edge = S .g; node = S .m }
 
-      inward : Inpointing s n ts p → SmallPair p
+      inward : PointsIn s n ts p → SmallPair p
       inward h = let S = R .small _ (h .1) in record { edge = S .g; node = S .n }
 
       go : (d : Direction) → IsPair d s n ts p → SmallPair p
-      go outpointing h = out h
-      go inpointing h = inward h
-      go adjacent h = ⊎-elim out inward h
+      go Outpointing h = out h
+      go Inpointing h = inward h
+      go Adjacent h = ⊎-elim out inward h
 
   edge-small : (p q : Pair) → q ≡ pair (edgeOf p) 0 → SmallPair p → SmallPair q
   edge-small p q e S = subst SmallPair (sym e) (record { edge = S .edge; node = omega arith })
@@ -94,12 +99,12 @@ observed-list ps l h =
 
 observed-reply : (op : Operator) (c : Call) (ts : Tuples) (l : List ℕ) → TupleRules ts → observed (answerOf (reply op c ts)) (listAfter (reply op c ts) l) ≡ reply op c ts
 unfolding reply observed answerOf
-observed-reply (create o) c ts l R = refl
-observed-reply (bind o) c ts l R = refl
-observed-reply (value o) c ts l R = refl
-observed-reply (exists o) c ts l R = refl
-observed-reply (destroy r) c ts l R = refl
-observed-reply (list x) c ts l R = observed-list (listed x c ts) l (listed-small ts R x c)
+observed-reply (Create o) c ts l R = refl
+observed-reply (Bind o) c ts l R = refl
+observed-reply (Values o) c ts l R = refl
+observed-reply (Exists o) c ts l R = refl
+observed-reply (Destroy r) c ts l R = refl
+observed-reply (Lists x) c ts l R = observed-list (listed x c ts) l (listed-small ts R x c)
 
 pub observed-machine : (C : ℕ) (ts : Tuples) (c : Call) (room : ℕ) (l : List ℕ) → TupleRules ts
     → observed (answerOf (machine C ts c room .answer)) (listAfter (machine C ts c room .answer) l) ≡ machine C ts c room .answer

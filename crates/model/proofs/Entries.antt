@@ -12,11 +12,13 @@ use Rattle.model.specs.Ordered.{holds, Ascending}
 use Rattle.model.specs.declared.Key.{Key}
 use Rattle.model.specs.Keys.{spaceKey, nodeKey, edgeKey, isNode, isEdge, sameKey}
 use Rattle.model.specs.Tuples.{Tuples, present}
-use Rattle.model.specs.Operators.{Direction, outpointing, inpointing, adjacent, Listing}
+use Rattle.model.specs.declared.Direction.{Direction}
+use Rattle.model.specs.declared.Direction.the-variants.{Outpointing, Inpointing, Adjacent}
+use Rattle.model.specs.declared.Listing.{Listing}
 use Rattle.model.specs.Pairs.{pair, edgeOf, nodeOf, comparePairs, itself, member, ascending, gather, onlyIf, outPair, inPair, pairsAt, pairsOf, edgeNames, nodeNames, only, withEdge, withNode, nodesIn, spacesIn, spacesWith}
 use Rattle.model.specs.Steps.{nOf, gOf, mOf, sOf, listed}
 use Rattle.model.specs.Rules.{Has, TupleRules}
-use Rattle.model.specs.Entries.{Outpointing, Inpointing, IsPair, Entry}
+use Rattle.model.specs.Entries.{PointsOut, PointsIn, IsPair, Entry}
 use Rattle.model.proofs.Bools.{or-cases, or-left, or-right, and-left, and-right, and-both, not-yes, no-not}
 use Rattle.model.proofs.Order.{pairs}
 use Rattle.model.proofs.Ordered.{at-element, self, holds-put, put-ascending}
@@ -155,29 +157,29 @@ from-node s n k ts e f h = subst (λ (j : Key). Has j ts) (λ i. record { s = e 
 to-node : (s n : ℕ) (k : Key) (ts : Tuples) → k .s ≡ s → k .m ≡ n → Has k ts → Has (edgeKey s (k .n) (k .g) n) ts
 to-node s n k ts e f h = subst (λ (j : Key). Has j ts) (λ i. record { s = e i; n = k .n; g = k .g; m = f i }) h
 
-out-sound : (s n : ℕ) (ts : Tuples) (k : Key) (q : Pair) → Has k ts → k .s ≡ s → Member q (outPair n k) → Outpointing s n ts q
+out-sound : (s n : ℕ) (ts : Tuples) (k : Key) (q : Pair) → Has k ts → k .s ≡ s → Member q (outPair n k) → PointsOut s n ts q
 unfolding outPair
 out-sound s n ts k q h e m =
     let r = onlyIf-sound (isEdge k && eqb (k .n) n) (pair (k .g) (k .m)) q m in
-    subst (Outpointing s n ts) (sym (r .1)) (
+    subst (PointsOut s n ts) (sym (r .1)) (
       nonzero-yes (k .g) (and-left (isEdge k) (eqb (k .n) n) (r .0)),
       from-node s n k ts e (eqb-true (k .n) n (and-right (isEdge k) (eqb (k .n) n) (r .0))) h,
     )
 
-in-sound : (s n : ℕ) (ts : Tuples) (k : Key) (q : Pair) → Has k ts → k .s ≡ s → Member q (inPair n k) → Inpointing s n ts q
+in-sound : (s n : ℕ) (ts : Tuples) (k : Key) (q : Pair) → Has k ts → k .s ≡ s → Member q (inPair n k) → PointsIn s n ts q
 unfolding inPair
 in-sound s n ts k q h e m =
     let r = onlyIf-sound (isEdge k && eqb (k .m) n) (pair (k .g) (k .n)) q m in
-    subst (Inpointing s n ts) (sym (r .1)) (
+    subst (PointsIn s n ts) (sym (r .1)) (
       nonzero-yes (k .g) (and-left (isEdge k) (eqb (k .m) n) (r .0)),
       to-node s n k ts e (eqb-true (k .m) n (and-right (isEdge k) (eqb (k .m) n) (r .0))) h,
     )
 
 at-sound : (d : Direction) (s n : ℕ) (ts : Tuples) (k : Key) (q : Pair) → Has k ts → k .s ≡ s → Member q (pairsAt d n k) → IsPair d s n ts q
 unfolding pairsAt
-at-sound outpointing s n ts k q h e m = out-sound s n ts k q h e m
-at-sound inpointing s n ts k q h e m = in-sound s n ts k q h e m
-at-sound adjacent s n ts k q h e m =
+at-sound Outpointing s n ts k q h e m = out-sound s n ts k q h e m
+at-sound Inpointing s n ts k q h e m = in-sound s n ts k q h e m
+at-sound Adjacent s n ts k q h e m =
     ⊎-elim (λ o. inl (out-sound s n ts k q h e o)) (λ o. inr (in-sound s n ts k q h e o))
     (or-cases (member q (outPair n k)) (member q (inPair n k)) (sym (member-append q (outPair n k) (inPair n k)) ∙ m))
 
@@ -206,15 +208,15 @@ in-at s n q h = onlyIf-complete _ q (and-both (not (eqb (edgeOf q) 0)) (eqb n n)
 
 pub pairs-complete : (d : Direction) (s n : ℕ) (ts : Tuples) (q : Pair) → IsPair d s n ts q → Member q (pairsOf d s n ts)
 unfolding pairsAt
-pairs-complete outpointing s n ts q h = gathered outpointing s n ts q (edgeKey s n (edgeOf q) (nodeOf q)) (h .1) refl (out-at s n q (h .0))
-pairs-complete inpointing s n ts q h = gathered inpointing s n ts q (edgeKey s (nodeOf q) (edgeOf q) n) (h .1) refl (in-at s n q (h .0))
-pairs-complete adjacent s n ts q (inl h) =
+pairs-complete Outpointing s n ts q h = gathered Outpointing s n ts q (edgeKey s n (edgeOf q) (nodeOf q)) (h .1) refl (out-at s n q (h .0))
+pairs-complete Inpointing s n ts q h = gathered Inpointing s n ts q (edgeKey s (nodeOf q) (edgeOf q) n) (h .1) refl (in-at s n q (h .0))
+pairs-complete Adjacent s n ts q (inl h) =
     let k : Key = edgeKey s n (edgeOf q) (nodeOf q) in
-    gathered adjacent s n ts q k (h .1) refl
+    gathered Adjacent s n ts q k (h .1) refl
     (member-append q (outPair n k) (inPair n k) ∙ or-left (member q (outPair n k)) (member q (inPair n k)) (out-at s n q (h .0)))
-pairs-complete adjacent s n ts q (inr h) =
+pairs-complete Adjacent s n ts q (inr h) =
     let k : Key = edgeKey s (nodeOf q) (edgeOf q) n in
-    gathered adjacent s n ts q k (h .1) refl
+    gathered Adjacent s n ts q k (h .1) refl
     (member-append q (outPair n k) (inPair n k) ∙ or-right (member q (outPair n k)) (member q (inPair n k)) (in-at s n q (h .0)))
 
 -- ---- names

@@ -12,7 +12,11 @@ use Rattle.model.specs.declared.Call.{Call}
 use Rattle.model.specs.declared.Pair.{Pair}
 use Rattle.model.specs.declared.Key.{Key}
 use Rattle.model.specs.Tuples.{Tuples, present, remove}
-use Rattle.model.specs.Operators.{Direction, Removal, Operator, create, bind, value, exists, destroy, list, operatorOf}
+use Rattle.model.specs.declared.Direction.{Direction}
+use Rattle.model.specs.declared.Operator.{Operator}
+use Rattle.model.specs.declared.Operator.the-variants.{Create, Bind, Value as Values, Exists, Destroy, List as Lists}
+use Rattle.model.specs.declared.Removal.{Removal}
+use Rattle.model.specs.Operators.{operatorOf}
 use Rattle.model.specs.Pairs.{nodeOf, pairsOf, nodeNames, withEdge, anyPair}
 use Rattle.model.specs.Steps.{Reply, refusal, name, valued, yesNo, pairs, nOf, gOf, sOf, nodeTaken, removeNodes, destroyed, reply, after}
 use Rattle.model.specs.Refusals.{Stop, stop, first, full, ofCall, ofTuples, earlier, refusalOf}
@@ -32,12 +36,12 @@ stopped C ts c room number e =
 
 after-reading : (op : Operator) (c : Call) (ts : Tuples) → writes op ≡ false → after op c ts ≡ ts
 unfolding writes after
-after-reading (create o) c ts e = absurd (true≢false e)
-after-reading (bind o) c ts e = absurd (true≢false e)
-after-reading (value o) c ts e = refl
-after-reading (exists o) c ts e = refl
-after-reading (destroy r) c ts e = absurd (true≢false e)
-after-reading (list l) c ts e = refl
+after-reading (Create o) c ts e = absurd (true≢false e)
+after-reading (Bind o) c ts e = absurd (true≢false e)
+after-reading (Values o) c ts e = refl
+after-reading (Exists o) c ts e = refl
+after-reading (Destroy r) c ts e = absurd (true≢false e)
+after-reading (Lists l) c ts e = refl
 
 -- "Operators of V, X and S change no word": nor the state
 pub reading : (C : ℕ) (ts : Tuples) (c : Call) (room : ℕ) → writes (operatorOf (c .operator)) ≡ false → machine C ts c room .state ≡ ts
@@ -126,12 +130,12 @@ isRefusal (pairs k ps) = false
 
 reply-answers : (op : Operator) (c : Call) (ts : Tuples) → isRefusal (reply op c ts) ≡ false
 unfolding reply
-reply-answers (create o) c ts = refl
-reply-answers (bind o) c ts = refl
-reply-answers (value o) c ts = refl
-reply-answers (exists o) c ts = refl
-reply-answers (destroy r) c ts = refl
-reply-answers (list l) c ts = refl
+reply-answers (Create o) c ts = refl
+reply-answers (Bind o) c ts = refl
+reply-answers (Values o) c ts = refl
+reply-answers (Exists o) c ts = refl
+reply-answers (Destroy r) c ts = refl
+reply-answers (Lists l) c ts = refl
 
 -- a refusal is answered exactly when the call is stopped by that condition
 pub refused-exactly : (C : ℕ) (ts : Tuples) (c : Call) (room number : ℕ)

@@ -17,14 +17,20 @@ use Rattle.model.specs.Ordered.{holds}
 use Rattle.model.specs.declared.Key.{Key}
 use Rattle.model.specs.Keys.{mostName, spaceKey, nodeKey, edgeKey, sameKey}
 use Rattle.model.specs.Tuples.{Tuples, present, addAll, missing, assign, assignAll, remove}
-use Rattle.model.specs.Operators.{Direction, outpointing, inpointing, adjacent, Object, Removal, Operator, create, bind, value, exists, destroy, list, table, operatorOf, within, readsOf}
+use Rattle.model.specs.declared.Direction.{Direction}
+use Rattle.model.specs.declared.Direction.the-variants.{Outpointing, Inpointing, Adjacent}
+use Rattle.model.specs.declared.Object.{Object}
+use Rattle.model.specs.declared.Operator.{Operator}
+use Rattle.model.specs.declared.Operator.the-variants.{Create, Bind, Value as Values, Exists, Destroy, List as Lists}
+use Rattle.model.specs.declared.Removal.{Removal}
+use Rattle.model.specs.Operators.{table, operatorOf, within, readsOf}
 use Rattle.model.specs.Pairs.{pair, nodeOf, member, pairsOf, nodeNames, withEdge}
 use Rattle.model.specs.Steps.{spaceNumber, nOf, gOf, mOf, vOf, sOf, objectKeys, created, nodeTaken, removeNodes, destroyed, wouldAdd, after}
 use Rattle.model.specs.Refusals.{Stop, first, zeroSpace, isUniverse, noOperator, zeroName, destroysUniverse, spaceAbsent, nodeAbsent, secondAbsent, edgeAbsent, listShort, full, ofCall, ofTuples, earlier, refusalOf}
 use Rattle.model.specs.Machine.{FieldsFit, outcomeOf, machine}
 use Rattle.model.specs.Buffer.{everyRecord}
 use Rattle.model.specs.Rules.{Has, Small, TupleRules}
-use Rattle.model.specs.Entries.{Outpointing, Inpointing, IsPair}
+use Rattle.model.specs.Entries.{PointsOut, PointsIn, IsPair}
 use Rattle.model.proofs.Bools.{or-cases, or-left, or-right, or-no-left, or-no-right, and-left, and-right, and-both, and-no, not-no}
 use Rattle.model.proofs.Tuples.{same-key, own-key, among, present-addAll, length-addAll, length-remove, length-assign}
 use Rattle.model.proofs.Rules.{has-universe, assignAll-rules, Fitting, addAll-rules, remove-rules}
@@ -87,22 +93,22 @@ spaceTested o = not (eqb o 51 || within 54 55 o)
 
 -- what the steps below need of an operator's number
 abbrev agrees : Operator → ℕ → Bool
-agrees (create (Object.P d)) o =
+agrees (Create (Object.P d)) o =
     (readsOf o .n) && ((readsOf o .g) && ((readsOf o .m) && ((readsOf o .s) && (within 1 44 o && spaceTested o))))
-agrees (create Object.UN) o = (readsOf o .n) && ((readsOf o .s) && spaceTested o)
-agrees (create Object.US) o = true
-agrees (bind x) o = true
-agrees (value x) o = true
-agrees (exists x) o = true
-agrees (destroy (Removal.P d)) o = true
-agrees (destroy (Removal.G d)) o = true
-agrees (destroy (Removal.GG d)) o = true
-agrees (destroy (Removal.GN d)) o = true
-agrees (destroy (Removal.N d)) o = true
-agrees (destroy (Removal.NG d)) o = true
-agrees (destroy Removal.UN) o = readsOf o .n
-agrees (destroy Removal.US) o = (readsOf o .s) && eqb o 55
-agrees (list x) o = true
+agrees (Create Object.UN) o = (readsOf o .n) && ((readsOf o .s) && spaceTested o)
+agrees (Create Object.US) o = true
+agrees (Bind x) o = true
+agrees (Values x) o = true
+agrees (Exists x) o = true
+agrees (Destroy (Removal.P d)) o = true
+agrees (Destroy (Removal.G d)) o = true
+agrees (Destroy (Removal.GG d)) o = true
+agrees (Destroy (Removal.GN d)) o = true
+agrees (Destroy (Removal.N d)) o = true
+agrees (Destroy (Removal.NG d)) o = true
+agrees (Destroy Removal.UN) o = readsOf o .n
+agrees (Destroy Removal.US) o = (readsOf o .s) && eqb o 55
+agrees (Lists x) o = true
 
 agree-all : everyRecord (λ (o : ℕ). agrees (operatorOf o) o) 57 ≡ true
 unfolding everyRecord operatorOf table readsOf
@@ -281,15 +287,15 @@ module _ (ts : Tuples) (R : TupleRules ts) (c : Call) (F : FieldsFit c) where
 
       pair-rules : (d : Direction) → TupleRules (addAll (created (Object.P d) c) ts)
       unfolding created objectKeys
-      pair-rules outpointing =
+      pair-rules Outpointing =
           let ks = edgeHere ∷ edgeThere ∷ [] in
           let e = there edgeThere edgeHere (edgeThere ∷ []) (here edgeThere []) in
           add-fitting ks (fits-here ks e, (fits-there ks e, tt))
-      pair-rules inpointing =
+      pair-rules Inpointing =
           let ks = backHere ∷ backThere ∷ [] in
           let e = there backThere backHere (backThere ∷ []) (here backThere []) in
           add-fitting ks (fits-back ks e, (fits-back-there ks e, tt))
-      pair-rules adjacent =
+      pair-rules Adjacent =
           let ks = edgeHere ∷ backHere ∷ edgeThere ∷ backThere ∷ [] in
           let e = there edgeThere edgeHere _ (there edgeThere backHere _ (here edgeThere (backThere ∷ []))) in
           let f = there backThere edgeHere _ (there backThere backHere _ (there backThere edgeThere _ (here backThere []))) in
@@ -326,16 +332,16 @@ every-member P (p ∷ ps) h = (h p (or-left (samePair p p) (member p ps) (own-pa
 pair-named : (d : Direction) (s n : ℕ) (ts : Tuples) → TupleRules ts → (p : Pair) → IsPair d s n ts p → NodeNamed p
 pair-named d s n ts R p = go d
   where
-    out : Outpointing s n ts p → NodeNamed p
+    out : PointsOut s n ts p → NodeNamed p
     out h z = h .0 (R .shaped _ (h .1) .ends .1 z)
 
-    in′ : Inpointing s n ts p → NodeNamed p
+    in′ : PointsIn s n ts p → NodeNamed p
     in′ h z = h .0 (R .shaped _ (h .1) .named z .0)
 
     go : (d : Direction) → IsPair d s n ts p → NodeNamed p
-    go outpointing h = out h
-    go inpointing h = in′ h
-    go adjacent h = ⊎-elim out in′ h
+    go Outpointing h = out h
+    go Inpointing h = in′ h
+    go Adjacent h = ⊎-elim out in′ h
 
 names-named : (ps : List Pair) → ((p : Pair) → Member p ps → NodeNamed p) → EveryPair NodeNamed (nodeNames ps)
 names-named ps h =
@@ -347,7 +353,7 @@ names-named ps h =
 pub after-rules : (op : Operator) (C : ℕ) (ts : Tuples) (c : Call) (room : ℕ) → TupleRules ts → FieldsFit c → Passed C ts c room
     → agrees op (c .operator) ≡ true → TupleRules (after op c ts)
 unfolding after destroyed
-after-rules (create (Object.P d)) C ts c room R F P a =
+after-rules (Create (Object.P d)) C ts c room R F P a =
     let a₁ = and-right (readsOf (c .operator) .n) _ a in
     let a₂ = and-right (readsOf (c .operator) .g) _ a₁ in
     let a₃ = and-right (readsOf (c .operator) .m) _ a₂ in
@@ -355,31 +361,31 @@ after-rules (create (Object.P d)) C ts c room R F P a =
     let m-read = and-left (readsOf (c .operator) .m) _ a₂ in
     pair-rules ts R c F (n-named c (P .names) (and-left (readsOf (c .operator) .n) _ a)) (g-named c (P .names) (and-left (readsOf (c .operator) .g) _ a₁))
     (m-named c (P .names) m-read) (node-there c ts (P .node) (and-left (within 1 44 (c .operator)) _ a₄)) (second-there c ts (P .second) m-read) d
-after-rules (create Object.UN) C ts c room R F P a =
+after-rules (Create Object.UN) C ts c room R F P a =
     let a₁ = and-right (readsOf (c .operator) .n) _ a in
     node-rules ts R c F (n-named c (P .names) (and-left (readsOf (c .operator) .n) _ a))
     (space-there c ts (P .space) (and-left (readsOf (c .operator) .s) _ a₁) (and-right (readsOf (c .operator) .s) _ a₁))
-after-rules (create Object.US) C ts c room R F P a = space-rules ts R c F
-after-rules (bind o) C ts c room R F P a = assignAll-rules (objectKeys o (sOf c) c) (vOf c) ts R
-after-rules (value o) C ts c room R F P a = R
-after-rules (exists o) C ts c room R F P a = R
-after-rules (destroy (Removal.P d)) C ts c room R F P a = remove-rules _ ts (edges-fair d (sOf c) (nOf c) _) R
-after-rules (destroy (Removal.G d)) C ts c room R F P a = remove-rules _ ts (edges-fair d (sOf c) (nOf c) _) R
-after-rules (destroy (Removal.GG d)) C ts c room R F P a = remove-rules _ ts (edges-fair d (sOf c) (nOf c) _) R
-after-rules (destroy (Removal.GN d)) C ts c room R F P a = remove-rules _ ts (edges-fair d (sOf c) (nOf c) _) R
-after-rules (destroy (Removal.N d)) C ts c room R F P a =
+after-rules (Create Object.US) C ts c room R F P a = space-rules ts R c F
+after-rules (Bind o) C ts c room R F P a = assignAll-rules (objectKeys o (sOf c) c) (vOf c) ts R
+after-rules (Values o) C ts c room R F P a = R
+after-rules (Exists o) C ts c room R F P a = R
+after-rules (Destroy (Removal.P d)) C ts c room R F P a = remove-rules _ ts (edges-fair d (sOf c) (nOf c) _) R
+after-rules (Destroy (Removal.G d)) C ts c room R F P a = remove-rules _ ts (edges-fair d (sOf c) (nOf c) _) R
+after-rules (Destroy (Removal.GG d)) C ts c room R F P a = remove-rules _ ts (edges-fair d (sOf c) (nOf c) _) R
+after-rules (Destroy (Removal.GN d)) C ts c room R F P a = remove-rules _ ts (edges-fair d (sOf c) (nOf c) _) R
+after-rules (Destroy (Removal.N d)) C ts c room R F P a =
     removeNodes-rules (sOf c) _ ts
     (names-named (pairsOf d (sOf c) (nOf c) ts) (λ p e. pair-named d (sOf c) (nOf c) ts R p (pairs-sound d (sOf c) (nOf c) ts p e))) R
-after-rules (destroy (Removal.NG d)) C ts c room R F P a =
+after-rules (Destroy (Removal.NG d)) C ts c room R F P a =
     removeNodes-rules (sOf c) _ ts
     (names-named (withEdge (gOf c) (pairsOf d (sOf c) (nOf c) ts))
     (λ p e. pair-named d (sOf c) (nOf c) ts R p (pairs-sound d (sOf c) (nOf c) ts p (only-sound _ (pairsOf d (sOf c) (nOf c) ts) p e .0)))) R
-after-rules (destroy Removal.UN) C ts c room R F P a = remove-rules _ ts (node-fair (sOf c) (nOf c) (n-named c (P .names) a)) R
-after-rules (destroy Removal.US) C ts c room R F P a =
+after-rules (Destroy Removal.UN) C ts c room R F P a = remove-rules _ ts (node-fair (sOf c) (nOf c) (n-named c (P .names) a)) R
+after-rules (Destroy Removal.US) C ts c room R F P a =
     remove-rules _ ts
     (space-fair (sOf c)
     (s-named c (P .names) (P .universe) (and-left (readsOf (c .operator) .s) _ a) (and-right (readsOf (c .operator) .s) _ a))) R
-after-rules (list l) C ts c room R F P a = R
+after-rules (Lists l) C ts c room R F P a = R
 
 -- ---- how many tuples there are
 
@@ -408,13 +414,13 @@ length-destroyed Removal.US c ts = length-remove _ ts
 after-length : (op : Operator) (C : ℕ) (ts : Tuples) (c : Call) → TupleRules ts → length ts ≤ C
     → ltb C (length ts + length (missing (wouldAdd op c) ts)) ≡ false → length (after op c ts) ≤ C
 unfolding after wouldAdd
-after-length (create o) C ts c R h e =
+after-length (Create o) C ts c R h e =
     omega (arith, length-addAll (created o c) ts (R .ascends), ltb-false C (length ts + length (missing (created o c) ts)) e)
-after-length (bind o) C ts c R h e = omega (arith, length-assignAll (objectKeys o (sOf c) c) (vOf c) ts)
-after-length (value o) C ts c R h e = h
-after-length (exists o) C ts c R h e = h
-after-length (destroy r) C ts c R h e = omega (arith, length-destroyed r c ts)
-after-length (list l) C ts c R h e = h
+after-length (Bind o) C ts c R h e = omega (arith, length-assignAll (objectKeys o (sOf c) c) (vOf c) ts)
+after-length (Values o) C ts c R h e = h
+after-length (Exists o) C ts c R h e = h
+after-length (Destroy r) C ts c R h e = omega (arith, length-destroyed r c ts)
+after-length (Lists l) C ts c R h e = h
 
 -- ---- the theorem
 

@@ -10,7 +10,8 @@ use Rattle.model.specs.declared.Pair.{Pair}
 use Rattle.model.specs.declared.Key.{Key}
 use Rattle.model.specs.Keys.{spaceKey, nodeKey, edgeKey}
 use Rattle.model.specs.Tuples.{Tuples, remove}
-use Rattle.model.specs.Operators.{Direction, outpointing, inpointing, adjacent}
+use Rattle.model.specs.declared.Direction.{Direction}
+use Rattle.model.specs.declared.Direction.the-variants.{Outpointing, Inpointing, Adjacent}
 use Rattle.model.specs.Pairs.{nodeOf, outPair, inPair, pairsAt, anyPair}
 use Rattle.model.specs.Steps.{reaches, edgesTaken, nodeTaken, removeNodes, spaceTaken}
 use Rattle.model.specs.Rules.{TupleRules}
@@ -30,16 +31,16 @@ reaches-all s j k z e =
 -- only edges give pairs
 no-pairs : (d : Direction) (n s x : ℕ) → pairsAt d n (nodeKey s x) ≡ []
 unfolding pairsAt outPair inPair
-no-pairs outpointing n s x = refl
-no-pairs inpointing n s x = refl
-no-pairs adjacent n s x = refl
+no-pairs Outpointing n s x = refl
+no-pairs Inpointing n s x = refl
+no-pairs Adjacent n s x = refl
 
 -- the pairs that a key gives do not depend on its space
 pairs-anywhere : (d : Direction) (n : ℕ) (k : Key) → pairsAt d n (edgeKey 0 (k .n) (k .g) (k .m)) ≡ pairsAt d n k
 unfolding pairsAt outPair inPair
-pairs-anywhere outpointing n k = refl
-pairs-anywhere inpointing n k = refl
-pairs-anywhere adjacent n k = refl
+pairs-anywhere Outpointing n k = refl
+pairs-anywhere Inpointing n k = refl
+pairs-anywhere Adjacent n k = refl
 
 node-not-taken : (d : Direction) (s n : ℕ) (p : Pair → Bool) (x y : ℕ) → edgesTaken d s n p (nodeKey x y) ≡ false
 unfolding edgesTaken anyPair

@@ -6,24 +6,26 @@ use Rattle.model.specs.declared.Call.{Call}
 use Rattle.model.specs.declared.Pair.{Pair}
 use Rattle.model.specs.Keys.{spaceKey, nodeKey, edgeKey}
 use Rattle.model.specs.Tuples.{Tuples}
-use Rattle.model.specs.Operators.{Direction, outpointing, inpointing, adjacent, Listing}
+use Rattle.model.specs.declared.Direction.{Direction}
+use Rattle.model.specs.declared.Direction.the-variants.{Outpointing, Inpointing, Adjacent}
+use Rattle.model.specs.declared.Listing.{Listing}
 use Rattle.model.specs.Pairs.{pair, edgeOf, nodeOf}
 use Rattle.model.specs.Steps.{nOf, gOf, mOf, sOf}
 use Rattle.model.specs.Rules.{Has}
 
 -- "outpointing, each (g,m) with (s,n,g,m) present"
-abbrev pub Outpointing : ℕ → ℕ → Tuples → Pair → Type 0
-Outpointing s n ts p = (edgeOf p ≢ 0) × Has (edgeKey s n (edgeOf p) (nodeOf p)) ts
+abbrev pub PointsOut : ℕ → ℕ → Tuples → Pair → Type 0
+PointsOut s n ts p = (edgeOf p ≢ 0) × Has (edgeKey s n (edgeOf p) (nodeOf p)) ts
 
 -- "inpointing, each (g,m) with (s,m,g,n) present"
-abbrev pub Inpointing : ℕ → ℕ → Tuples → Pair → Type 0
-Inpointing s n ts p = (edgeOf p ≢ 0) × Has (edgeKey s (nodeOf p) (edgeOf p) n) ts
+abbrev pub PointsIn : ℕ → ℕ → Tuples → Pair → Type 0
+PointsIn s n ts p = (edgeOf p ≢ 0) × Has (edgeKey s (nodeOf p) (edgeOf p) n) ts
 
 -- "Pairs of n in s": "adjacent, either"
 abbrev pub IsPair : Direction → ℕ → ℕ → Tuples → Pair → Type 0
-IsPair outpointing s n ts p = Outpointing s n ts p
-IsPair inpointing s n ts p = Inpointing s n ts p
-IsPair adjacent s n ts p = Outpointing s n ts p ⊎ Inpointing s n ts p
+IsPair Outpointing s n ts p = PointsOut s n ts p
+IsPair Inpointing s n ts p = PointsIn s n ts p
+IsPair Adjacent s n ts p = PointsOut s n ts p ⊎ PointsIn s n ts p
 
 -- is q an entry of the list that the operator answers
 abbrev pub Entry : Listing → Call → Tuples → Pair → Type 0

@@ -9,7 +9,9 @@ use Rattle.model.specs.declared.Call.{Call}
 use Rattle.model.specs.declared.Answer.{Answer}
 use Rattle.model.specs.declared.Answer.the-variants.{Refusal, Name, Value, YesNo, List as Listed}
 use Rattle.model.specs.declared.Pair.{Pair}
-use Rattle.model.specs.Operators.{Operator, create, bind, value, exists, destroy, list, operatorOf}
+use Rattle.model.specs.declared.Operator.{Operator}
+use Rattle.model.specs.declared.Operator.the-variants.{Create, Bind, Value as Values, Exists, Destroy, List as Lists}
+use Rattle.model.specs.Operators.{operatorOf}
 use Rattle.model.specs.Pairs.{pair, edgeOf, nodeOf}
 use Rattle.model.specs.Steps.{Reply, refusal, name, valued, yesNo, pairs}
 use Rattle.model.specs.Refusals.{refusalOf}
@@ -57,12 +59,12 @@ observed (Listed k) l = pairs k (map unpack (take k l))
 
 -- C, B and D write the buffer; "Operators of V, X and S change no word."
 unfoldable pub writes : Operator → Bool
-writes (create o) = true
-writes (bind o) = true
-writes (value o) = false
-writes (exists o) = false
-writes (destroy r) = true
-writes (list l) = false
+writes (Create o) = true
+writes (Bind o) = true
+writes (Values o) = false
+writes (Exists o) = false
+writes (Destroy r) = true
+writes (Lists l) = false
 
 -- "not a store": refusal 1, and nothing is changed
 pub record OnNoStore (b l : List ℕ) (a : Answer) (b′ l′ : List ℕ) : Type 0 where

@@ -5,82 +5,44 @@ use mathlib.Core.List.{List, [], _∷_, _++_}
 use Prim.Native.Nat.{ℕ, _-_}
 use lib.Dec.{leb, eqb}
 use lib.ListN.{getD}
+use Rattle.model.specs.declared.Direction.{Direction}
+use Rattle.model.specs.declared.Direction.the-variants.{Outpointing, Inpointing, Adjacent}
+use Rattle.model.specs.declared.Listing.{Listing}
+use Rattle.model.specs.declared.Object.{Object}
+use Rattle.model.specs.declared.Operator.{Operator}
+use Rattle.model.specs.declared.Operator.the-variants.{Create, Bind, Value as Values, Exists, Destroy, List as Lists}
 use Rattle.model.specs.declared.Reads.{Reads}
-
--- "The middle letter O, I or A chooses."
-pub data Direction : Type 0 where
-  outpointing : Direction
-  inpointing : Direction
-  adjacent : Direction
-
--- what C, B, V and X work on: the pair (g,m) of n (P), node n (UN), space s (US)
-pub data Object : Type 0 where
-  P : Direction → Object
-  UN : Object
-  US : Object
-
--- what D removes: a pair's edge (P); the edges of all pairs of n (G), of those with edge g (GG), of those with node m (GN);
--- the nodes of all pairs of n (N), of those with edge g (NG); node n (UN); space s (US)
-pub data Removal : Type 0 where
-  P : Direction → Removal
-  G : Direction → Removal
-  GG : Direction → Removal
-  GN : Direction → Removal
-  N : Direction → Removal
-  NG : Direction → Removal
-  UN : Removal
-  US : Removal
-
--- what S lists: the pairs of n (P), their edge names (G), edge names of pairs with node m (GN), their nodes (N), nodes of pairs with edge g (NG);
--- the nodes of s (UN), all spaces (US), the spaces that hold n (USn)
-pub data Listing : Type 0 where
-  P : Direction → Listing
-  G : Direction → Listing
-  GN : Direction → Listing
-  N : Direction → Listing
-  NG : Direction → Listing
-  UN : Listing
-  US : Listing
-  USn : Listing
-
--- what is done: C create, B bind, V value, X exists, D destroy, S list
-pub data Operator : Type 0 where
-  create : Object → Operator
-  bind : Object → Operator
-  value : Object → Operator
-  exists : Object → Operator
-  destroy : Removal → Operator
-  list : Listing → Operator
+use Rattle.model.specs.declared.Removal.{Removal}
 
 -- three operators in the order of the table: O, I, A
 abbrev pub each : (Direction → Operator) → List Operator
-each f = f outpointing ∷ f inpointing ∷ f adjacent ∷ []
+each f = f Outpointing ∷ f Inpointing ∷ f Adjacent ∷ []
 
 -- "numbers | operators": entry i is the operator with number i + 1
 unfoldable pub table : List Operator
 table =
-    each (λ d. create (Object.P d))
-    ++ each (λ d. bind (Object.P d))
-    ++ (value (Object.P outpointing) ∷ value (Object.P inpointing) ∷ [])
-    ++ each (λ d. exists (Object.P d))
-    ++ each (λ d. destroy (Removal.P d))
-    ++ each (λ d. destroy (Removal.G d))
-    ++ each (λ d. destroy (Removal.GG d))
-    ++ each (λ d. destroy (Removal.GN d))
-    ++ each (λ d. destroy (Removal.N d))
-    ++ each (λ d. destroy (Removal.NG d))
-    ++ each (λ d. list (Listing.P d))
-    ++ each (λ d. list (Listing.G d))
-    ++ each (λ d. list (Listing.GN d))
-    ++ each (λ d. list (Listing.N d))
-    ++ each (λ d. list (Listing.NG d))
-    ++ (create Object.UN ∷ bind Object.UN ∷ value Object.UN ∷ exists Object.UN ∷ destroy Removal.UN ∷ list Listing.UN ∷ [])
-    ++ (create Object.US ∷ bind Object.US ∷ value Object.US ∷ exists Object.US ∷ destroy Removal.US ∷ [])
-    ++ (list Listing.US ∷ list Listing.USn ∷ [])
+    each (λ d. Create (Object.P d))
+    ++ each (λ d. Bind (Object.P d))
+    ++ (Values (Object.P Outpointing) ∷ Values (Object.P Inpointing) ∷ [])
+    ++ each (λ d. Exists (Object.P d))
+    ++ each (λ d. Destroy (Removal.P d))
+    ++ each (λ d. Destroy (Removal.G d))
+    ++ each (λ d. Destroy (Removal.GG d))
+    ++ each (λ d. Destroy (Removal.GN d))
+    ++ each (λ d. Destroy (Removal.N d))
+    ++ each (λ d. Destroy (Removal.NG d))
+    ++ each (λ d. Lists (Listing.P d))
+    ++ each (λ d. Lists (Listing.G d))
+    ++ each (λ d. Lists (Listing.GN d))
+    ++ each (λ d. Lists (Listing.N d))
+    ++ each (λ d. Lists (Listing.NG d))
+    ++ (Create Object.UN ∷ Bind Object.UN ∷ Values Object.UN ∷ Exists Object.UN ∷ Destroy Removal.UN ∷ Lists Listing.UN ∷ [])
+    ++ (Create Object.US ∷ Bind Object.US ∷ Values Object.US ∷ Exists Object.US ∷ Destroy Removal.US ∷ [])
+    ++ (Lists Listing.US ∷ Lists Listing.USn ∷ [])
 
 -- the operator of a number from 1 to 57; condition 2 stops the call of any other, and what stands here for it has no effect
 unfoldable pub operatorOf : ℕ → Operator
-operatorOf number = getD table (number - 1) (list Listing.US)
+operatorOf number = getD table (number - 1) (Lists Listing.US)
 
 -- a range of operator numbers, both ends in it
 abbrev pub within : ℕ → ℕ → ℕ → Bool

@@ -8,7 +8,8 @@ use Rattle.model.specs.Ordered.{holds, put, thenBy}
 use Rattle.model.specs.declared.Key.{Key}
 use Rattle.model.specs.Keys.{isNode, isEdge, edgeKey}
 use Rattle.model.specs.Tuples.{Tuples}
-use Rattle.model.specs.Operators.{Direction, outpointing, inpointing, adjacent}
+use Rattle.model.specs.declared.Direction.{Direction}
+use Rattle.model.specs.declared.Direction.the-variants.{Outpointing, Inpointing, Adjacent}
 
 -- "pairs (edge, node)"
 abbrev pub pair : ℕ → ℕ → Pair
@@ -54,9 +55,9 @@ inPair n k = onlyIf (isEdge k && eqb (k .m) n) (pair (k .g) (k .n))
 
 -- "adjacent, either"
 unfoldable pub pairsAt : Direction → ℕ → Key → List Pair
-pairsAt outpointing n k = outPair n k
-pairsAt inpointing n k = inPair n k
-pairsAt adjacent n k = outPair n k ++ inPair n k
+pairsAt Outpointing n k = outPair n k
+pairsAt Inpointing n k = inPair n k
+pairsAt Adjacent n k = outPair n k ++ inPair n k
 
 -- "Pairs of n in s"
 unfoldable pub pairsOf : Direction → ℕ → ℕ → Tuples → List Pair
@@ -99,9 +100,9 @@ spacesWith n ts = ascending (gather (λ (k : Key). cond (isNode k && eqb (k .n) 
 
 -- "A pair's edge is that tuple (for A, each of the two ..)": the keys in s of the edges of the pair (g,m) of n
 abbrev pub pairKeys : Direction → ℕ → ℕ → ℕ → ℕ → List Key
-pairKeys outpointing s n g m = edgeKey s n g m ∷ []
-pairKeys inpointing s n g m = edgeKey s m g n ∷ []
-pairKeys adjacent s n g m = edgeKey s n g m ∷ edgeKey s m g n ∷ []
+pairKeys Outpointing s n g m = edgeKey s n g m ∷ []
+pairKeys Inpointing s n g m = edgeKey s m g n ∷ []
+pairKeys Adjacent s n g m = edgeKey s n g m ∷ edgeKey s m g n ∷ []
 
 -- does a test hold of one of the pairs
 unfoldable pub anyPair : (Pair → Bool) → List Pair → Bool

@@ -12,7 +12,9 @@ use Rattle.model.specs.declared.Space.the-variants.{Universe, Numbered}
 use Rattle.model.specs.declared.Key.{Key}
 use Rattle.model.specs.Keys.{spaceKey, nodeKey}
 use Rattle.model.specs.Tuples.{Tuples, present, anyPresent, missing}
-use Rattle.model.specs.Operators.{Operator, create, bind, value, exists, destroy, list, operatorOf, within, readsOf}
+use Rattle.model.specs.declared.Operator.{Operator}
+use Rattle.model.specs.declared.Operator.the-variants.{Create, Bind, Value as Values, Exists, Destroy, List as Lists}
+use Rattle.model.specs.Operators.{operatorOf, within, readsOf}
 use Rattle.model.specs.Steps.{nOf, gOf, mOf, sOf, objectKeys, wouldList, wouldAdd}
 
 -- the number of a condition, and whether it applies
@@ -69,12 +71,12 @@ secondAbsent c ts = (readsOf (c .operator) .m) && not (present (nodeKey (sOf c) 
 
 -- the keys in s that C, B, V and X work on
 unfoldable pub workedOn : Operator → Call → List Key
-workedOn (create o) c = objectKeys o (sOf c) c
-workedOn (bind o) c = objectKeys o (sOf c) c
-workedOn (value o) c = objectKeys o (sOf c) c
-workedOn (exists o) c = objectKeys o (sOf c) c
-workedOn (destroy r) c = []
-workedOn (list l) c = []
+workedOn (Create o) c = objectKeys o (sOf c) c
+workedOn (Bind o) c = objectKeys o (sOf c) c
+workedOn (Values o) c = objectKeys o (sOf c) c
+workedOn (Exists o) c = objectKeys o (sOf c) c
+workedOn (Destroy r) c = []
+workedOn (Lists l) c = []
 
 -- 8, pair: "4–8: no such edge; 6 only if both are absent"
 unfoldable pub edgeAbsent : Call → Tuples → Bool

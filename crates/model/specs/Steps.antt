@@ -11,7 +11,13 @@ use Rattle.model.specs.declared.Pair.{Pair}
 use Rattle.model.specs.declared.Key.{Key}
 use Rattle.model.specs.Keys.{Value, NIL, spaceKey, nodeKey}
 use Rattle.model.specs.Tuples.{Tuples, anyPresent, valueAt, addAll, assignAll, remove}
-use Rattle.model.specs.Operators.{Direction, Object, Removal, Listing, Operator, create, bind, value, exists, destroy, list, within}
+use Rattle.model.specs.declared.Direction.{Direction}
+use Rattle.model.specs.declared.Listing.{Listing}
+use Rattle.model.specs.declared.Object.{Object}
+use Rattle.model.specs.declared.Operator.{Operator}
+use Rattle.model.specs.declared.Operator.the-variants.{Create, Bind, Value as Values, Exists, Destroy, List as Lists}
+use Rattle.model.specs.declared.Removal.{Removal}
+use Rattle.model.specs.Operators.{within}
 use Rattle.model.specs.Pairs.{edgeOf, nodeOf, pairsAt, pairsOf, edgeNames, nodeNames, withEdge, withNode, nodesIn, spacesIn, spacesWith, pairKeys, anyPair}
 
 -- "In tuples and answers UNIVERSE is written 0."
@@ -110,36 +116,36 @@ pub data Reply : Type 0 where
 
 -- "k (how many pairs the step would list)": the pairs; none but for S
 unfoldable pub wouldList : Operator → Call → Tuples → List Pair
-wouldList (create o) c ts = []
-wouldList (bind o) c ts = []
-wouldList (value o) c ts = []
-wouldList (exists o) c ts = []
-wouldList (destroy r) c ts = []
-wouldList (list l) c ts = listed l c ts
+wouldList (Create o) c ts = []
+wouldList (Bind o) c ts = []
+wouldList (Values o) c ts = []
+wouldList (Exists o) c ts = []
+wouldList (Destroy r) c ts = []
+wouldList (Lists l) c ts = listed l c ts
 
 -- "the keys that the step would add": none but for C
 unfoldable pub wouldAdd : Operator → Call → List Key
-wouldAdd (create o) c = created o c
-wouldAdd (bind o) c = []
-wouldAdd (value o) c = []
-wouldAdd (exists o) c = []
-wouldAdd (destroy r) c = []
-wouldAdd (list l) c = []
+wouldAdd (Create o) c = created o c
+wouldAdd (Bind o) c = []
+wouldAdd (Values o) c = []
+wouldAdd (Exists o) c = []
+wouldAdd (Destroy r) c = []
+wouldAdd (Lists l) c = []
 
 -- what the step answers
 unfoldable pub reply : Operator → Call → Tuples → Reply
-reply (create o) c ts = name (firstArgument c)
-reply (bind o) c ts = name (firstArgument c)
-reply (value o) c ts = valued (firstValue (objectKeys o (sOf c) c) ts)
-reply (exists o) c ts = yesNo (anyPresent (objectKeys o (sOf c) c) ts)
-reply (destroy r) c ts = name (firstArgument c)
-reply (list l) c ts = pairs (length (listed l c ts)) (listed l c ts)
+reply (Create o) c ts = name (firstArgument c)
+reply (Bind o) c ts = name (firstArgument c)
+reply (Values o) c ts = valued (firstValue (objectKeys o (sOf c) c) ts)
+reply (Exists o) c ts = yesNo (anyPresent (objectKeys o (sOf c) c) ts)
+reply (Destroy r) c ts = name (firstArgument c)
+reply (Lists l) c ts = pairs (length (listed l c ts)) (listed l c ts)
 
 -- the state after the step; "set the pair's value in s to v; A sets whichever are present"
 unfoldable pub after : Operator → Call → Tuples → Tuples
-after (create o) c ts = addAll (created o c) ts
-after (bind o) c ts = assignAll (objectKeys o (sOf c) c) (vOf c) ts
-after (value o) c ts = ts
-after (exists o) c ts = ts
-after (destroy r) c ts = destroyed r c ts
-after (list l) c ts = ts
+after (Create o) c ts = addAll (created o c) ts
+after (Bind o) c ts = assignAll (objectKeys o (sOf c) c) (vOf c) ts
+after (Values o) c ts = ts
+after (Exists o) c ts = ts
+after (Destroy r) c ts = destroyed r c ts
+after (Lists l) c ts = ts

@@ -27,6 +27,79 @@ pub struct Call {
     pub s: Space,
 }
 
+// "The middle letter O, I or A chooses" which pairs of a node are meant.
+pub enum Direction {
+    Outpointing,
+    Inpointing,
+    Adjacent,
+}
+
+// What C, B, V and X work on.
+pub enum Object {
+    // The pair (g,m) of n.
+    P(Direction),
+    // Node n.
+    UN,
+    // Space s.
+    US,
+}
+
+// What D removes.
+pub enum Removal {
+    // A pair's edge.
+    P(Direction),
+    // The edges of all pairs of n.
+    G(Direction),
+    // The edges of those with edge g.
+    GG(Direction),
+    // The edges of those with node m.
+    GN(Direction),
+    // The nodes of all pairs of n.
+    N(Direction),
+    // The nodes of those with edge g.
+    NG(Direction),
+    // Node n.
+    UN,
+    // Space s.
+    US,
+}
+
+// What S lists.
+pub enum Listing {
+    // The pairs of n.
+    P(Direction),
+    // Their edge names.
+    G(Direction),
+    // Edge names of pairs with node m.
+    GN(Direction),
+    // Their nodes.
+    N(Direction),
+    // Nodes of pairs with edge g.
+    NG(Direction),
+    // The nodes of s.
+    UN,
+    // All spaces.
+    US,
+    // The spaces that hold n.
+    USn,
+}
+
+// What an operator does, and to what.
+pub enum Operator {
+    // C
+    Create(Object),
+    // B
+    Bind(Object),
+    // V
+    Value(Object),
+    // X
+    Exists(Object),
+    // D
+    Destroy(Removal),
+    // S
+    List(Listing),
+}
+
 // "The number fixes the arguments that are read": which fields of a call count.
 pub struct Reads {
     pub n: bool,
