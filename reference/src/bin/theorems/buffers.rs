@@ -1,0 +1,194 @@
+//! Random buffers: stores whose records stand in any order, and damaged ones.
+
+use gaffdamson_reference::machine::{Key, Value};
+
+use crate::draws::Draws;
+use crate::lists;
+
+/// The words of a record after next: s, n, g, m, value.
+type Fields = [u32; 5];
+
+/// Where the heads and the count of the used records stand.
+const USED_HEAD: usize = 1;
+const FREE_HEAD: usize = 2;
+const USED_COUNT: usize = 3;
+
+/// A buffer. A third are stores, but for what happens to be drawn; in a third
+/// the tuples are wrong, in a third some words.
+pub fn draw(draws: &mut Draws) -> Vec<u32> {
+    let capacity = 1 + draws.below(14);
+    let length = 2 * capacity + draws.below(10);
+    let machine = lists::run(draws, capacity, length).machine;
+    let mut tuples: Vec<Fields> = machine.tuples().map(fields).collect();
+    let damage = draws.below(3);
+    if damage == 1 {
+        damage_tuples(draws, &mut tuples);
+    }
+    let capacity = capacity.max(tuples.len());
+    let mut words = lay_out(draws, &tuples, capacity);
+    if damage == 2 {
+        damage_words(draws, &mut words, capacity);
+    }
+    words
+}
+
+fn fields((key, value): (Key, Value)) -> Fields {
+    let [s, n, g, m] = [key.s.0, key.n.0, key.g.0, key.m.0].map(u32::from);
+    [s, n, g, m, value]
+}
+
+/// Any word: most are small, some at the edge of what fits.
+fn any_word(draws: &mut Draws, capacity: usize) -> u32 {
+    match draws.below(5) {
+        0 => draws.one_of(&[65_535, 65_536, u32::MAX]),
+        1 => capacity as u32 + draws.below(2) as u32,
+        _ => draws.below(capacity + 1) as u32,
+    }
+}
+
+/// The tuples in records in any order, both chains, any words in the free
+/// records and up to five past the last.
+fn lay_out(draws: &mut Draws, tuples: &[Fields], capacity: usize) -> Vec<u32> {
+    let mut order: Vec<usize> = (1..=capacity).collect();
+    draws.shuffle(&mut order);
+    let (used, free) = order.split_at(tuples.len());
+    let past = if draws.once_in(3) { draws.below(6) } else { 0 };
+    let mut words: Vec<u32> = (0..4 + 6 * capacity + past)
+        .map(|_| any_word(draws, capacity))
+        .collect();
+    words[0] = capacity as u32;
+    words[USED_COUNT] = tuples.len() as u32;
+    link(&mut words, USED_HEAD, used);
+    link(&mut words, FREE_HEAD, free);
+    for (&index, tuple) in used.iter().zip(tuples) {
+        let start = next_of(index) + 1;
+        words[start..start + 5].copy_from_slice(tuple);
+    }
+    words
+}
+
+/// Where the next of record i stands.
+fn next_of(index: usize) -> usize {
+    4 + 6 * (index - 1)
+}
+
+/// Chains records, from the word that heads them.
+fn link(words: &mut [u32], head: usize, chain: &[usize]) {
+    let mut place = head;
+    for &index in chain {
+        words[place] = index as u32;
+        place = next_of(index);
+    }
+    words[place] = 0;
+}
+
+/// One tuple is missing, moved, doubled, changed or added.
+fn damage_tuples(draws: &mut Draws, tuples: &mut Vec<Fields>) {
+    let place = draws.below(tuples.len());
+    match draws.below(8) {
+        0 | 1 => {
+            tuples.remove(place);
+        }
+        2 => tuples.swap(place, place.saturating_sub(1)),
+        3 => tuples.insert(place, tuples[place]),
+        4 => {
+            change_key(draws, &mut tuples[place]);
+            if draws.once_in(2) {
+                tuples.sort_unstable();
+            }
+        }
+        _ => {
+            let mut added = tuples[place];
+            change_key(draws, &mut added);
+            tuples.push(added);
+            tuples.sort_unstable();
+        }
+    }
+}
+
+fn change_key(draws: &mut Draws, tuple: &mut Fields) {
+    let changed = draws.one_of(&[0, 0, 0, 1, 2, 3, 4, 65_535, 65_536, 65_536, u32::MAX]);
+    tuple[draws.below(4)] = changed;
+}
+
+/// Wrong words, counts, chains or length.
+fn damage_words(draws: &mut Draws, words: &mut Vec<u32>, capacity: usize) {
+    match draws.below(8) {
+        0 => change_word(draws, words, capacity),
+        1 => {
+            change_word(draws, words, capacity);
+            change_word(draws, words, capacity);
+        }
+        2 => {
+            let place = draws.one_of(&[0, USED_HEAD, FREE_HEAD, USED_COUNT]);
+            words[place] = any_word(draws, capacity);
+        }
+        3 => {
+            let place = draws.one_of(&[0, USED_COUNT]);
+            words[place] = words[place].wrapping_add(draws.one_of(&[1, u32::MAX]));
+        }
+        4 => cross(draws, words, capacity),
+        5 => close(draws, words, capacity),
+        6 => drop_record(draws, words),
+        _ => change_length(draws, words),
+    }
+}
+
+fn change_word(draws: &mut Draws, words: &mut [u32], capacity: usize) {
+    let place = draws.below(words.len());
+    words[place] = any_word(draws, capacity);
+}
+
+/// A head or next of any record.
+fn any_link(draws: &mut Draws, capacity: usize) -> usize {
+    match draws.below(capacity + 2) {
+        0 => USED_HEAD,
+        1 => FREE_HEAD,
+        place => next_of(place - 1),
+    }
+}
+
+/// Exchanges two links, or makes one lead where another does.
+fn cross(draws: &mut Draws, words: &mut [u32], capacity: usize) {
+    let one = any_link(draws, capacity);
+    let other = any_link(draws, capacity);
+    if draws.once_in(2) {
+        words.swap(one, other);
+    } else {
+        words[one] = words[other];
+    }
+}
+
+/// The end of a chain leads to some record.
+fn close(draws: &mut Draws, words: &mut [u32], capacity: usize) {
+    let mut place = draws.one_of(&[USED_HEAD, FREE_HEAD]);
+    while words[place] != 0 {
+        place = next_of(words[place] as usize);
+    }
+    words[place] = 1 + draws.below(capacity) as u32;
+}
+
+/// The first record of a chain is in none; the count may follow.
+fn drop_record(draws: &mut Draws, words: &mut [u32]) {
+    let head = draws.one_of(&[USED_HEAD, FREE_HEAD]);
+    if words[head] == 0 {
+        return;
+    }
+    words[head] = words[next_of(words[head] as usize)];
+    if head == USED_HEAD && draws.once_in(2) {
+        words[USED_COUNT] -= 1;
+    }
+}
+
+/// The length changes; word 0 may follow.
+fn change_length(draws: &mut Draws, words: &mut Vec<u32>) {
+    let length = match draws.below(3) {
+        0 => draws.below(11),
+        1 => words.len().saturating_sub(1 + draws.below(8)),
+        _ => words.len() + 1 + draws.below(8),
+    };
+    words.resize(length, 0);
+    if length > 0 && draws.once_in(2) {
+        words[0] = (length.saturating_sub(4) / 6) as u32;
+    }
+}
