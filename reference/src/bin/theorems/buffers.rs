@@ -85,7 +85,7 @@ fn link(words: &mut [u32], head: usize, chain: &[usize]) {
 /// One tuple is missing, moved, doubled, changed or added.
 fn damage_tuples(draws: &mut Draws, tuples: &mut Vec<Fields>) {
     let place = draws.below(tuples.len());
-    match draws.below(8) {
+    match draws.below(9) {
         0 | 1 => {
             tuples.remove(place);
         }
@@ -97,12 +97,28 @@ fn damage_tuples(draws: &mut Draws, tuples: &mut Vec<Fields>) {
                 tuples.sort_unstable();
             }
         }
+        5 => {
+            tuples.push(great_name(draws, tuples));
+            tuples.sort_unstable();
+        }
         _ => {
             let mut added = tuples[place];
             change_key(draws, &mut added);
             tuples.push(added);
             tuples.sort_unstable();
         }
+    }
+}
+
+/// A tuple that is right but for a name that is too great: a space, a node or
+/// an edge of UNIVERSE.
+fn great_name(draws: &mut Draws, tuples: &[Fields]) -> Fields {
+    let great = draws.one_of(&[65_536, u32::MAX]);
+    let edge = tuples.iter().find(|tuple| tuple[2] != 0);
+    match (draws.below(3), edge) {
+        (0, _) => [great, 0, 0, 0, 7],
+        (1, Some(&[s, n, _, m, value])) => [s, n, great, m, value],
+        _ => [0, great, 0, 0, 7],
     }
 }
 
@@ -113,7 +129,7 @@ fn change_key(draws: &mut Draws, tuple: &mut Fields) {
 
 /// Wrong words, counts, chains or length.
 fn damage_words(draws: &mut Draws, words: &mut Vec<u32>, capacity: usize) {
-    match draws.below(8) {
+    match draws.below(9) {
         0 => change_word(draws, words, capacity),
         1 => {
             change_word(draws, words, capacity);
@@ -130,6 +146,7 @@ fn damage_words(draws: &mut Draws, words: &mut Vec<u32>, capacity: usize) {
         4 => cross(draws, words, capacity),
         5 => close(draws, words, capacity),
         6 => drop_record(draws, words),
+        7 => free_all(words, capacity),
         _ => change_length(draws, words),
     }
 }
@@ -159,13 +176,25 @@ fn cross(draws: &mut Draws, words: &mut [u32], capacity: usize) {
     }
 }
 
-/// The end of a chain leads to some record.
+/// The end of a chain leads to some record, or past the last.
 fn close(draws: &mut Draws, words: &mut [u32], capacity: usize) {
     let mut place = draws.one_of(&[USED_HEAD, FREE_HEAD]);
     while words[place] != 0 {
         place = next_of(words[place] as usize);
     }
-    words[place] = 1 + draws.below(capacity) as u32;
+    words[place] = if draws.once_in(3) {
+        capacity as u32 + 1
+    } else {
+        1 + draws.below(capacity) as u32
+    };
+}
+
+/// Every record is free, and the used chain leads to one past the last.
+fn free_all(words: &mut [u32], capacity: usize) {
+    let all: Vec<usize> = (1..=capacity).collect();
+    link(words, FREE_HEAD, &all);
+    words[USED_HEAD] = capacity as u32 + 1;
+    words[USED_COUNT] = 1;
 }
 
 /// The first record of a chain is in none; the count may follow.
