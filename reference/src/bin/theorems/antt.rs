@@ -29,7 +29,7 @@ use mathlib.Core.Bool.{true, false}
 use mathlib.Core.List.{List, [], _∷_}
 use mathlib.Core.Path.{_≡_, refl}
 use Prim.Native.Nat.{ℕ}
-use lib.ListN.{length}
+use lib.ListN.{length, replicate}
 use Rattle.model.specs.declared.Space.{Space}
 use Rattle.model.specs.declared.Space.the-variants.{Universe, Numbered}
 use Rattle.model.specs.Keys.{Tuple}
@@ -125,6 +125,27 @@ impl Definitions {
                 &format!("{name}-free"),
                 &format!("length (freeOf {given})"),
                 &free,
+            );
+        }
+        text
+    }
+
+    /// Whether a store can have this length, and its C.
+    pub fn of_length(&self, length: usize) -> String {
+        let name = format!("length-{length}");
+        let zeros = format!("(replicate {length} 0)");
+        let prepared = buffer::prepare(&mut vec![0; length]);
+        let fits = prepared.is_ok().to_string();
+        let mut text = self.theorem(
+            &format!("{name}-fits"),
+            &format!("fitsLength {zeros}"),
+            &fits,
+        );
+        if let Ok(capacity) = prepared {
+            text += &self.theorem(
+                &format!("{name}-capacity"),
+                &format!("capacityOf {zeros}"),
+                &capacity.to_string(),
             );
         }
         text

@@ -24,13 +24,13 @@ const VALUES: [u32; 6] = [0, 1, 2, 7, 60, u32::MAX];
 const LONG_LISTS: [usize; 4] = [8, 2048, 2049, 4_294_967_295];
 
 /// C operators, as often as they are to be drawn.
-const CREATES: [u32; 12] = [1, 1, 2, 2, 3, 3, 45, 45, 45, 45, 51, 51];
+const CREATES: [u32; 12] = [1, 1, 1, 2, 2, 2, 3, 3, 3, 45, 45, 51];
 
 /// A list of about 25 calls; a short one now and then.
 pub fn draw(draws: &mut Draws) -> Run {
-    let capacity = match draws.below(4) {
+    let capacity = match draws.below(8) {
         0 => 1 + draws.below(12),
-        1 => 10 + draws.below(20),
+        1 | 2 => 8 + draws.below(20),
         _ => 2048,
     };
     let length = match draws.below(20) {
@@ -49,23 +49,55 @@ pub fn run(draws: &mut Draws, capacity: usize, length: usize) -> Run {
         answers: Vec::new(),
         machine: Machine::new(capacity),
     };
-    for _ in 0..length {
-        let call = mostly_answered(draws, pool, &run.machine);
+    let building = if draws.once_in(6) { 0 } else { length / 2 };
+    for place in 0..length {
+        let call = mostly_answered(draws, &run.machine, |draws| {
+            if place < building {
+                building_call(draws, pool, place)
+            } else {
+                aimed_call(draws, pool, &run.machine)
+            }
+        });
         run.answers.push(run.machine.step(&call));
         run.calls.push(call);
     }
     run
 }
 
-/// A call that would be refused is mostly drawn again, a few times.
-fn mostly_answered(draws: &mut Draws, pool: usize, machine: &Machine) -> Call {
-    let mut call = aimed_call(draws, pool, machine);
-    for _ in 0..4 {
+/// Creates a space, then three nodes, then edges, mostly in the pool's first
+/// space.
+fn building_call(draws: &mut Draws, pool: usize, place: usize) -> Call {
+    let mut call = draw_call(draws, pool);
+    if place == 0 || !draws.once_in(4) {
+        call.space = Space::Numbered(SpaceName(SPACES[pool][0]));
+    }
+    call.operator = match place {
+        0 => 51,
+        1..=3 => 45,
+        _ => draws.one_of(&CREATES),
+    };
+    if call.operator == 45 {
+        call.n = Node(NODES[pool][place % NODES[pool].len()]);
+    }
+    call
+}
+
+/// A call that would be refused is mostly drawn again with the same operator,
+/// a few times.
+fn mostly_answered(
+    draws: &mut Draws,
+    machine: &Machine,
+    draw: impl Fn(&mut Draws) -> Call,
+) -> Call {
+    let mut call = draw(draws);
+    for _ in 0..8 {
         let answer = machine.clone().step(&call);
-        if !matches!(answer, Answer::Refusal(_)) || draws.once_in(5) {
+        if !matches!(answer, Answer::Refusal(_)) || draws.once_in(10) {
             break;
         }
-        call = aimed_call(draws, pool, machine);
+        let operator = call.operator;
+        call = draw(draws);
+        call.operator = operator;
     }
     call
 }
@@ -73,11 +105,14 @@ fn mostly_answered(draws: &mut Draws, pool: usize, machine: &Machine) -> Call {
 /// A call with any names, or with those of a tuple that is present.
 fn aimed_call(draws: &mut Draws, pool: usize, machine: &Machine) -> Call {
     let mut call = draw_call(draws, pool);
-    if draws.once_in(2) {
-        let keys: Vec<Key> = machine.tuples().map(|(key, _)| key).collect();
+    if !draws.once_in(4) {
+        let mut keys: Vec<Key> = machine.tuples().map(|(key, _)| key).collect();
+        if keys.iter().any(Key::is_edge) && !draws.once_in(3) {
+            keys.retain(Key::is_edge);
+        }
         let key = draws.one_of(&keys);
         aim(&mut call, &key);
-        if draws.once_in(2) {
+        if key.is_edge() && draws.once_in(2) {
             (call.n, call.m) = (call.m, call.n);
         }
     }
@@ -121,12 +156,12 @@ fn draw_operator(draws: &mut Draws) -> u32 {
     if draws.once_in(40) {
         return draws.one_of(&[0, 58, u32::MAX]);
     }
-    if draws.once_in(3) {
+    if draws.once_in(6) {
         return draws.one_of(&CREATES);
     }
     let operator = 1 + draws.below(57) as u32;
     match kind(operator) {
-        Some(Kind::Destroy) if draws.once_in(2) => draws.one_of(&CREATES),
+        Some(Kind::Destroy) if !draws.once_in(3) => draws.one_of(&CREATES),
         _ => operator,
     }
 }

@@ -1,7 +1,8 @@
 //! Writes theorems, to be proved by computation, that the definitions of the
 //! model give the same answers, states and stores as this implementation:
 //! `theorems COUNT SEED DEFINITIONS PROOFS` reads the folder DEFINITIONS and
-//! writes COUNT lists of calls and COUNT buffers into the folder PROOFS.
+//! writes COUNT lists of calls and COUNT buffers into the folder PROOFS, and
+//! the lengths at which something changes.
 
 mod antt;
 mod buffers;
@@ -22,6 +23,12 @@ use gaffdamson_reference::machine::Answer;
 
 /// How many lists or buffers stand in one file.
 const IN_A_FILE: usize = 20;
+
+/// Lengths of buffers around those where a store can begin, has one record
+/// more, or cannot be any longer.
+const LENGTHS: [usize; 13] = [
+    0, 4, 9, 10, 15, 16, 22, 12_285, 12_286, 12_291, 12_292, 12_297, 12_298,
+];
 
 /// What has been drawn.
 #[derive(Default)]
@@ -61,8 +68,9 @@ fn write_all(count: usize, seed: u64, definitions: &Path, proofs: &Path) -> io::
     let lists: Vec<String> = lists.collect();
     let buffers = (1..=count).map(|place| buffer_theorems(&definitions, seed, place, &mut tally));
     let buffers: Vec<String> = buffers.collect();
+    let lengths = LENGTHS.map(|length| definitions.of_length(length)).to_vec();
     let mut modules = String::new();
-    for (kind, theorems) in [("Lists", lists), ("Buffers", buffers)] {
+    for (kind, theorems) in [("Lists", lists), ("Buffers", buffers), ("Lengths", lengths)] {
         for (file, part) in (1..).zip(theorems.chunks(IN_A_FILE)) {
             let text = definitions.opening() + &part.concat();
             fs::write(proofs.join(format!("{kind}{file}.antt")), text)?;
@@ -99,10 +107,11 @@ fn buffer_theorems(
 fn report(count: usize, tally: &Tally) {
     let refusals: Vec<String> = tally.refusals.iter().map(u32::to_string).collect();
     println!(
-        "{count} lists with {} calls, {} operators answered, refusals {}; {count} buffers, {} of them stores",
+        "{count} lists with {} calls, {} operators answered, refusals {}; {count} buffers, {} of them stores; {} lengths",
         tally.calls,
         tally.answered.len(),
         refusals.join(" "),
-        tally.stores
+        tally.stores,
+        LENGTHS.len()
     );
 }
