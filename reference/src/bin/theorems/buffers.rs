@@ -16,8 +16,12 @@ const USED_COUNT: usize = 3;
 /// A buffer. A third are stores, but for what happens to be drawn; in a third
 /// the tuples are wrong, in a third some words.
 pub fn draw(draws: &mut Draws) -> Vec<u32> {
-    let capacity = 1 + draws.below(14);
-    let length = 2 * capacity + draws.below(10);
+    let capacity = if draws.once_in(4) {
+        1 + draws.below(5)
+    } else {
+        6 + draws.below(14)
+    };
+    let length = capacity + draws.below(16);
     let machine = lists::run(draws, capacity, length).machine;
     let mut tuples: Vec<Fields> = machine.tuples().map(fields).collect();
     let damage = draws.below(3);
@@ -82,32 +86,35 @@ fn link(words: &mut [u32], head: usize, chain: &[usize]) {
     words[place] = 0;
 }
 
-/// One tuple is missing, moved, doubled, changed or added.
+/// A tuple is missing, moved, doubled, changed or added.
 fn damage_tuples(draws: &mut Draws, tuples: &mut Vec<Fields>) {
     let place = draws.below(tuples.len());
-    match draws.below(9) {
+    match draws.below(11) {
         0 | 1 => {
             tuples.remove(place);
         }
         2 => tuples.swap(place, place.saturating_sub(1)),
         3 => tuples.insert(place, tuples[place]),
-        4 => {
-            change_key(draws, &mut tuples[place]);
-            if draws.once_in(2) {
-                tuples.sort_unstable();
-            }
-        }
+        4 => change_key(draws, &mut tuples[place]),
         5 => {
-            tuples.push(great_name(draws, tuples));
+            change_key(draws, &mut tuples[place]);
             tuples.sort_unstable();
         }
-        _ => {
-            let mut added = tuples[place];
+        6 => add(draws, tuples, great_name),
+        7 => add(draws, tuples, wrong_form),
+        8 => remove_end(draws, tuples),
+        9 => leave_spaces(tuples),
+        _ => add(draws, tuples, |draws, tuples| {
+            let mut added = draws.one_of(tuples);
             change_key(draws, &mut added);
-            tuples.push(added);
-            tuples.sort_unstable();
-        }
+            added
+        }),
     }
+}
+
+fn add(draws: &mut Draws, tuples: &mut Vec<Fields>, draw: fn(&mut Draws, &[Fields]) -> Fields) {
+    tuples.push(draw(draws, tuples));
+    tuples.sort_unstable();
 }
 
 /// A tuple that is right but for a name that is too great: a space, a node or
@@ -119,6 +126,33 @@ fn great_name(draws: &mut Draws, tuples: &[Fields]) -> Fields {
         (0, _) => [great, 0, 0, 0, 7],
         (1, Some(&[s, n, _, m, value])) => [s, n, great, m, value],
         _ => [0, great, 0, 0, 7],
+    }
+}
+
+/// A tuple in UNIVERSE whose key has neither the form of a space, nor of a
+/// node, nor of an edge. A node that it names is there, if there is any.
+fn wrong_form(draws: &mut Draws, tuples: &[Fields]) -> Fields {
+    let node = tuples.iter().find(|tuple| tuple[1] != 0);
+    let n = node.map_or(1, |tuple| tuple[1]);
+    let g = 1 + draws.below(3) as u32;
+    draws.one_of(&[[0, 0, g, n, 7], [0, n, g, 0, 7], [0, n, 0, n, 7]])
+}
+
+/// An edge lacks the node tuple of one of its ends.
+fn remove_end(draws: &mut Draws, tuples: &mut Vec<Fields>) {
+    let edges: Vec<Fields> = tuples.iter().copied().filter(|t| t[2] != 0).collect();
+    if !edges.is_empty() {
+        let [s, n, _, m, _] = draws.one_of(&edges);
+        let end = draws.one_of(&[n, m]);
+        tuples.retain(|tuple| tuple[..4] != [s, end, 0, 0]);
+    }
+}
+
+/// Spaces alone, and UNIVERSE not among them.
+fn leave_spaces(tuples: &mut Vec<Fields>) {
+    tuples.retain(|tuple| tuple[0] != 0 && tuple[1] == 0);
+    if tuples.is_empty() {
+        tuples.push([9, 0, 0, 0, 0]);
     }
 }
 

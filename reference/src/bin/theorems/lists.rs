@@ -49,7 +49,11 @@ pub fn run(draws: &mut Draws, capacity: usize, length: usize) -> Run {
         answers: Vec::new(),
         machine: Machine::new(capacity),
     };
-    let building = if draws.once_in(6) { 0 } else { length / 2 };
+    let building = if draws.once_in(6) {
+        draws.below(4)
+    } else {
+        length / 2
+    };
     for place in 0..length {
         let call = mostly_answered(draws, &run.machine, |draws| {
             if place < building {
@@ -91,8 +95,12 @@ fn mostly_answered(
 ) -> Call {
     let mut call = draw(draws);
     for _ in 0..8 {
-        let answer = machine.clone().step(&call);
-        if !matches!(answer, Answer::Refusal(_)) || draws.once_in(10) {
+        let is_kept = match machine.clone().step(&call) {
+            Answer::Refusal(8 | 9) => draws.once_in(2),
+            Answer::Refusal(_) => draws.once_in(10),
+            _ => true,
+        };
+        if is_kept {
             break;
         }
         let operator = call.operator;
