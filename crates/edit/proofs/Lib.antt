@@ -1,3 +1,4 @@
 pub mod Built
 pub mod Adds
 pub mod Assigns
+pub mod Sweeps

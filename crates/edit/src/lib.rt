@@ -1,11 +1,15 @@
 // Tuples added, set and removed.
 // Each function is pub for the crates above, which have proved what it requires.
 use model::Key;
+use select::Selection;
 ghost use mathlib.Core.Path.{_≡_};
-ghost use Rattle.model.specs.Tuples.{present, add, assign};
-ghost use Rattle.model.specs.Buffer.{keyAt, usedOf, tuplesOf};
-ghost use Rattle.chain.specs.Links.{Linked, placeIn, Edited};
-ghost use Rattle.edit.specs.Edits.{Adding};
+ghost use mathlib.Core.Bool.{false};
+ghost use Rattle.model.specs.Keys.{spaceKey};
+ghost use Rattle.model.specs.Tuples.{present, add, assign, remove};
+ghost use Rattle.model.specs.Buffer.{next, keyAt, usedOf, tuplesOf};
+ghost use Rattle.chain.specs.Links.{Linked, placeIn, Edited, Unlinking};
+ghost use Rattle.select.specs.Selections.{takenBy};
+ghost use Rattle.edit.specs.Edits.{Adding, Turned};
 
 // Is a key present, by the record at its place.
 fn held_at(b: &[u32], k: Key, at: usize) -> bool
@@ -40,4 +44,30 @@ pub fn assign_value(b: &mut [u32], k: Key, v: u32)
         return;
     }
     records::put_value(b, at, v);
+}
+
+// The tuple of record `at` is removed where the selection takes it; the answer is the record that then stands before the next.
+fn keep_or_remove(b: &mut [u32], sel: Selection, before: usize, at: usize) -> usize
+    requires { ⌜ Unlinking (now b) before × (at ≡ next (now b) before) ⌝ }
+    ensures { λ r. ⌜ Turned (now (b .entry)) sel before at r (now (b .exit)) ⌝ }
+{
+    if select::takes(sel, records::key_of(b, at)) {
+        chain::remove_after(b, before);
+        return before;
+    }
+    at
+}
+
+// Removes in one walk every tuple that the selection takes; it may not take UNIVERSE.
+pub fn sweep(b: &mut [u32], sel: Selection)
+    requires { ⌜ Linked (now b) × (takenBy sel (spaceKey 0) ≡ false) ⌝ }
+    ensures { λ _. ⌜ Edited (now (b .entry)) (now (b .exit)) (remove (takenBy sel) (tuplesOf (now (b .entry)))) ⌝ }
+{
+    let mut before = records::head_word(b, 1);
+    let mut at = records::next_of(b, before);
+    while at != 0 {
+        let after = records::next_of(b, at);
+        before = keep_or_remove(b, sel, before, at);
+        at = after;
+    }
 }
