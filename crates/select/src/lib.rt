@@ -51,7 +51,7 @@ fn asked(want: u32, name: u32) -> bool
 }
 
 // Is this the edge and node that are asked for.
-fn passes_pair(g: u32, m: u32, edge: u32, node: u32) -> bool
+pub fn passes_pair(g: u32, m: u32, edge: u32, node: u32) -> bool
     ensures { λ r. ⌜ r ≡ passes g m (pair edge node) ⌝ }
 {
     if asked(g, edge) {

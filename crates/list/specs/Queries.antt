@@ -1,0 +1,75 @@
+-- What a list holds, as one value: the entries that S operators list, and their codes.
+-- An entry's code is one more than its packed pair, so that 0 says that there is none.
+use mathlib.Core.Bool.{Bool, true, false, cond, _&&_}
+use mathlib.Core.List.{List, [], _∷_, _++_}
+use Prim.Native.Nat.{ℕ, suc}
+use lib.Dec.{eqb}
+use Rattle.model.specs.declared.Direction.{Direction}
+use Rattle.model.specs.declared.Direction.the-variants.{Outpointing, Inpointing, Adjacent}
+use Rattle.model.specs.declared.Key.{Key}
+use Rattle.model.specs.declared.Pair.{Pair}
+use Rattle.model.specs.Keys.{isNode}
+use Rattle.model.specs.Tuples.{Tuples}
+use Rattle.model.specs.Pairs.{pair, edgeOf, nodeOf, ascending, gather, onlyIf, outPair, inPair, spaceEntry}
+use Rattle.model.specs.OneCall.{pack}
+use Rattle.select.specs.Selections.{passes}
+use Rattle.list.specs.declared.Part.{Part}
+use Rattle.list.specs.declared.Part.the-variants.{Both, Edge, Node}
+use Rattle.list.specs.declared.PairQuery.{PairQuery}
+use Rattle.list.specs.declared.Query.{Query}
+use Rattle.list.specs.declared.Query.the-variants.{Pairs, Nodes, Spaces, SpacesOf}
+
+-- the part of a pair that is listed: the pair, its edge name, its node
+unfoldable pub partOf : Part → Pair → Pair
+partOf Both p = p
+partOf Edge p = pair (edgeOf p) 0
+partOf Node p = pair 0 (nodeOf p)
+
+-- of some pairs those with the edge and node that are asked for, of each the part that is listed
+unfoldable pub chosen : PairQuery → List Pair → List Pair
+chosen q [] = []
+chosen q (p ∷ ps) =
+    cond (passes (q .g) (q .m) p) (partOf (q .part) p ∷ chosen q ps) (chosen q ps)
+
+-- a key gives node n at most two pairs: the first, and for adjacent pairs a second
+unfoldable pub firstPairs : Direction → ℕ → Key → List Pair
+firstPairs Outpointing n k = outPair n k
+firstPairs Inpointing n k = inPair n k
+firstPairs Adjacent n k = outPair n k
+
+unfoldable pub secondPairs : Direction → ℕ → Key → List Pair
+secondPairs Outpointing n k = []
+secondPairs Inpointing n k = []
+secondPairs Adjacent n k = inPair n k
+
+-- the entries that a key gives: at most one first, at most one second
+unfoldable pub firstAt : Query → Key → List Pair
+firstAt (Pairs q) k = cond (eqb (k .s) (q .s)) (chosen q (firstPairs (q .d) (q .n) k)) []
+firstAt (Nodes s) k = onlyIf (isNode k && eqb (k .s) s) (pair 0 (k .n))
+firstAt Spaces k = cond (eqb (k .n) 0) (spaceEntry (k .s)) []
+firstAt (SpacesOf n) k = cond (isNode k && eqb (k .n) n) (spaceEntry (k .s)) []
+
+unfoldable pub secondAt : Query → Key → List Pair
+secondAt (Pairs q) k = cond (eqb (k .s) (q .s)) (chosen q (secondPairs (q .d) (q .n) k)) []
+secondAt (Nodes s) k = []
+secondAt Spaces k = []
+secondAt (SpacesOf n) k = []
+
+-- the list: the entries of all keys, ascending, each once
+unfoldable pub queried : Query → Tuples → List Pair
+queried q ts = ascending (gather (λ (k : Key). firstAt q k ++ secondAt q k) ts)
+
+-- ---- codes
+
+abbrev pub code : Pair → ℕ
+code p = suc (pack p)
+
+-- the code of the first of some pairs; 0 for none
+unfoldable pub headCode : List Pair → ℕ
+headCode [] = 0
+headCode (p ∷ ps) = code p
+
+-- the codes that the keys give, in the order of the chain
+unfoldable pub codes : Query → Tuples → List ℕ
+codes q [] = []
+codes q (t ∷ ts) = headCode (firstAt q (t .key)) ∷ headCode (secondAt q (t .key)) ∷ codes q ts

@@ -1,0 +1,191 @@
+// The entries that an S operator lists, counted and written.
+// Each function is pub for the crates above, which have proved what it requires.
+use model::Direction;
+use model::Key;
+ghost use mathlib.Core.List.{[], _∷_};
+ghost use mathlib.Core.Path.{_≡_};
+ghost use Rattle.model.specs.Keys.{isNode};
+ghost use Rattle.model.specs.Pairs.{pair, outPair, inPair};
+ghost use Rattle.list.specs.Queries.{chosen, firstAt, secondAt, code, headCode};
+
+// What is listed of a pair.
+pub enum Part {
+    Both,
+    Edge,
+    Node,
+}
+
+// The pairs of node n in space s, with edge g and node m (0: any).
+pub struct PairQuery {
+    pub d: Direction,
+    pub s: u32,
+    pub n: u32,
+    pub g: u32,
+    pub m: u32,
+    pub part: Part,
+}
+
+pub enum Query {
+    Pairs(PairQuery),
+    // The nodes of a space.
+    Nodes(u32),
+    // All spaces.
+    Spaces,
+    // The spaces that hold a node.
+    SpacesOf(u32),
+}
+
+// A name as a wider number.
+fn wide(x: u32) -> u64
+    ensures { λ r. ⌜ r ≡ x ⌝ }
+{
+    x as u64
+}
+
+// An entry's code: one more than its packed pair.
+fn code_of(edge: u32, node: u32) -> u64
+    ensures { λ r. ⌜ r ≡ code (pair edge node) ⌝ }
+{
+    wide(edge) * 65536 + wide(node) + 1
+}
+
+// The code of the entry for a pair; 0 where it is not asked for.
+fn chosen_code(q: PairQuery, edge: u32, node: u32) -> u64
+    ensures { λ r. ⌜ r ≡ headCode (chosen q (pair edge node ∷ [])) ⌝ }
+{
+    if !select::passes_pair(q.g, q.m, edge, node) {
+        return 0;
+    }
+    let part = q.part;
+    match part {
+        Part::Both => code_of(edge, node),
+        Part::Edge => code_of(edge, 0),
+        Part::Node => code_of(0, node),
+    }
+}
+
+// The code of the entry that a key gives as an edge from n.
+fn out_code(q: PairQuery, k: Key) -> u64
+    ensures { λ r. ⌜ r ≡ headCode (chosen q (outPair (q .n) k)) ⌝ }
+{
+    if k.g == 0 {
+        return 0;
+    }
+    if k.n != q.n {
+        return 0;
+    }
+    chosen_code(q, k.g, k.m)
+}
+
+// The code of the entry that a key gives as an edge to n.
+fn in_code(q: PairQuery, k: Key) -> u64
+    ensures { λ r. ⌜ r ≡ headCode (chosen q (inPair (q .n) k)) ⌝ }
+{
+    if k.g == 0 {
+        return 0;
+    }
+    if k.m != q.n {
+        return 0;
+    }
+    chosen_code(q, k.g, k.n)
+}
+
+// The code of the first entry that a key gives; 0 for none.
+fn first_pair_code(q: PairQuery, k: Key) -> u64
+    ensures { λ r. ⌜ r ≡ headCode (firstAt (Query.Pairs q) k) ⌝ }
+{
+    if k.s != q.s {
+        return 0;
+    }
+    let d = q.d;
+    match d {
+        Direction::Outpointing => out_code(q, k),
+        Direction::Inpointing => in_code(q, k),
+        Direction::Adjacent => out_code(q, k),
+    }
+}
+
+// The code of the second entry that a key gives; 0 for none.
+fn second_pair_code(q: PairQuery, k: Key) -> u64
+    ensures { λ r. ⌜ r ≡ headCode (secondAt (Query.Pairs q) k) ⌝ }
+{
+    if k.s != q.s {
+        return 0;
+    }
+    let d = q.d;
+    match d {
+        Direction::Outpointing => 0,
+        Direction::Inpointing => 0,
+        Direction::Adjacent => in_code(q, k),
+    }
+}
+
+// Is the key that of a node.
+fn is_node(k: Key) -> bool
+    ensures { λ r. ⌜ r ≡ isNode k ⌝ }
+{
+    if k.n == 0 {
+        return false;
+    }
+    k.g == 0
+}
+
+// The code of a node of space s.
+fn node_code(s: u32, k: Key) -> u64
+    ensures { λ r. ⌜ r ≡ headCode (firstAt (Query.Nodes s) k) ⌝ }
+{
+    if !is_node(k) {
+        return 0;
+    }
+    if k.s != s {
+        return 0;
+    }
+    code_of(0, k.n)
+}
+
+// The code of a space.
+fn space_code(k: Key) -> u64
+    ensures { λ r. ⌜ r ≡ headCode (firstAt Query.Spaces k) ⌝ }
+{
+    if k.n != 0 {
+        return 0;
+    }
+    code_of(0, k.s)
+}
+
+// The code of a space that holds node n.
+fn holder_code(n: u32, k: Key) -> u64
+    ensures { λ r. ⌜ r ≡ headCode (firstAt (Query.SpacesOf n) k) ⌝ }
+{
+    if !is_node(k) {
+        return 0;
+    }
+    if k.n != n {
+        return 0;
+    }
+    code_of(0, k.s)
+}
+
+// The code of the first entry that a key gives; 0 for none.
+pub fn first_code(q: Query, k: Key) -> u64
+    ensures { λ r. ⌜ r ≡ headCode (firstAt q k) ⌝ }
+{
+    match q {
+        Query::Pairs(p) => first_pair_code(p, k),
+        Query::Nodes(s) => node_code(s, k),
+        Query::Spaces => space_code(k),
+        Query::SpacesOf(n) => holder_code(n, k),
+    }
+}
+
+// The code of the second entry that a key gives; 0 for none.
+pub fn second_code(q: Query, k: Key) -> u64
+    ensures { λ r. ⌜ r ≡ headCode (secondAt q k) ⌝ }
+{
+    match q {
+        Query::Pairs(p) => second_pair_code(p, k),
+        Query::Nodes(_) => 0,
+        Query::Spaces => 0,
+        Query::SpacesOf(_) => 0,
+    }
+}
