@@ -53,14 +53,14 @@ or-left-first : (a b c : Bool) → (a || (b || c)) ≡ ((a || b) || c)
 or-left-first true b c = refl
 or-left-first false b c = refl
 
-member-append : (q : Pair) (ps rs : List Pair) → member q (ps ++ rs) ≡ (member q ps || member q rs)
+pub member-append : (q : Pair) (ps rs : List Pair) → member q (ps ++ rs) ≡ (member q ps || member q rs)
 unfolding holds
 member-append q [] rs = refl
 member-append q (p ∷ ps) rs =
     ap (λ (b : Bool). samePair q p || b) (member-append q ps rs) ∙ or-left-first (samePair q p) (member q ps) (member q rs)
 
 -- what is gathered comes from a key that is present ..
-gather-sound : (f : Key → List Pair) (ts : Tuples) (q : Pair) → Member q (gather f ts) → (k : Key) × Has k ts × Member q (f k)
+pub gather-sound : (f : Key → List Pair) (ts : Tuples) (q : Pair) → Member q (gather f ts) → (k : Key) × Has k ts × Member q (f k)
 unfolding gather holds
 gather-sound f [] q e = absurd (false≢true e)
 gather-sound f (t ∷ ts) q e =
@@ -69,7 +69,7 @@ gather-sound f (t ∷ ts) q e =
     (or-cases (member q (f (t .key))) (member q (gather f ts)) (sym (member-append q (f (t .key)) (gather f ts)) ∙ e))
 
 -- .. and nothing is left out
-gather-complete : (f : Key → List Pair) (ts : Tuples) (q : Pair) (k : Key) → Has k ts → Member q (f k) → Member q (gather f ts)
+pub gather-complete : (f : Key → List Pair) (ts : Tuples) (q : Pair) (k : Key) → Has k ts → Member q (f k) → Member q (gather f ts)
 unfolding gather holds
 gather-complete f [] q k h e = absurd (false≢true h)
 gather-complete f (t ∷ ts) q k h e =

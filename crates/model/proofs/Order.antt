@@ -159,7 +159,10 @@ module _ {A : Type 0} {order₁ order₂ : A → A → Ordering} (O₁ : Compare
         transitive = refined-transitive;
       }
 
--- ---- keys and pairs
+-- ---- numbers, keys and pairs
+
+pub numbers : IsOrder compare
+numbers = record { compares = by-number (λ (n : ℕ). n); same = compare-eq }
 
 -- "used keys strictly ascend, s first": the order of keys is one
 pub keys : IsOrder compareKeys

@@ -7,8 +7,8 @@ use Prim.Native.Nat.{suc, Ordering, Ordering·lt, Ordering·eq, Ordering·gt}
 use lib.Dec.{isEq}
 use lib.ListN.{length}
 use Rattle.model.specs.Ordered.{byOrder, isLess, holds, put, ascendsFrom, Above, Ascending}
-use Rattle.model.proofs.Bools.{or-cases, and-left, and-right, and-both, clash}
-use Rattle.model.proofs.Order.{IsOrder, opposite}
+use Rattle.model.proofs.Bools.{or-cases, or-left, and-left, and-right, and-both, clash}
+use Rattle.model.proofs.Order.{IsOrder, opposite, lt≢eq, lt≢gt}
 
 or-again : (a b : Bool) → (a || b) ≡ (a || (a || b))
 or-again true b = refl
@@ -165,6 +165,46 @@ module _ {A K : Type 0} (key : A → K) (order : K → K → Ordering) (L : IsOr
   pub put-before : (a x : A) (xs : List A) → order (key a) (key x) ≡ Ordering·lt → put key order a (x ∷ xs) ≡ a ∷ x ∷ xs
   unfolding put
   put-before a x xs e = ap (λ (o : Ordering). byOrder o (a ∷ x ∷ xs) (x ∷ xs) (x ∷ put key order a xs)) e
+
+  -- ---- one list for one set
+
+  -- the first of an ascending list that holds what another holds is not above the other's first
+  not-above : (x y : A) (xs ys : List A) → Above key order (key y) ys → holds key order (key x) (y ∷ ys) ≡ true → order (key x) (key y) ≡ Ordering·lt → ⊥
+  unfolding holds
+  not-above x y xs ys h e lt =
+      ⊎-elim (λ f. lt≢eq (sym lt ∙ isEq-true (order (key x) (key y)) f))
+      (λ f. lt≢gt (sym lt ∙ more (key y) (key x) (above-held (key y) (key x) ys h f)))
+      (or-cases (isEq (order (key x) (key y))) (holds key order (key x) ys) e)
+
+  pub same-members : ((a b : A) → key a ≡ key b → a ≡ b) → (xs ys : List A) → Ascending key order xs → Ascending key order ys
+      → ((k : K) → holds key order k xs ≡ holds key order k ys) → xs ≡ ys
+  unfolding holds
+  same-members inj [] [] h i same = refl
+  same-members inj [] (y ∷ ys) h i same = absurd (false≢true (same (key y) ∙ or-left _ (holds key order (key y) ys) (self (key y))))
+  same-members inj (x ∷ xs) [] h i same = absurd (false≢true (sym (same (key x)) ∙ or-left _ (holds key order (key x) xs) (self (key x))))
+  same-members inj (x ∷ xs) (y ∷ ys) h i same =
+      go (order (key x) (key y)) refl
+      (same-members inj xs ys (ascending-tail (key x) xs h) (ascending-tail (key y) ys i))
+    where
+      has-x : holds key order (key x) (y ∷ ys) ≡ true
+      has-x = sym (same (key x)) ∙ or-left _ (holds key order (key x) xs) (self (key x))
+      has-y : holds key order (key y) (x ∷ xs) ≡ true
+      has-y = same (key y) ∙ or-left _ (holds key order (key y) ys) (self (key y))
+      tails : key x ≡ key y → (k : K) → holds key order k xs ≡ holds key order k ys
+      tails e k = part (isEq (order k (key x))) refl
+        where
+          part : (t : Bool) → isEq (order k (key x)) ≡ t → holds key order k xs ≡ holds key order k ys
+          part true f =
+              subst (λ (j : K). holds key order j xs ≡ holds key order j ys) (sym (at-element k (key x) f))
+              (above-not-held (key x) xs h ∙ sym (subst (λ (j : K). holds key order j ys ≡ false) (sym e) (above-not-held (key y) ys i)))
+          part false f =
+              ap (λ (t : Bool). t || holds key order k xs) (sym f)
+              ∙ same k
+              ∙ ap (λ (t : Bool). t || holds key order k ys) (ap (λ (j : K). isEq (order k j)) (sym e) ∙ f)
+      go : (o : Ordering) → order (key x) (key y) ≡ o → (((k : K) → holds key order k xs ≡ holds key order k ys) → xs ≡ ys) → x ∷ xs ≡ y ∷ ys
+      go Ordering·lt e ih = absurd (not-above x y xs ys i has-x e)
+      go Ordering·eq e ih = let k : key x ≡ key y = L .same (key x) (key y) e in ap₂ _∷_ (inj x y k) (ih (tails k))
+      go Ordering·gt e ih = absurd (not-above y x ys xs h has-y (flipped (key x) (key y) e))
 
   -- ---- the test
 
