@@ -1,1 +1,2 @@
 pub mod CodeTests
+pub mod Members

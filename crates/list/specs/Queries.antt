@@ -1,9 +1,9 @@
 -- What a list holds, as one value: the entries that S operators list, and their codes.
 -- An entry's code is one more than its packed pair, so that 0 says that there is none.
-use mathlib.Core.Bool.{Bool, true, false, cond, _&&_}
+use mathlib.Core.Bool.{cond, _&&_, _||_}
 use mathlib.Core.List.{List, [], _∷_, _++_}
 use Prim.Native.Nat.{ℕ, suc}
-use lib.Dec.{eqb}
+use lib.Dec.{eqb, ltb}
 use Rattle.model.specs.declared.Direction.{Direction}
 use Rattle.model.specs.declared.Direction.the-variants.{Outpointing, Inpointing, Adjacent}
 use Rattle.model.specs.declared.Key.{Key}
@@ -12,6 +12,9 @@ use Rattle.model.specs.Keys.{isNode}
 use Rattle.model.specs.Tuples.{Tuples}
 use Rattle.model.specs.Pairs.{pair, edgeOf, nodeOf, ascending, gather, onlyIf, outPair, inPair, spaceEntry}
 use Rattle.model.specs.OneCall.{pack}
+use Rattle.model.specs.Buffer.{tuplesOf}
+use Rattle.model.specs.Rules.{Has, Small}
+use Rattle.chain.specs.Links.{Linked}
 use Rattle.select.specs.Selections.{passes}
 use Rattle.list.specs.declared.Part.{Part}
 use Rattle.list.specs.declared.Part.the-variants.{Both, Edge, Node}
@@ -73,3 +76,24 @@ headCode (p ∷ ps) = code p
 unfoldable pub codes : Query → Tuples → List ℕ
 codes q [] = []
 codes q (t ∷ ts) = headCode (firstAt q (t .key)) ∷ headCode (secondAt q (t .key)) ∷ codes q ts
+
+-- ---- the codes of a list, found in one walk or one after the other
+
+-- those that rise above all before them
+unfoldable pub rising : ℕ → List ℕ → List ℕ
+rising seen [] = []
+rising seen (e ∷ es) = cond (ltb seen e) (e ∷ rising e es) (rising seen es)
+
+-- of two codes above `seen` the lesser; `best` is 0 for none
+unfoldable pub nearer : ℕ → ℕ → ℕ → ℕ
+nearer seen best e = cond (ltb seen e && (eqb best 0 || ltb e best)) e best
+
+-- the least that is above `seen`, or 0
+unfoldable pub leastFrom : ℕ → ℕ → List ℕ → ℕ
+leastFrom best seen [] = best
+leastFrom best seen (e ∷ es) = leastFrom (nearer seen best e) seen es
+
+-- what the functions that list ask of a buffer: chains, and names that fit half a word
+pub record Readable (b : List ℕ) : Type 0 where
+  pub linked : Linked b
+  pub small : (k : Key) → Has k (tuplesOf b) → Small k
