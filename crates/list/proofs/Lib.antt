@@ -1,2 +1,3 @@
 pub mod CodeTests
 pub mod Members
+pub mod Sorted
