@@ -1,3 +1,4 @@
 pub mod CodeTests
 pub mod Members
 pub mod Sorted
+pub mod Leasts
