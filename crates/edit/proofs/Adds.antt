@@ -1,36 +1,35 @@
 -- A key's tuple added: linked at the key's place it is the tuple list with the key put in.
-use mathlib.Core.Bool.{Bool, true, false, cond, not, _||_, false≢true}
+use mathlib.Core.Bool.{Bool, true, false, cond, not}
 use mathlib.Core.List.{List, [], _∷_, _++_, map, append-assoc}
-use mathlib.Core.Logic.{_≢_, ⊎-elim}
+use mathlib.Core.Logic.{_≢_}
 use mathlib.Core.Option.{Option, none, some}
 use mathlib.Core.Path.{_≡_, refl, sym, ap, ap₂, _∙_, subst, subst₂}
-use Prim.Native.Nat.{ℕ, suc, _+_, _≤_, _<_, Ordering, Ordering·lt, Ordering·eq, Ordering·gt}
+use Prim.Native.Nat.{ℕ, Ordering, Ordering·lt, Ordering·eq, Ordering·gt}
 use native.Mathlib.Omega.{arith}
-use lib.Dec.{eqb, isEq}
+use lib.Dec.{eqb}
 use lib.ListN.{length}
 use borrow.Author.Tests.{eq-eqb, ne-eqb}
 use Rattle.model.specs.declared.Key.{Key}
-use Rattle.model.specs.Ordered.{isLess, holds, put, Above, Ascending}
+use Rattle.model.specs.Ordered.{isLess, holds, put, Ascending}
 use Rattle.model.specs.Keys.{NIL, Tuple, keyOf, spaceKey, compareKeys, sameKey}
-use Rattle.model.specs.Tuples.{Tuples, present, add}
+use Rattle.model.specs.Tuples.{present, add}
 use Rattle.model.specs.Buffer.{word, capacityOf, next, keyAt, tupleAt, usedOf, freeOf, tuplesOf}
 use Rattle.model.specs.Rules.{firstKey, Chain, ChainRules}
 use Rattle.model.proofs.Bools.{clash, or-right, or-no-left, or-no-right}
 use Rattle.model.proofs.Order.{keys, opposite}
-use Rattle.model.proofs.Ordered.{Below, put-below, put-before, put-held, holds-append, below-not-held}
-use Rattle.model.proofs.Tuples.{same-key, own-key, present-add, add-ascending}
+use Rattle.model.proofs.Ordered.{put-below, put-before, put-held, holds-append}
+use Rattle.model.proofs.Tuples.{present-add, add-ascending}
 use Rattle.model.proofs.Rules.{never-below-universe, universe-first, first-universe}
-use Rattle.model.proofs.Store.{chains-count}
-use Rattle.model.proofs.Chains.{chain-within}
+use Rattle.model.proofs.Store.{chains-count, capacity-most}
 use Rattle.records.specs.Words.{Inside}
 use Rattle.records.proofs.Words.{inside}
 use Rattle.chain.specs.declared.Place.{Place}
 use Rattle.chain.specs.Links.{Linked, placeIn, Edited, Linking, insertAfter}
-use Rattle.chain.proofs.Found.{lastOf, headOf, NotBelow, AtPlace, at-place, above-all, find-at, present-found, place-inside}
+use Rattle.chain.proofs.Found.{lastOf, NotBelow, AtPlace, at-place, above-all, find-at, present-found, place-inside}
 use Rattle.chain.proofs.Paths.{map-append}
 use Rattle.chain.proofs.Relinked.{Inserted, insert-reads, Parts, inserting, apart, inserted-rules, inserted-tuples}
 use Rattle.edit.specs.Edits.{Adding}
-use Rattle.edit.proofs.Built.{capacity-most, edited, unedited, length-tuples}
+use Rattle.edit.proofs.Built.{edited, unedited, length-tuples}
 
 -- ---- is the key at its place
 

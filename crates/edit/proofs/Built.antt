@@ -1,22 +1,16 @@
 -- From the rules on chains and the tuples of the records to an edit of the buffer.
 use mathlib.Core.List.{List, map}
 use mathlib.Core.Option.{some}
-use mathlib.Core.Path.{_≡_, refl, sym, ap, ap₂, _∙_, subst, subst₂}
-use Prim.Native.Nat.{ℕ, _≤_}
-use native.Mathlib.Omega.{arith}
+use mathlib.Core.Path.{_≡_, refl, sym, ap, _∙_, subst, subst₂}
+use Prim.Native.Nat.{ℕ}
 use lib.ListN.{length, length-map}
 use Rattle.model.specs.Ordered.{Ascending}
 use Rattle.model.specs.Keys.{keyOf, spaceKey, compareKeys}
 use Rattle.model.specs.Tuples.{Tuples}
-use Rattle.model.specs.Buffer.{capacityOf, tupleAt, pastRecords, usedOf, freeOf, tuplesOf}
+use Rattle.model.specs.Buffer.{tupleAt, pastRecords, usedOf, tuplesOf}
 use Rattle.model.specs.Rules.{firstKey, ChainRules}
 use Rattle.model.proofs.Store.{used-of, free-of, tuples-of}
 use Rattle.chain.specs.Links.{Linked, Edited}
-
--- a buffer of at most 12,297 words has at most 2,048 records
-pub capacity-most : (b used free : List ℕ) → ChainRules b used free → capacityOf b ≤ 2048
-unfolding capacityOf
-capacity-most b used free R = omega (arith, R .most)
 
 pub edited : (b b′ used free : List ℕ) (ts : Tuples) → ChainRules b′ used free → map (tupleAt b′) used ≡ ts
     → Ascending keyOf compareKeys ts → firstKey ts ≡ some (spaceKey 0) → length b′ ≡ length b → pastRecords b′ ≡ pastRecords b → Edited b b′ ts

@@ -1,10 +1,10 @@
 -- A walk that removes: what was walked is kept but for what the selection takes, what is left is still to do.
-use mathlib.Core.Bool.{Bool, true, false, cond, false≢true}
+use mathlib.Core.Bool.{Bool, true, false, cond}
 use mathlib.Core.List.{List, [], _∷_, _++_, map, append-assoc, append-nil}
 use mathlib.Core.Logic.{_≢_}
 use mathlib.Core.Option.{Option, none, some}
 use mathlib.Core.Path.{_≡_, refl, sym, ap, ap₂, _∙_, subst, subst₂}
-use Prim.Native.Nat.{ℕ, _+_, _≤_, _<_}
+use Prim.Native.Nat.{ℕ, _≤_, _<_}
 use native.Mathlib.Omega.{arith}
 use lib.ListN.{length, length-append}
 use Rattle.model.specs.declared.Key.{Key}
@@ -14,21 +14,20 @@ use Rattle.model.specs.Tuples.{Tuples, present, remove}
 use Rattle.model.specs.Buffer.{word, capacityOf, next, keyAt, tupleAt, pastRecords, usedOf, freeOf, tuplesOf}
 use Rattle.model.specs.Rules.{firstKey, Chain, ChainRules}
 use Rattle.model.proofs.Bools.{and-both, no-not}
-use Rattle.model.proofs.Order.{keys}
 use Rattle.model.proofs.Tuples.{present-remove, remove-ascending}
 use Rattle.model.proofs.Rules.{universe-first, first-universe}
 use Rattle.model.proofs.Chains.{Within, within-append, chain-within}
-use Rattle.model.proofs.Store.{chains-count}
+use Rattle.model.proofs.Store.{chains-count, capacity-most}
 use Rattle.records.specs.Words.{Inside}
 use Rattle.records.proofs.Words.{inside}
 use Rattle.chain.specs.Links.{Linked, Edited, Unlinking, removeAfter}
 use Rattle.chain.proofs.Walks.{Rest, remaining, remaining-is, at-end}
-use Rattle.chain.proofs.Paths.{chain-split, within-left, within-right, map-append}
-use Rattle.chain.proofs.Relinked.{Removed, remove-reads, Parts, removing, apart, removed-rules, removed-tuples}
+use Rattle.chain.proofs.Paths.{chain-split, within-right, map-append}
+use Rattle.chain.proofs.Relinked.{Removed, remove-reads, Parts, removing, apart, removed-rules}
 use Rattle.select.specs.declared.Selection.{Selection}
 use Rattle.select.specs.Selections.{takenBy}
 use Rattle.edit.specs.Edits.{Turned}
-use Rattle.edit.proofs.Built.{capacity-most, edited}
+use Rattle.edit.proofs.Built.{edited}
 
 -- the answer of one turn
 pub turned-taken : (b : List ℕ) (sel : Selection) (before at : ℕ) (key : Key) (t : Bool) (b′ : List ℕ)

@@ -2,3 +2,5 @@ pub mod CodeTests
 pub mod Members
 pub mod Sorted
 pub mod Leasts
+pub mod Walked
+pub mod Counted

@@ -1,32 +1,24 @@
 -- The codes that keys give are those of the entries of the list.
-use mathlib.Core.Bool.{Bool, true, false, cond, not, _&&_, _||_, or-false, false≢true}
+use mathlib.Core.Bool.{Bool, true, false, cond, _&&_, _||_, or-false, false≢true}
 use mathlib.Core.List.{List, [], _∷_, _++_, map}
 use mathlib.Core.Logic.{_⊎_, inl, inr, ⊎-elim, _≢_}
-use mathlib.Core.Path.{_≡_, refl, sym, ap, ap₂, _∙_, subst}
-use Prim.Native.Nat.{ℕ, suc, _+_, _*_, _≤_, _<_, compare, Ordering, Ordering·lt}
+use mathlib.Core.Path.{_≡_, refl, sym, ap, _∙_, subst}
+use Prim.Native.Nat.{ℕ, compare}
 use native.Mathlib.Omega.{arith}
 use lib.Dec.{eqb, isEq}
 use Rattle.model.specs.declared.Direction.{Direction}
 use Rattle.model.specs.declared.Direction.the-variants.{Outpointing, Inpointing, Adjacent}
 use Rattle.model.specs.declared.Key.{Key}
 use Rattle.model.specs.declared.Pair.{Pair}
-use Rattle.model.specs.Ordered.{thenBy, holds, Above, Ascending}
-use Rattle.model.specs.Keys.{mostName, Tuple, keyOf, isNode, isEdge, sameKey}
-use Rattle.model.specs.Tuples.{Tuples, present}
-use Rattle.model.specs.Pairs.{pair, edgeOf, nodeOf, comparePairs, itself, member, ascending, gather, onlyIf, outPair, inPair, spaceEntry}
-use Rattle.model.specs.OneCall.{pack}
-use Rattle.model.specs.Rules.{Has, Small}
-use Rattle.model.proofs.Bools.{or-cases, or-left, or-right, equal}
-use Rattle.model.proofs.Order.{numbers, lt≢gt, compare-eq, compare-lt, lt-compare}
+use Rattle.model.specs.Ordered.{holds}
+use Rattle.model.specs.Keys.{isNode, isEdge}
+use Rattle.model.specs.Tuples.{Tuples}
+use Rattle.model.specs.Pairs.{pair, member, ascending, gather, onlyIf, outPair, inPair, spaceEntry}
+use Rattle.model.proofs.Bools.{or-cases, or-left, or-right}
+use Rattle.model.proofs.Order.{numbers}
 use Rattle.model.proofs.Ordered.{at-element, self}
-use Rattle.model.proofs.Tuples.{own-key}
-use Rattle.model.proofs.Taken.{EveryPair}
-use Rattle.model.proofs.Entries.{Member, same-pair, own-pair, samePair, ascending-ascends, member-ascending, member-append, gather-sound, gather-complete}
-use Rattle.model.proofs.Steps.{every-member}
-use Rattle.model.proofs.CallLists.{SmallPair}
+use Rattle.model.proofs.Entries.{Member, same-pair, own-pair, samePair, member-ascending, member-append}
 use Rattle.select.specs.Selections.{passes}
-use Rattle.list.specs.declared.Part.{Part}
-use Rattle.list.specs.declared.Part.the-variants.{Both, Edge, Node}
 use Rattle.list.specs.declared.PairQuery.{PairQuery}
 use Rattle.list.specs.declared.Query.{Query}
 use Rattle.list.specs.declared.Query.the-variants.{Pairs, Nodes, Spaces, SpacesOf}
@@ -51,7 +43,7 @@ own-number a = self number compare numbers a
 
 -- ---- a key gives at most one first and one second entry
 
-abbrev Single : List Pair → Type 0
+abbrev pub Single : List Pair → Type 0
 Single ps = (ps ≡ []) ⊎ ((p : Pair) × (ps ≡ p ∷ []))
 
 single-onlyIf : (b : Bool) (p : Pair) → Single (onlyIf b p)
@@ -84,14 +76,14 @@ single-second-pairs Outpointing n k = inl refl
 single-second-pairs Inpointing n k = inl refl
 single-second-pairs Adjacent n k = single-onlyIf (isEdge k && eqb (k .m) n) (pair (k .g) (k .n))
 
-single-first : (q : Query) (k : Key) → Single (firstAt q k)
+pub single-first : (q : Query) (k : Key) → Single (firstAt q k)
 unfolding firstAt
 single-first (Pairs q) k = single-cond (eqb (k .s) (q .s)) _ (single-chosen q (firstPairs (q .d) (q .n) k) (single-first-pairs (q .d) (q .n) k))
 single-first (Nodes s) k = single-onlyIf (isNode k && eqb (k .s) s) (pair 0 (k .n))
 single-first Spaces k = single-cond (eqb (k .n) 0) (spaceEntry (k .s)) (inr (pair 0 (k .s), refl))
 single-first (SpacesOf n) k = single-cond (isNode k && eqb (k .n) n) (spaceEntry (k .s)) (inr (pair 0 (k .s), refl))
 
-single-second : (q : Query) (k : Key) → Single (secondAt q k)
+pub single-second : (q : Query) (k : Key) → Single (secondAt q k)
 unfolding secondAt
 single-second (Pairs q) k = single-cond (eqb (k .s) (q .s)) _ (single-chosen q (secondPairs (q .d) (q .n) k) (single-second-pairs (q .d) (q .n) k))
 single-second (Nodes s) k = inl refl

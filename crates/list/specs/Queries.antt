@@ -1,9 +1,10 @@
 -- What a list holds, as one value: the entries that S operators list, and their codes.
 -- An entry's code is one more than its packed pair, so that 0 says that there is none.
-use mathlib.Core.Bool.{cond, _&&_, _||_}
-use mathlib.Core.List.{List, [], _∷_, _++_}
+use mathlib.Core.Bool.{Bool, true, false, cond, not, _&&_, _||_}
+use mathlib.Core.List.{List, [], _∷_, _++_, map}
 use Prim.Native.Nat.{ℕ, suc}
 use lib.Dec.{eqb, ltb}
+use lib.ListN.{length, drop}
 use Rattle.model.specs.declared.Direction.{Direction}
 use Rattle.model.specs.declared.Direction.the-variants.{Outpointing, Inpointing, Adjacent}
 use Rattle.model.specs.declared.Key.{Key}
@@ -97,3 +98,25 @@ leastFrom best seen (e ∷ es) = leastFrom (nearer seen best e) seen es
 pub record Readable (b : List ℕ) : Type 0 where
   pub linked : Linked b
   pub small : (k : Key) → Has k (tuplesOf b) → Small k
+
+-- do the entries come in the order of the list as the chain is walked
+unfoldable pub pairsInOrder : Direction → Part → ℕ → ℕ → Bool
+pairsInOrder Outpointing Both g m = true
+pairsInOrder Outpointing Edge g m = true
+pairsInOrder Outpointing Node g m = not (eqb g 0)
+pairsInOrder Inpointing Both g m = false
+pairsInOrder Inpointing Edge g m = not (eqb m 0)
+pairsInOrder Inpointing Node g m = true
+pairsInOrder Adjacent Both g m = false
+pairsInOrder Adjacent Edge g m = false
+pairsInOrder Adjacent Node g m = false
+
+unfoldable pub inOrder : Query → Bool
+inOrder (Pairs q) = pairsInOrder (q .d) (q .part) (q .g) (q .m)
+inOrder (Nodes s) = true
+inOrder Spaces = true
+inOrder (SpacesOf n) = true
+
+-- the answer list with the entries in its first places; "the rest stays"
+unfoldable pub written : List Pair → List ℕ → List ℕ
+written ps l = map pack ps ++ drop (length ps) l

@@ -6,7 +6,11 @@ ghost use mathlib.Core.List.{[], _∷_};
 ghost use mathlib.Core.Path.{_≡_};
 ghost use Rattle.model.specs.Keys.{isNode};
 ghost use Rattle.model.specs.Pairs.{pair, outPair, inPair};
-ghost use Rattle.list.specs.Queries.{chosen, firstAt, secondAt, code, headCode};
+ghost use lib.ListN.{length};
+ghost use Prim.Native.Nat.{_≤_};
+ghost use Rattle.model.specs.Buffer.{tuplesOf};
+ghost use Rattle.chain.specs.Links.{Linked};
+ghost use Rattle.list.specs.Queries.{chosen, firstAt, secondAt, queried, code, headCode, codes, nearer, leastFrom, Readable, written};
 
 // What is listed of a pair.
 pub enum Part {
@@ -187,5 +191,69 @@ pub fn second_code(q: Query, k: Key) -> u64
         Query::Nodes(_) => 0,
         Query::Spaces => 0,
         Query::SpacesOf(_) => 0,
+    }
+}
+
+// Of two codes above `seen` the lesser; `best` is 0 for none.
+fn nearer_code(seen: u64, best: u64, e: u64) -> u64
+    ensures { λ r. ⌜ r ≡ nearer seen best e ⌝ }
+{
+    if e <= seen {
+        return best;
+    }
+    if best == 0 {
+        return e;
+    }
+    if e < best {
+        return e;
+    }
+    best
+}
+
+// The least code above `seen` that the used records give; 0 for none.
+fn least_above(b: &[u32], q: Query, seen: u64) -> u64
+    requires { ⌜ Linked (now b) ⌝ }
+    ensures { λ r. ⌜ r ≡ leastFrom 0 seen (codes q (tuplesOf (now (b .entry)))) ⌝ }
+{
+    let mut best: u64 = 0;
+    let mut at = records::head_word(b, 1);
+    while at != 0 {
+        let k = records::key_of(b, at);
+        let one = nearer_code(seen, best, first_code(q, k));
+        best = nearer_code(seen, one, second_code(q, k));
+        at = records::next_of(b, at);
+    }
+    best
+}
+
+// The number of entries, each found as the least above the last.
+fn count_by_least(b: &[u32], q: Query) -> usize
+    requires { ⌜ Readable (now b) ⌝ }
+    ensures { λ r. ⌜ r ≡ length (queried q (tuplesOf (now (b .entry)))) ⌝ }
+{
+    let mut count = 0;
+    let mut seen: u64 = 0;
+    let mut e = least_above(b, q, 0);
+    while e != 0 {
+        count += 1;
+        seen = e;
+        e = least_above(b, q, seen);
+    }
+    count
+}
+
+// The entries written to the first places, each found as the least above the last.
+fn write_by_least(b: &[u32], q: Query, list: &mut [u32])
+    requires { ⌜ Readable (now b) × (length (queried q (tuplesOf (now b))) ≤ length (now list)) ⌝ }
+    ensures { λ _. ⌜ now (list .exit) ≡ written (queried q (tuplesOf (now (b .entry)))) (now (list .entry)) ⌝ }
+{
+    let mut done = 0;
+    let mut seen: u64 = 0;
+    let mut e = least_above(b, q, 0);
+    while e != 0 {
+        list[done] = (e - 1) as u32;
+        done += 1;
+        seen = e;
+        e = least_above(b, q, seen);
     }
 }

@@ -266,6 +266,11 @@ chains-count b used free R =
     once-length (capacityOf b) used free (chain-within (next b) (capacityOf b) (word b 1) used (R .usedChain) (R .usedHead) (R .nexts))
     (chain-within (next b) (capacityOf b) (word b 2) free (R .freeChain) (R .freeHead) (R .nexts)) (R .once)
 
+-- a buffer of at most 12,297 words has at most 2,048 records
+pub capacity-most : (b used free : List ℕ) → ChainRules b used free → capacityOf b ≤ 2048
+unfolding capacityOf
+capacity-most b used free R = omega (arith, R .most)
+
 pub used-chain : (b used free : List ℕ) → ChainRules b used free → usedChain b ≡ some used
 unfolding usedChain
 used-chain b used free R = chain-walk (next b) (capacityOf b) (word b 1) used (R .usedChain) (omega (arith, chains-count b used free R))
