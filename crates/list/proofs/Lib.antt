@@ -4,3 +4,4 @@ pub mod Sorted
 pub mod Leasts
 pub mod Walked
 pub mod Counted
+pub mod Orders
