@@ -15,10 +15,11 @@ use Rattle.model.specs.OneCall.{pack}
 use Rattle.model.specs.Pairs.{pair, onlyIf, outPair, inPair, spaceEntry}
 use Rattle.select.specs.Selections.{passes}
 use Rattle.list.specs.declared.Part.{Part}
+use Rattle.list.specs.declared.Part.the-variants.{Both, Edge, Node}
 use Rattle.list.specs.declared.PairQuery.{PairQuery}
 use Rattle.list.specs.declared.Query.{Query}
 use Rattle.list.specs.declared.Query.the-variants.{Pairs, Nodes, Spaces, SpacesOf}
-use Rattle.list.specs.Queries.{partOf, chosen, firstPairs, secondPairs, firstAt, secondAt, code, headCode}
+use Rattle.list.specs.Queries.{partOf, chosen, firstPairs, secondPairs, firstAt, secondAt, code, headCode, pairsInOrder, inOrder}
 
 pub packed : (edge node a b : ℕ) → a ≡ edge → b ≡ node → a * 65536 + b + 1 ≡ code (pair edge node)
 unfolding pack
@@ -190,3 +191,22 @@ module _ (q : Query) (k : Key) (r : ℕ) where
 
   pub second-case : (x : Query) → q ≡ x → r ≡ headCode (secondAt x k) → r ≡ headCode (secondAt q k)
   second-case x e er = er ∙ ap (λ (y : Query). headCode (secondAt y k)) (sym e)
+
+-- ---- is a query in order
+
+module _ (q : PairQuery) (r : Bool) where
+  pub order-case : (d : Direction) (part : Part) → q .d ≡ d → q .part ≡ part → r ≡ pairsInOrder d part (q .g) (q .m)
+      → r ≡ pairsInOrder (q .d) (q .part) (q .g) (q .m)
+  order-case d part ed ep er = er ∙ sym (ap₂ (λ (x : Direction) (y : Part). pairsInOrder x y (q .g) (q .m)) ed ep)
+
+  pub order-adjacent : q .d ≡ Adjacent → r ≡ false → r ≡ pairsInOrder (q .d) (q .part) (q .g) (q .m)
+  unfolding pairsInOrder
+  order-adjacent ed er = er ∙ none (q .part) ∙ sym (ap (λ (x : Direction). pairsInOrder x (q .part) (q .g) (q .m)) ed)
+    where
+      none : (part : Part) → false ≡ pairsInOrder Adjacent part (q .g) (q .m)
+      none Both = refl
+      none Edge = refl
+      none Node = refl
+
+pub query-case : (q x : Query) (r : Bool) → q ≡ x → r ≡ inOrder x → r ≡ inOrder q
+query-case q x r e er = er ∙ ap inOrder (sym e)

@@ -63,7 +63,7 @@ module _ (b : List ℕ) (q : Query) (R : Readable b) where
     list-on d more next em en =
         record {
           count = omega (arith, em, L .count, ap length (done-grows d), length-append (atMost seen (listCodes b q)) (e ∷ []));
-          coming = next-is e next en
+          coming = next-is e next en;
         }
 
     pub list-less : e ≢ 0 → length (above e (listCodes b q)) < length (above seen (listCodes b q))
@@ -107,13 +107,14 @@ length-gather : (q : Query) (ts : Tuples) → length (gather (entriesAt q) ts) �
 unfolding gather
 length-gather q [] = omega arith
 length-gather q (t ∷ ts) =
-    omega
-    (arith,
-    length-append (entriesAt q (t .key)) (gather (entriesAt q) ts),
-    length-append (firstAt q (t .key)) (secondAt q (t .key)),
-    length-single (firstAt q (t .key)) (single-first q (t .key)),
-    length-single (secondAt q (t .key)) (single-second q (t .key)),
-    length-gather q ts)
+    omega (
+      arith,
+      length-append (entriesAt q (t .key)) (gather (entriesAt q) ts),
+      length-append (firstAt q (t .key)) (secondAt q (t .key)),
+      length-single (firstAt q (t .key)) (single-first q (t .key)),
+      length-single (secondAt q (t .key)) (single-second q (t .key)),
+      length-gather q ts,
+    )
 
 pub length-queried : (q : Query) (ts : Tuples) → length (queried q ts) ≤ 2 * length ts
 unfolding queried
@@ -132,11 +133,12 @@ module _ (b : List ℕ) (q : Query) (R : Readable b) where
   tuples-most : length (tuplesOf b) ≤ 2048
   unfolding tuplesOf
   tuples-most =
-      omega
-      (arith,
-      length-map (usedOf b) (tupleAt b),
-      chains-count b (usedOf b) (freeOf b) (R .linked .chains),
-      capacity-most b (usedOf b) (freeOf b) (R .linked .chains))
+      omega (
+        arith,
+        length-map (usedOf b) (tupleAt b),
+        chains-count b (usedOf b) (freeOf b) (R .linked .chains),
+        capacity-most b (usedOf b) (freeOf b) (R .linked .chains),
+      )
 
   pub entries-most : length (queried q (tuplesOf b)) ≤ 4096
   entries-most = omega (arith, length-queried q (tuplesOf b), tuples-most)
@@ -148,12 +150,13 @@ module _ (b : List ℕ) (q : Query) (R : Readable b) where
 
     pub done-less : e ≢ 0 → done < length (queried q (tuplesOf b))
     done-less d =
-        omega
-        (arith,
-        L .count,
-        length-parts seen (listCodes b q),
-        length-map (queried q (tuplesOf b)) code,
-        ap length (first-left b q R done seen e L d .1))
+        omega (
+          arith,
+          L .count,
+          length-parts seen (listCodes b q),
+          length-map (queried q (tuplesOf b)) code,
+          ap length (first-left b q R done seen e L d .1),
+        )
 
     -- a code less one fits a word
     pub code-fits : e ≢ 0 → e - 1 < 4294967296
@@ -166,14 +169,14 @@ module _ (b : List ℕ) (q : Query) (R : Readable b) where
 
 -- ---- writing
 
-abbrev strip : ℕ → ℕ
+abbrev pub strip : ℕ → ℕ
 strip e = e - 1
 
-strip-codes : (ps : List Pair) → map strip (map code ps) ≡ map pack ps
+pub strip-codes : (ps : List Pair) → map strip (map code ps) ≡ map pack ps
 strip-codes [] = refl
 strip-codes (p ∷ ps) = ap₂ _∷_ (omega arith) (strip-codes ps)
 
-map-snoc : (xs : List ℕ) (x : ℕ) → map strip (xs ++ (x ∷ [])) ≡ map strip xs ++ (strip x ∷ [])
+pub map-snoc : (xs : List ℕ) (x : ℕ) → map strip (xs ++ (x ∷ [])) ≡ map strip xs ++ (strip x ∷ [])
 map-snoc [] x = refl
 map-snoc (y ∷ ys) x = ap (λ (zs : List ℕ). strip y ∷ zs) (map-snoc ys x)
 
@@ -190,14 +193,15 @@ module _ (b : List ℕ) (q : Query) (R : Readable b) (l₀ : List ℕ) (room : l
     pub write-length : length l ≡ length l₀
     write-length =
         ap length (W .places)
-        ∙ omega
-        (arith,
-        length-append (map strip (atMost seen (listCodes b q))) (drop done l₀),
-        length-map (atMost seen (listCodes b q)) strip,
-        W .listing .count,
-        length-drop done l₀,
-        length-parts seen (listCodes b q),
-        length-map (queried q (tuplesOf b)) code)
+        ∙ omega (
+          arith,
+          length-append (map strip (atMost seen (listCodes b q))) (drop done l₀),
+          length-map (atMost seen (listCodes b q)) strip,
+          W .listing .count,
+          length-drop done l₀,
+          length-parts seen (listCodes b q),
+          length-map (queried q (tuplesOf b)) code,
+        )
 
     pub write-index : e ≢ 0 → done < length l
     write-index d = omega (arith, done-less b q R done seen e (W .listing) d, write-length)
@@ -216,7 +220,7 @@ module _ (b : List ℕ) (q : Query) (R : Readable b) (l₀ : List ℕ) (room : l
               ∙ set-at D (getD l₀ done 0) (drop (suc done) l₀) (e - 1) done at
               ∙ sym (append-assoc D ((e - 1) ∷ []) (drop (suc done) l₀))
               ∙ ap₂ _++_ (sym (ap (map strip) (done-grows b q R done seen e (W .listing) d) ∙ map-snoc (atMost seen (listCodes b q)) e))
-              (ap (λ (n : ℕ). drop n l₀) (sym (em ∙ add-one done)))
+              (ap (λ (n : ℕ). drop n l₀) (sym (em ∙ add-one done)));
         }
 
     pub write-end : e ≡ 0 → l ≡ written (queried q (tuplesOf b)) l₀

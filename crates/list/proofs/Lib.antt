@@ -5,3 +5,4 @@ pub mod Leasts
 pub mod Walked
 pub mod Counted
 pub mod Orders
+pub mod Ascents

@@ -119,12 +119,12 @@ entry-code q (t ∷ ts) p m =
     let second : Bool = sameNumber (code p) (headCode (secondAt q k)) in
     ⊎-elim
     (λ here.
-      ⊎-elim
-      (λ f. or-left first (second || rest) (subst (λ (x : ℕ). sameNumber (code p) x ≡ true) (sym (code-of-single (firstAt q k) (single-first q k) p f)) (own-number (code p))))
-      (λ f.
-        or-right first (second || rest)
-        (or-left second rest (subst (λ (x : ℕ). sameNumber (code p) x ≡ true) (sym (code-of-single (secondAt q k) (single-second q k) p f)) (own-number (code p)))))
-      (or-cases (member p (firstAt q k)) (member p (secondAt q k)) (sym (member-append p (firstAt q k) (secondAt q k)) ∙ here)))
+    ⊎-elim
+    (λ f. or-left first (second || rest) (subst (λ (x : ℕ). sameNumber (code p) x ≡ true) (sym (code-of-single (firstAt q k) (single-first q k) p f)) (own-number (code p))))
+    (λ f.
+    or-right first (second || rest)
+    (or-left second rest (subst (λ (x : ℕ). sameNumber (code p) x ≡ true) (sym (code-of-single (secondAt q k) (single-second q k) p f)) (own-number (code p)))))
+    (or-cases (member p (firstAt q k)) (member p (secondAt q k)) (sym (member-append p (firstAt q k) (secondAt q k)) ∙ here)))
     (λ later. or-right first (second || rest) (or-right second rest (entry-code q ts p later)))
     (or-cases (member p (entriesAt q k)) (member p (gather (entriesAt q) ts)) (sym (member-append p (entriesAt q k) (gather (entriesAt q) ts)) ∙ m))
 
@@ -138,22 +138,23 @@ code-entry q (t ∷ ts) e d m =
     let first : Bool = sameNumber e (headCode (firstAt q k)) in
     let second : Bool = sameNumber e (headCode (secondAt q k)) in
     let here : (p : Pair) → Member p (entriesAt q k) → Member p (entriesAt q k ++ gather (entriesAt q) ts)
-          = λ p f. member-append p (entriesAt q k) (gather (entriesAt q) ts) ∙ or-left (member p (entriesAt q k)) (member p (gather (entriesAt q) ts)) f in
+    = λ p f. member-append p (entriesAt q k) (gather (entriesAt q) ts) ∙ or-left (member p (entriesAt q k)) (member p (gather (entriesAt q) ts)) f in
     ⊎-elim
     (λ f.
-      let s = single-of-code (firstAt q k) (single-first q k) e (same-number e _ f) d in
-      (s .0, here (s .0) (member-append (s .0) (firstAt q k) (secondAt q k) ∙ or-left (member (s .0) (firstAt q k)) (member (s .0) (secondAt q k)) (s .1)), s .2))
+    let s = single-of-code (firstAt q k) (single-first q k) e (same-number e _ f) d in
+    (s .0, here (s .0) (member-append (s .0) (firstAt q k) (secondAt q k) ∙ or-left (member (s .0) (firstAt q k)) (member (s .0) (secondAt q k)) (s .1)), s .2))
     (λ f.
-      ⊎-elim
-      (λ g.
-        let s = single-of-code (secondAt q k) (single-second q k) e (same-number e _ g) d in
-        (s .0, here (s .0) (member-append (s .0) (firstAt q k) (secondAt q k) ∙ or-right (member (s .0) (firstAt q k)) (member (s .0) (secondAt q k)) (s .1)), s .2))
-      (λ g.
-        let r = code-entry q ts e d g in
-        (r .0,
-        member-append (r .0) (entriesAt q k) (gather (entriesAt q) ts) ∙ or-right (member (r .0) (entriesAt q k)) (member (r .0) (gather (entriesAt q) ts)) (r .1),
-        r .2))
-      (or-cases second rest f))
+    ⊎-elim
+    (λ g.
+    let s = single-of-code (secondAt q k) (single-second q k) e (same-number e _ g) d in
+    (s .0, here (s .0) (member-append (s .0) (firstAt q k) (secondAt q k) ∙ or-right (member (s .0) (firstAt q k)) (member (s .0) (secondAt q k)) (s .1)), s .2))
+    (λ g.
+    let r = code-entry q ts e d g in (
+      r .0,
+      member-append (r .0) (entriesAt q k) (gather (entriesAt q) ts) ∙ or-right (member (r .0) (entriesAt q k)) (member (r .0) (gather (entriesAt q) ts)) (r .1),
+      r .2,
+    ))
+    (or-cases second rest f))
     (or-cases first (second || rest) m)
 
 -- ---- the codes of a list of pairs
@@ -179,10 +180,11 @@ decoded (r ∷ ps) e m =
 pub list-code : (q : Query) (ts : Tuples) (e : ℕ) → among e (map code (queried q ts)) ≡ true → (e ≢ 0) × (among e (codes q ts) ≡ true)
 unfolding queried
 list-code q ts e m =
-    let s = decoded (ascending (gather (entriesAt q) ts)) e m in
-    (λ z. omega (arith, s .2 , z),
-    subst (λ (x : ℕ). among x (codes q ts) ≡ true) (sym (s .2))
-    (entry-code q ts (s .0) (sym (member-ascending (s .0) (gather (entriesAt q) ts)) ∙ s .1)))
+    let s = decoded (ascending (gather (entriesAt q) ts)) e m in (
+      λ z. omega (arith, s .2, z),
+      subst (λ (x : ℕ). among x (codes q ts) ≡ true) (sym (s .2))
+          (entry-code q ts (s .0) (sym (member-ascending (s .0) (gather (entriesAt q) ts)) ∙ s .1)),
+    )
 
 pub code-list : (q : Query) (ts : Tuples) (e : ℕ) → e ≢ 0 → among e (codes q ts) ≡ true → among e (map code (queried q ts)) ≡ true
 unfolding queried

@@ -91,7 +91,7 @@ given q k end p r e d = go (eqb (k .s) (q .s)) refl (isEdge k && eqb end (q .n))
           space = eqb-true (k .s) (q .s) es;
           node = eqb-true end (q .n) (and-right (isEdge k) (eqb end (q .n)) en);
           pass = et;
-          value = h ∙ ap (λ (t : Bool). headCode (cond t (partOf (q .part) p ∷ []) [])) et
+          value = h ∙ ap (λ (t : Bool). headCode (cond t (partOf (q .part) p ∷ []) [])) et;
         }
     go true es true en false et h = absurd (d (h ∙ ap (λ (t : Bool). headCode (cond t (partOf (q .part) p ∷ []) [])) et))
     go true es false en t et h = absurd (d h)
@@ -153,11 +153,12 @@ module _ (q : PairQuery) (k j : Key) (Sk : Small k) (Sj : Small j) (lt : compare
     in-node : q .part ≡ Node → a ≤ c
     unfolding pack
     in-node e =
-        omega
-        (arith,
-        part-node q (pair (k .g) (k .n)) a e (A .value),
-        part-node q (pair (j .g) (j .n)) c e (B .value),
-        nodes-order k j lt (A .space ∙ sym (B .space)))
+        omega (
+          arith,
+          part-node q (pair (k .g) (k .n)) a e (A .value),
+          part-node q (pair (j .g) (j .n)) c e (B .value),
+          nodes-order k j lt (A .space ∙ sym (B .space)),
+        )
 
   pairs-order : pairsInOrder (q .d) (q .part) (q .g) (q .m) ≡ true
       → a ≡ headCode (firstAt (Pairs q) k) → c ≡ headCode (firstAt (Pairs q) j) → a ≢ 0 → c ≢ 0 → a ≤ c
@@ -194,7 +195,7 @@ orderly (Nodes s) o k j Sk Sj lt na nc =
     let x = one-code (isNode k && eqb (k .s) s) (pair 0 (k .n)) _ refl na in
     let y = one-code (isNode j && eqb (j .s) s) (pair 0 (j .n)) _ refl nc in
     let same : k .s ≡ j .s
-          = eqb-true (k .s) s (and-right (isNode k) (eqb (k .s) s) (x .0)) ∙ sym (eqb-true (j .s) s (and-right (isNode j) (eqb (j .s) s) (y .0))) in
+    = eqb-true (k .s) s (and-right (isNode k) (eqb (k .s) s) (x .0)) ∙ sym (eqb-true (j .s) s (and-right (isNode j) (eqb (j .s) s) (y .0))) in
     omega (arith, x .1, y .1, nodes-order k j lt same)
 orderly Spaces o k j Sk Sj lt na nc =
     let x = one-code (eqb (k .n) 0) (pair 0 (k .s)) _ refl na in
@@ -237,20 +238,26 @@ module _ (q : Query) (o : inOrder q ≡ true) where
     where
       e : ℕ
       e = headCode (firstAt q (t .key))
+
       here : Small (t .key)
       here = small (t .key) (or-left (sameKey (t .key) (t .key)) _ (own-key (t .key)))
+
       rest : (k : Key) → Has k ts → Small k
       rest k m = small k (or-right (sameKey k (t .key)) _ m)
+
       second : (m : ℕ) → InOrder m (codes q ts) → InOrder m (headCode (secondAt q (t .key)) ∷ codes q ts)
       second m r = inl (no-second q o (t .key), r)
+
       go : (z : Bool) → eqb e 0 ≡ z → InOrder seen (codes q ts) → (e ≢ 0 → InOrder e (codes q ts))
           → InOrder seen (e ∷ headCode (secondAt q (t .key)) ∷ codes q ts)
       go true f stay on = inl (eqb-true e 0 f, second seen stay)
       go false f stay on =
           let d : e ≢ 0 = eqb-false e 0 f in
-          inr (⊎-elim (λ z. omega (arith, z))
-          (λ w. subst (λ (x : ℕ). x ≤ e) (sym (w .1)) (orderly q o k₀ (t .key) S₀ here (h .0) (λ z. w .0 (w .1 ∙ z)) d)) from,
-          second e (on d))
+          inr (
+            ⊎-elim (λ z. omega (arith, z))
+                (λ w. subst (λ (x : ℕ). x ≤ e) (sym (w .1)) (orderly q o k₀ (t .key) S₀ here (h .0) (λ z. w .0 (w .1 ∙ z)) d)) from,
+            second e (on d),
+          )
 
   pub in-order : (ts : Tuples) → ((k : Key) → Has k ts → Small k) → Ascending keyOf compareKeys ts → InOrder 0 (codes q ts)
   unfolding codes holds
@@ -259,12 +266,16 @@ module _ (q : Query) (o : inOrder q ≡ true) where
     where
       e : ℕ
       e = headCode (firstAt q (t .key))
+
       here : Small (t .key)
       here = small (t .key) (or-left (sameKey (t .key) (t .key)) _ (own-key (t .key)))
+
       rest : (k : Key) → Has k ts → Small k
       rest k m = small k (or-right (sameKey k (t .key)) _ m)
+
       second : (m : ℕ) → InOrder m (codes q ts) → InOrder m (headCode (secondAt q (t .key)) ∷ codes q ts)
       second m r = inl (no-second q o (t .key), r)
+
       go : (z : Bool) → eqb e 0 ≡ z → InOrder 0 (codes q ts) → (e ≢ 0 → InOrder e (codes q ts))
           → InOrder 0 (e ∷ headCode (secondAt q (t .key)) ∷ codes q ts)
       go true f stay on = inl (eqb-true e 0 f, second 0 stay)

@@ -3,6 +3,7 @@
 use model::Direction;
 use model::Key;
 ghost use mathlib.Core.List.{[], _∷_};
+ghost use mathlib.Core.Bool.{true};
 ghost use mathlib.Core.Path.{_≡_};
 ghost use Rattle.model.specs.Keys.{isNode};
 ghost use Rattle.model.specs.Pairs.{pair, outPair, inPair};
@@ -10,7 +11,7 @@ ghost use lib.ListN.{length};
 ghost use Prim.Native.Nat.{_≤_};
 ghost use Rattle.model.specs.Buffer.{tuplesOf};
 ghost use Rattle.chain.specs.Links.{Linked};
-ghost use Rattle.list.specs.Queries.{chosen, firstAt, secondAt, queried, code, headCode, codes, nearer, leastFrom, Readable, written};
+ghost use Rattle.list.specs.Queries.{chosen, firstAt, secondAt, queried, code, headCode, codes, nearer, leastFrom, Readable, pairsInOrder, inOrder, written};
 
 // What is listed of a pair.
 pub enum Part {
@@ -256,4 +257,100 @@ fn write_by_least(b: &[u32], q: Query, list: &mut [u32])
         seen = e;
         e = least_above(b, q, seen);
     }
+}
+
+// The number of entries that come in order, in one walk.
+fn count_in_order(b: &[u32], q: Query) -> usize
+    requires { ⌜ Readable (now b) × (inOrder q ≡ true) ⌝ }
+    ensures { λ r. ⌜ r ≡ length (queried q (tuplesOf (now (b .entry)))) ⌝ }
+{
+    let mut count = 0;
+    let mut seen: u64 = 0;
+    let mut at = records::head_word(b, 1);
+    while at != 0 {
+        let e = first_code(q, records::key_of(b, at));
+        at = records::next_of(b, at);
+        if e <= seen {
+            continue;
+        }
+        count += 1;
+        seen = e;
+    }
+    count
+}
+
+// The entries that come in order, written to the first places in one walk.
+fn write_in_order(b: &[u32], q: Query, list: &mut [u32])
+    requires { ⌜ Readable (now b) × (inOrder q ≡ true) × (length (queried q (tuplesOf (now b))) ≤ length (now list)) ⌝ }
+    ensures { λ _. ⌜ now (list .exit) ≡ written (queried q (tuplesOf (now (b .entry)))) (now (list .entry)) ⌝ }
+{
+    let mut done = 0;
+    let mut seen: u64 = 0;
+    let mut at = records::head_word(b, 1);
+    while at != 0 {
+        let e = first_code(q, records::key_of(b, at));
+        at = records::next_of(b, at);
+        if e <= seen {
+            continue;
+        }
+        list[done] = (e - 1) as u32;
+        done += 1;
+        seen = e;
+    }
+}
+
+// Do the pairs come in the order of the list as the chain is walked.
+fn pairs_in_order(q: PairQuery) -> bool
+    ensures { λ r. ⌜ r ≡ pairsInOrder (q .d) (q .part) (q .g) (q .m) ⌝ }
+{
+    let d = q.d;
+    let part = q.part;
+    match d {
+        Direction::Outpointing => match part {
+            Part::Both => true,
+            Part::Edge => true,
+            Part::Node => q.g != 0,
+        },
+        Direction::Inpointing => match part {
+            Part::Both => false,
+            Part::Edge => q.m != 0,
+            Part::Node => true,
+        },
+        Direction::Adjacent => false,
+    }
+}
+
+// Do the entries come in the order of the list as the chain is walked.
+fn in_order(q: Query) -> bool
+    ensures { λ r. ⌜ r ≡ inOrder q ⌝ }
+{
+    match q {
+        Query::Pairs(p) => pairs_in_order(p),
+        Query::Nodes(_) => true,
+        Query::Spaces => true,
+        Query::SpacesOf(_) => true,
+    }
+}
+
+// The number of entries.
+pub fn count_entries(b: &[u32], q: Query) -> usize
+    requires { ⌜ Readable (now b) ⌝ }
+    ensures { λ r. ⌜ r ≡ length (queried q (tuplesOf (now (b .entry)))) ⌝ }
+{
+    if in_order(q) {
+        return count_in_order(b, q);
+    }
+    count_by_least(b, q)
+}
+
+// The entries written to the first places of a list that has room for them; the rest stays.
+pub fn write_entries(b: &[u32], q: Query, list: &mut [u32])
+    requires { ⌜ Readable (now b) × (length (queried q (tuplesOf (now b))) ≤ length (now list)) ⌝ }
+    ensures { λ _. ⌜ now (list .exit) ≡ written (queried q (tuplesOf (now (b .entry)))) (now (list .entry)) ⌝ }
+{
+    if in_order(q) {
+        write_in_order(b, q, list);
+        return;
+    }
+    write_by_least(b, q, list);
 }

@@ -188,8 +188,10 @@ module _ {A K : Type 0} (key : A → K) (order : K → K → Ordering) (L : IsOr
     where
       has-x : holds key order (key x) (y ∷ ys) ≡ true
       has-x = sym (same (key x)) ∙ or-left _ (holds key order (key x) xs) (self (key x))
+
       has-y : holds key order (key y) (x ∷ xs) ≡ true
       has-y = same (key y) ∙ or-left _ (holds key order (key y) ys) (self (key y))
+
       tails : key x ≡ key y → (k : K) → holds key order k xs ≡ holds key order k ys
       tails e k = part (isEq (order k (key x))) refl
         where
@@ -201,6 +203,7 @@ module _ {A K : Type 0} (key : A → K) (order : K → K → Ordering) (L : IsOr
               ap (λ (t : Bool). t || holds key order k xs) (sym f)
               ∙ same k
               ∙ ap (λ (t : Bool). t || holds key order k ys) (ap (λ (j : K). isEq (order k j)) (sym e) ∙ f)
+
       go : (o : Ordering) → order (key x) (key y) ≡ o → (((k : K) → holds key order k xs ≡ holds key order k ys) → xs ≡ ys) → x ∷ xs ≡ y ∷ ys
       go Ordering·lt e ih = absurd (not-above x y xs ys i has-x e)
       go Ordering·eq e ih = let k : key x ≡ key y = L .same (key x) (key y) e in ap₂ _∷_ (inj x y k) (ih (tails k))

@@ -1,0 +1,34 @@
+use mathlib.Core.Path.{_∙_, sym}
+use borrow.Author.Needs.{needs}
+use Rattle.list.proofs.count_entries.Statement.{statement}
+use Rattle.list.proofs.count_entries.Tie as tie
+use Rattle.list.proofs.count_entries.Reads as reads
+use Rattle.list.proofs.count_entries.Lts as lts
+use Rattle.list.proofs.count_by_least.Reads as count-by-least-reads
+use Rattle.list.proofs.count_in_order.Reads as count-in-order-reads
+use Rattle.list.proofs.in_order.Reads as in-order-reads
+
+-- src/lib.rt:340:8
+in-order-requires : tie.Need-in-order-requires
+in-order-requires c κs = search needs
+
+-- src/lib.rt:341:9
+count-in-order-requires : tie.Need-count-in-order-requires
+count-in-order-requires c κs = (c .before .before .before .pre, sym (c .before .in-order .ensures) ∙ c .if1 .taken)
+
+-- src/lib.rt:341:9
+returns : tie.Need-returns
+returns c = search needs
+
+-- src/lib.rt:343:5
+count-by-least-requires : tie.Need-count-by-least-requires
+count-by-least-requires c κs = search needs
+
+-- src/lib.rt:336:1
+returns-2 : tie.Need-returns-2
+returns-2 c = search needs
+
+pub count-entries-spec : {M : Type 1} → statement M
+count-entries-spec =
+    tie.close
+    (tie.spec in-order-requires count-in-order-requires returns count-by-least-requires returns-2)
