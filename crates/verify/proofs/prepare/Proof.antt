@@ -1,0 +1,61 @@
+use Rattle.verify.proofs.Preparing.{capacity-high, capacity-room, prepares, after-prepared, refused, after-refused, too-short, too-long}
+use native.Mathlib.Omega.{arith}
+use borrow.Author.Needs.{needs}
+use Rattle.verify.proofs.prepare.Statement.{statement}
+use Rattle.verify.proofs.prepare.Tie as tie
+use Rattle.verify.proofs.prepare.Reads as reads
+use Rattle.verify.proofs.prepare.Lts as lts
+use Rattle.verify.proofs.capacity.Reads as capacity-reads
+use Rattle.verify.proofs.chain_free.Reads as chain-free-reads
+use Rattle.verify.proofs.put_heads.Reads as put-heads-reads
+use Rattle.verify.proofs.put_universe.Reads as put-universe-reads
+
+-- src/lib.rt:69:9
+returns : tie.Need-returns
+returns c = (refused _ (too-short _ (c .if1 .taken)), after-refused _ (too-short _ (c .if1 .taken)))
+
+-- src/lib.rt:72:9
+returns-2 : tie.Need-returns-2
+returns-2 c = (refused _ (too-long _ (c .if2 .taken)), after-refused _ (too-long _ (c .if2 .taken)))
+
+-- src/lib.rt:74:9
+capacity-requires : tie.Need-capacity-requires
+capacity-requires c κs = search needs
+
+-- src/lib.rt:75:5
+put-heads-requires : tie.Need-put-heads-requires
+put-heads-requires c κs = (omega arith, omega (arith, capacity-high (c .before .before .before .before .before .before .args .buffer .now) (c .before .before .before .before .if1 .left) (c .before .before .before .if2 .left)))
+
+-- src/lib.rt:76:5
+put-universe-requires : tie.Need-put-universe-requires
+put-universe-requires c κs = search needs
+
+-- src/lib.rt:77:5
+chain-free-requires : tie.Need-chain-free-requires
+chain-free-requires c κs = (omega (arith, capacity-room (c .before .before .before .before .before .before .before .before .before .before .before .before .before .before .args .buffer .now) (c .before .before .before .before .before .before .before .before .before .before .before .before .if1 .left) (c .before .before .before .before .before .before .before .before .before .before .before .if2 .left)), omega (arith, capacity-high (c .before .before .before .before .before .before .before .before .before .before .before .before .before .before .args .buffer .now) (c .before .before .before .before .before .before .before .before .before .before .before .before .if1 .left) (c .before .before .before .before .before .before .before .before .before .before .before .if2 .left)))
+
+-- src/lib.rt:78:27
+cast-t14 : tie.Need-cast-t14
+cast-t14 c = omega (arith, capacity-high (c .before .before .before .before .before .before .before .before .before .before .before .before .before .before .before .before .before .args .buffer .now) (c .before .before .before .before .before .before .before .before .before .before .before .before .before .before .before .if1 .left) (c .before .before .before .before .before .before .before .before .before .before .before .before .before .before .if2 .left))
+
+-- src/lib.rt:64:1
+same-length : tie.Need-same-length
+same-length c = search needs
+
+-- src/lib.rt:64:1
+returns-3 : tie.Need-returns-3
+returns-3 c = (prepares (c .before .before .before .before .before .before .before .before .before .before .before .before .before .before .before .before .before .args .buffer .now) (c .before .before .before .before .before .before .before .before .before .before .before .before .before .before .before .if1 .left) (c .before .before .before .before .before .before .before .before .before .before .before .before .before .before .if2 .left) (c .before .before .before .before .before .before .before .before .before .before .put-heads .last .0) (c .before .before .before .before .before .before .put-universe .last .0) (c .before .before .chain-free .last .0) (c .before .before .before .before .before .before .before .before .before .before .before .before .capacity .result) (c .before .before .before .before .before .before .before .before .before .before .before .before .capacity .ensures) (c .before .before .before .before .before .before .before .before .before .before .put-heads .ensures) (c .before .before .before .before .before .before .put-universe .ensures) (c .before .before .chain-free .ensures), after-prepared (c .before .before .before .before .before .before .before .before .before .before .before .before .before .before .before .before .before .args .buffer .now) (c .before .before .before .before .before .before .before .before .before .before .before .before .before .before .before .if1 .left) (c .before .before .before .before .before .before .before .before .before .before .before .before .before .before .if2 .left) (c .before .before .before .before .before .before .before .before .before .before .put-heads .last .0) (c .before .before .before .before .before .before .put-universe .last .0) (c .before .before .chain-free .last .0) (c .before .before .before .before .before .before .before .before .before .before .before .before .capacity .result) (c .before .before .before .before .before .before .before .before .before .before .before .before .capacity .ensures) (c .before .before .before .before .before .before .before .before .before .before .put-heads .ensures) (c .before .before .before .before .before .before .put-universe .ensures) (c .before .before .chain-free .ensures))
+
+pub prepare-spec : {M : Type 1} → statement M
+prepare-spec =
+    tie.close
+    (tie.spec
+    returns
+    returns-2
+    capacity-requires
+    put-heads-requires
+    put-universe-requires
+    chain-free-requires
+    cast-t14
+    same-length
+    returns-3)

@@ -1,0 +1,89 @@
+// Preparing a buffer, and the exact check of a store.
+use model::Key;
+use model::Preparation;
+ghost use mathlib.Core.Path.{_≡_};
+ghost use Prim.Native.Nat.{_+_, _-_, _*_, _≤_, _<_};
+ghost use lib.ListN.{length, set};
+ghost use Rattle.model.specs.Buffer.{capacityOf, follower, Preparing};
+ghost use Rattle.verify.specs.Prepare.{headed, universeIn, chained, afterPreparing};
+
+// C: how many records the buffer has room for.
+fn capacity(b: &[u32]) -> usize
+    requires { ⌜ 4 ≤ length (now b) ⌝ }
+    ensures { λ r. ⌜ r ≡ capacityOf (now (b .entry)) ⌝ }
+{
+    (b.len() - 4) / 6
+}
+
+// The free record after record i in ascending order; 0 after the last.
+fn follower_of(c: usize, i: usize) -> usize
+    requires { ⌜ i ≤ 4096 ⌝ }
+    ensures { λ r. ⌜ r ≡ follower c i ⌝ }
+{
+    if i < c {
+        return i + 1;
+    }
+    0
+}
+
+// Words 0 to 3 of a store that holds UNIVERSE alone.
+fn put_heads(b: &mut [u32], c: usize)
+    requires { ⌜ (4 ≤ length (now b)) × (c ≤ 2048) ⌝ }
+    ensures { λ _. ⌜ now (b .exit) ≡ headed c (now (b .entry)) ⌝ }
+{
+    let free = follower_of(c, 1);
+    records::put_head_word(b, 0, c);
+    records::put_head_word(b, 1, 1);
+    records::put_head_word(b, 2, free);
+    records::put_head_word(b, 3, 1);
+}
+
+// UNIVERSE with NIL in record 1, which ends its chain.
+fn put_universe(b: &mut [u32])
+    requires { ⌜ 10 ≤ length (now b) ⌝ }
+    ensures { λ _. ⌜ now (b .exit) ≡ universeIn (now (b .entry)) ⌝ }
+{
+    records::put_next(b, 1, 0);
+    records::put_tuple(
+        b,
+        1,
+        Key {
+            s: 0,
+            n: 0,
+            g: 0,
+            m: 0,
+        },
+        0,
+    );
+}
+
+// Records 2 to C chained as free in ascending order.
+fn chain_free(b: &mut [u32], c: usize)
+    requires { ⌜ (4 + 6 * c ≤ length (now b)) × (c ≤ 2048) ⌝ }
+    ensures { λ _. ⌜ now (b .exit) ≡ chained c (now (b .entry)) (c - 1) ⌝ }
+{
+    let mut n = 0;
+    while n + 1 < c {
+        let j = follower_of(c, n + 2);
+        records::put_next(b, n + 2, j);
+        n += 1;
+    }
+}
+
+// Prepares the buffer as a store that holds UNIVERSE alone, and gives C; a length outside 10 to 12,297 words is refused (1).
+pub fn prepare(buffer: &mut [u32]) -> Preparation
+    ensures rules { λ r. ⌜ Preparing (now (buffer .entry)) r (now (buffer .exit)) ⌝ }
+    ensures words { λ _. ⌜ now (buffer .exit) ≡ afterPreparing (now (buffer .entry)) ⌝ }
+{
+    if buffer.len() < 10 {
+        return Preparation::Refused(1);
+    }
+    if buffer.len() > 12297 {
+        return Preparation::Refused(1);
+    }
+    let c = capacity(buffer);
+    put_heads(buffer, c);
+    put_universe(buffer);
+    chain_free(buffer, c);
+    Preparation::Capacity(c as u32)
+}
