@@ -1,1 +1,3 @@
 pub mod Preparing
+pub mod Once
+pub mod Walks

@@ -1,11 +1,13 @@
 // Preparing a buffer, and the exact check of a store.
 use model::Key;
 use model::Preparation;
+ghost use mathlib.Core.Bool.{true};
 ghost use mathlib.Core.Path.{_≡_};
 ghost use Prim.Native.Nat.{_+_, _-_, _*_, _≤_, _<_};
 ghost use lib.ListN.{length, set};
 ghost use Rattle.model.specs.Buffer.{capacityOf, follower, Preparing};
 ghost use Rattle.verify.specs.Prepare.{headed, universeIn, chained, afterPreparing};
+ghost use Rattle.verify.specs.Checks.{headsFit, nextsWithin, Walkable, walkedFrom, chainsRight};
 
 // C: how many records the buffer has room for.
 fn capacity(b: &[u32]) -> usize
@@ -86,4 +88,101 @@ pub fn prepare(buffer: &mut [u32]) -> Preparation
     put_universe(buffer);
     chain_free(buffer, c);
     Preparation::Capacity(c as u32)
+}
+
+// What a walk of at most C records from a head finds.
+struct Walked {
+    // Does the chain end.
+    ended: bool,
+    // How many records it meets.
+    count: usize,
+    // The last record met; 0 where there is none.
+    last: usize,
+}
+
+// Does the length fit, and do words 0 to 2.
+fn heads_fit(b: &[u32]) -> bool
+    ensures { λ r. ⌜ r ≡ headsFit (now (b .entry)) ⌝ }
+{
+    if b.len() < 10 {
+        return false;
+    }
+    if b.len() > 12297 {
+        return false;
+    }
+    let c = capacity(b);
+    if records::head_word(b, 0) != c {
+        return false;
+    }
+    if records::head_word(b, 1) > c {
+        return false;
+    }
+    records::head_word(b, 2) <= c
+}
+
+// Is every next at most C.
+fn nexts_within(b: &[u32]) -> bool
+    requires { ⌜ headsFit (now b) ≡ true ⌝ }
+    ensures { λ r. ⌜ r ≡ nextsWithin (now (b .entry)) ⌝ }
+{
+    let c = capacity(b);
+    let mut i = c;
+    while i > 0 {
+        if records::next_of(b, i) > c {
+            return false;
+        }
+        i -= 1;
+    }
+    true
+}
+
+// Walks from a head until the chain ends, over at most C records.
+fn walk_from(b: &[u32], head: usize) -> Walked
+    requires { ⌜ Walkable (now b) × (head ≤ capacityOf (now b)) ⌝ }
+    ensures { λ r. ⌜ r ≡ walkedFrom (now (b .entry)) head ⌝ }
+{
+    let c = capacity(b);
+    let mut left = c;
+    let mut at = head;
+    let mut last = 0;
+    while at != 0 {
+        if left == 0 {
+            return Walked {
+                ended: false,
+                count: c - left,
+                last,
+            };
+        }
+        last = at;
+        at = records::next_of(b, at);
+        left -= 1;
+    }
+    Walked {
+        ended: true,
+        count: c - left,
+        last,
+    }
+}
+
+// Do both chains end and together meet each record exactly once, and is word 3 right.
+// Without marks: they meet C records together, and do not end at the same one.
+fn chains_right(b: &[u32]) -> bool
+    requires { ⌜ Walkable (now b) ⌝ }
+    ensures { λ r. ⌜ r ≡ chainsRight (now (b .entry)) ⌝ }
+{
+    let used = walk_from(b, records::head_word(b, 1));
+    if !used.ended {
+        return false;
+    }
+    let free = walk_from(b, records::head_word(b, 2));
+    if !free.ended {
+        return false;
+    }
+    if used.count + free.count != capacity(b) {
+        return false;
+    }
+    if used.last == free.last {
+        return false;
+    }
+    records::head_word(b, 3) == used.count
 }
