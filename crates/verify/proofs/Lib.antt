@@ -1,3 +1,5 @@
 pub mod Preparing
 pub mod Once
 pub mod Walks
+pub mod Rest
+pub mod KeyTests

@@ -1,11 +1,17 @@
 -- Document 01, "A store is a buffer of 10 to 12,297 words where: ..": the test `isStore` of the model in the parts that the check takes one after another.
 -- proofs/Parts.antt proves that the parts together are the test.
-use mathlib.Core.Bool.{Bool, _&&_}
-use mathlib.Core.List.{List, _++_}
+use mathlib.Core.Bool.{Bool, true, cond, not, _&&_, _||_}
+use mathlib.Core.List.{List, _++_, map}
+use mathlib.Core.Path.{_≡_}
 use Prim.Native.Nat.{ℕ, zero, suc, _≤_}
 use lib.Dec.{eqb, leb}
 use lib.ListN.{length}
-use Rattle.model.specs.Buffer.{word, leastLength, mostLength, fitsLength, capacityOf, sizeWord, next, walk, ends, usedChain, freeChain, usedOf, freeOf, count, everyRecord}
+use Rattle.model.specs.declared.Key.{Key}
+use Rattle.model.specs.Ordered.{isLess, Ascending}
+use Rattle.model.specs.Keys.{keyOf, nodeKey, edgeKey, isEdge, compareKeys, sameKey}
+use Rattle.model.specs.Tuples.{Tuples, present}
+use Rattle.model.specs.Buffer.{word, leastLength, mostLength, fitsLength, capacityOf, sizeWord, next, keyAt, tupleAt, walk, ends, orNothing, usedChain, freeChain, usedOf, freeOf, tuplesOf, count, everyRecord, ascendsFromUniverse, smallKey, noEdgeWithoutNode, edgeHasEnd, nodeSupported}
+use Rattle.model.specs.Rules.{Chain}
 use Rattle.verify.specs.declared.Walked.{Walked}
 
 -- ---- words and nexts
@@ -56,3 +62,68 @@ walkedFrom b i =
       count = steps (next b) (capacityOf b) i;
       last = lastMet (next b) (capacityOf b) i 0;
     }
+
+-- ---- the used chain, once it is known to end
+
+pub record UsedEnds (b : List ℕ) : Type 0 where
+  pub walkable : Walkable b
+  pub ended : ends (usedChain b) ≡ true
+
+-- the records and the tuples of a chain from a record on
+unfoldable pub recordsFrom : List ℕ → ℕ → List ℕ
+recordsFrom b i = orNothing (walk (next b) (capacityOf b) i)
+
+unfoldable pub tuplesFrom : List ℕ → ℕ → Tuples
+tuplesFrom b i = map (tupleAt b) (recordsFrom b i)
+
+-- a record from which the chain ends, or 0
+pub record OnChain (b : List ℕ) (i : ℕ) : Type 0 where
+  pub high : i ≤ capacityOf b
+  pub chain : Chain (next b) i (recordsFrom b i)
+  pub short : length (recordsFrom b i) ≤ capacityOf b
+
+-- ---- keys
+
+-- "key words are at most 65,535; n = 0 makes g and m 0; g is 0 exactly when m is"
+unfoldable pub shapedKey : Key → Bool
+shapedKey k = noEdgeWithoutNode k && edgeHasEnd k
+
+unfoldable pub goodKey : Key → Bool
+goodKey k = smallKey k && shapedKey k
+
+-- ---- a key in a chain whose keys ascend
+
+pub record Seekable (b : List ℕ) (i : ℕ) : Type 0 where
+  pub walkable : Walkable b
+  pub on : OnChain b i
+  pub ascends : Ascending keyOf compareKeys (tuplesFrom b i)
+
+-- does record i have the key; has it one below the key (record 0, the chain's end, has none)
+unfoldable pub isAt : List ℕ → ℕ → Key → Bool
+isAt b i k = not (eqb i 0) && sameKey (keyAt b i) k
+
+unfoldable pub isBefore : List ℕ → ℕ → Key → Bool
+isBefore b i k = not (eqb i 0) && isLess (compareKeys (keyAt b i) k)
+
+-- ---- "nothing named is missing"
+
+-- the used chain ends and its keys ascend from (0,0,0,0)
+pub record Sorted (b : List ℕ) : Type 0 where
+  pub used : UsedEnds b
+  pub ascends : ascendsFromUniverse (tuplesOf b) ≡ true
+
+-- "each edge tuple has .. its tuple in 0"
+unfoldable pub edgeInUniverse : Tuples → Key → Bool
+edgeInUniverse ts k = not (isEdge k) || present (edgeKey 0 (k .n) (k .g) (k .m)) ts
+
+-- all that a tuple names but the ends of an edge
+unfoldable pub namedPresent : Tuples → Key → Bool
+namedPresent ts k = nodeSupported ts k && edgeInUniverse ts k
+
+-- "each edge tuple has its two node tuples in s"
+unfoldable pub endsPresent : Tuples → Key → Bool
+endsPresent ts k = not (isEdge k) || (present (nodeKey (k .s) (k .n)) ts && present (nodeKey (k .s) (k .m)) ts)
+
+-- the first record of the space of record i, where `first` is that of the record before it
+unfoldable pub spaceStart : List ℕ → ℕ → ℕ → ℕ
+spaceStart b first i = cond (eqb (keyAt b first .s) (keyAt b i .s)) first i

@@ -5,9 +5,10 @@ ghost use mathlib.Core.Bool.{true};
 ghost use mathlib.Core.Path.{_≡_};
 ghost use Prim.Native.Nat.{_+_, _-_, _*_, _≤_, _<_};
 ghost use lib.ListN.{length, set};
-ghost use Rattle.model.specs.Buffer.{capacityOf, follower, Preparing};
+ghost use Rattle.model.specs.Tuples.{present};
+ghost use Rattle.model.specs.Buffer.{capacityOf, follower, Preparing, tuplesOf, ascendsFromUniverse, smallKey, everyKey};
 ghost use Rattle.verify.specs.Prepare.{headed, universeIn, chained, afterPreparing};
-ghost use Rattle.verify.specs.Checks.{headsFit, nextsWithin, Walkable, walkedFrom, chainsRight};
+ghost use Rattle.verify.specs.Checks.{headsFit, nextsWithin, Walkable, walkedFrom, chainsRight, UsedEnds, tuplesFrom, shapedKey, goodKey, Seekable, isAt, isBefore};
 
 // C: how many records the buffer has room for.
 fn capacity(b: &[u32]) -> usize
@@ -185,4 +186,125 @@ fn chains_right(b: &[u32]) -> bool
         return false;
     }
     records::head_word(b, 3) == used.count
+}
+
+// Do the keys of the used chain strictly ascend from (0,0,0,0).
+fn keys_ascend(b: &[u32]) -> bool
+    requires { ⌜ UsedEnds (now b) ⌝ }
+    ensures { λ r. ⌜ r ≡ ascendsFromUniverse (tuplesOf (now (b .entry))) ⌝ }
+{
+    let head = records::head_word(b, 1);
+    if head == 0 {
+        return false;
+    }
+    let mut key = records::key_of(b, head);
+    if !records::key_same(
+        key,
+        Key {
+            s: 0,
+            n: 0,
+            g: 0,
+            m: 0,
+        },
+    ) {
+        return false;
+    }
+    let mut at = records::next_of(b, head);
+    while at != 0 {
+        let k = records::key_of(b, at);
+        if !records::key_below(key, k) {
+            return false;
+        }
+        key = k;
+        at = records::next_of(b, at);
+    }
+    true
+}
+
+// Are the words of a key at most 65,535.
+fn key_small(k: Key) -> bool
+    ensures { λ r. ⌜ r ≡ smallKey k ⌝ }
+{
+    if k.s > 65535 {
+        return false;
+    }
+    if k.n > 65535 {
+        return false;
+    }
+    if k.g > 65535 {
+        return false;
+    }
+    k.m <= 65535
+}
+
+// Does n = 0 make g and m 0, and is g 0 exactly when m is.
+fn key_shaped(k: Key) -> bool
+    ensures { λ r. ⌜ r ≡ shapedKey k ⌝ }
+{
+    if k.g == 0 {
+        return k.m == 0;
+    }
+    if k.n == 0 {
+        return false;
+    }
+    k.m != 0
+}
+
+// Is a key one that a store may hold.
+fn key_good(k: Key) -> bool
+    ensures { λ r. ⌜ r ≡ goodKey k ⌝ }
+{
+    if !key_small(k) {
+        return false;
+    }
+    key_shaped(k)
+}
+
+// Are all used keys such keys.
+fn keys_good(b: &[u32]) -> bool
+    requires { ⌜ UsedEnds (now b) ⌝ }
+    ensures { λ r. ⌜ r ≡ everyKey goodKey (tuplesOf (now (b .entry))) ⌝ }
+{
+    let mut at = records::head_word(b, 1);
+    while at != 0 {
+        if !key_good(records::key_of(b, at)) {
+            return false;
+        }
+        at = records::next_of(b, at);
+    }
+    true
+}
+
+// Does record i have this key.
+fn is_at(b: &[u32], i: usize, k: Key) -> bool
+    requires { ⌜ Walkable (now b) × (i ≤ capacityOf (now b)) ⌝ }
+    ensures { λ r. ⌜ r ≡ isAt (now (b .entry)) i k ⌝ }
+{
+    if i == 0 {
+        return false;
+    }
+    records::key_same(records::key_of(b, i), k)
+}
+
+// Does record i have a key below this one.
+fn is_before(b: &[u32], i: usize, k: Key) -> bool
+    requires { ⌜ Walkable (now b) × (i ≤ capacityOf (now b)) ⌝ }
+    ensures { λ r. ⌜ r ≡ isBefore (now (b .entry)) i k ⌝ }
+{
+    if i == 0 {
+        return false;
+    }
+    records::key_below(records::key_of(b, i), k)
+}
+
+// Is a key in the chain from a record on: a walk to the first key that is not below it.
+fn holds_from(b: &[u32], from: usize, k: Key) -> bool
+    requires { ⌜ Seekable (now b) from ⌝ }
+    ensures { λ r. ⌜ r ≡ present k (tuplesFrom (now (b .entry)) from) ⌝ }
+{
+    let mut at = from;
+    while is_before(b, at, k) {
+        at = records::next_of(b, at);
+    }
+    is_at(b, at, k)
 }
