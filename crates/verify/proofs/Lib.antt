@@ -3,3 +3,5 @@ pub mod Once
 pub mod Walks
 pub mod Rest
 pub mod KeyTests
+pub mod Support
+pub mod Ends

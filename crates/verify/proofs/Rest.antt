@@ -215,7 +215,7 @@ module _ (b : List ℕ) (i : ℕ) (k : Key) where
   unfolding isBefore
   before-not-none t = eqb-false i 0 (not-yes (eqb i 0) (and-left (not (eqb i 0)) _ t))
 
-  before-less : isBefore b i k ≡ true → isLess (compareKeys (keyAt b i) k) ≡ true
+  pub before-less : isBefore b i k ≡ true → isLess (compareKeys (keyAt b i) k) ≡ true
   unfolding isBefore
   before-less t = and-right (not (eqb i 0)) _ t
 
@@ -231,7 +231,7 @@ less-lt Ordering·gt e = absurd (false≢true e)
 flip-key : (j k : Key) → compareKeys k j ≡ opposite (compareKeys j k)
 flip-key j k = keys .compares .flip j k
 
-present-cons : (k : Key) (b : List ℕ) (i : ℕ) (ts : Tuples) → present k (tupleAt b i ∷ ts) ≡ (sameKey k (keyAt b i) || present k ts)
+pub present-cons : (k : Key) (b : List ℕ) (i : ℕ) (ts : Tuples) → present k (tupleAt b i ∷ ts) ≡ (sameKey k (keyAt b i) || present k ts)
 unfolding holds tupleAt
 present-cons k b i ts = refl
 

@@ -4,11 +4,12 @@ use model::Preparation;
 ghost use mathlib.Core.Bool.{true};
 ghost use mathlib.Core.Path.{_≡_};
 ghost use Prim.Native.Nat.{_+_, _-_, _*_, _≤_, _<_};
-ghost use lib.ListN.{length, set};
+ghost use lib.ListN.{length};
 ghost use Rattle.model.specs.Tuples.{present};
-ghost use Rattle.model.specs.Buffer.{capacityOf, follower, Preparing, tuplesOf, ascendsFromUniverse, smallKey, everyKey};
+ghost use Rattle.model.specs.Buffer.{capacityOf, follower, Preparing, tuplesOf, ascendsFromUniverse, smallKey, nodeSupported, everyKey};
+ghost use Rattle.records.specs.Words.{Inside};
 ghost use Rattle.verify.specs.Prepare.{headed, universeIn, chained, afterPreparing};
-ghost use Rattle.verify.specs.Checks.{headsFit, nextsWithin, Walkable, walkedFrom, chainsRight, UsedEnds, tuplesFrom, shapedKey, goodKey, Seekable, isAt, isBefore};
+ghost use Rattle.verify.specs.Checks.{headsFit, nextsWithin, Walkable, walkedFrom, chainsRight, UsedEnds, tuplesFrom, shapedKey, goodKey, Seekable, isAt, isBefore, Sorted, edgeInUniverse, namedPresent, endsPresent, spaceStart};
 
 // C: how many records the buffer has room for.
 fn capacity(b: &[u32]) -> usize
@@ -307,4 +308,143 @@ fn holds_from(b: &[u32], from: usize, k: Key) -> bool
         at = records::next_of(b, at);
     }
     is_at(b, at, k)
+}
+
+// Has a node tuple its space and its tuple in 0; other keys need neither.
+fn node_supported(b: &[u32], k: Key) -> bool
+    requires { ⌜ Sorted (now b) ⌝ }
+    ensures { λ r. ⌜ r ≡ nodeSupported (tuplesOf (now (b .entry))) k ⌝ }
+{
+    if k.n == 0 {
+        return true;
+    }
+    if k.g != 0 {
+        return true;
+    }
+    let head = records::head_word(b, 1);
+    if !holds_from(
+        b,
+        head,
+        Key {
+            s: k.s,
+            n: 0,
+            g: 0,
+            m: 0,
+        },
+    ) {
+        return false;
+    }
+    holds_from(
+        b,
+        head,
+        Key {
+            s: 0,
+            n: k.n,
+            g: 0,
+            m: 0,
+        },
+    )
+}
+
+// Has an edge tuple its tuple in 0; other keys need none.
+fn edge_in_universe(b: &[u32], k: Key) -> bool
+    requires { ⌜ Sorted (now b) ⌝ }
+    ensures { λ r. ⌜ r ≡ edgeInUniverse (tuplesOf (now (b .entry))) k ⌝ }
+{
+    if k.g == 0 {
+        return true;
+    }
+    let head = records::head_word(b, 1);
+    holds_from(
+        b,
+        head,
+        Key {
+            s: 0,
+            n: k.n,
+            g: k.g,
+            m: k.m,
+        },
+    )
+}
+
+// Is all there that a tuple names but the ends of an edge.
+fn named_present(b: &[u32], k: Key) -> bool
+    requires { ⌜ Sorted (now b) ⌝ }
+    ensures { λ r. ⌜ r ≡ namedPresent (tuplesOf (now (b .entry))) k ⌝ }
+{
+    if !node_supported(b, k) {
+        return false;
+    }
+    edge_in_universe(b, k)
+}
+
+// Is it there for every tuple.
+fn all_named(b: &[u32]) -> bool
+    requires { ⌜ Sorted (now b) ⌝ }
+    ensures { λ r. ⌜ r ≡ everyKey (namedPresent (tuplesOf (now (b .entry)))) (tuplesOf (now (b .entry))) ⌝ }
+{
+    let mut at = records::head_word(b, 1);
+    while at != 0 {
+        if !named_present(b, records::key_of(b, at)) {
+            return false;
+        }
+        at = records::next_of(b, at);
+    }
+    true
+}
+
+// The first record of the space of record i, from that of the record before it.
+fn space_start(b: &[u32], first: usize, i: usize) -> usize
+    requires { ⌜ Inside (now b) first × Inside (now b) i ⌝ }
+    ensures { λ r. ⌜ r ≡ spaceStart (now (b .entry)) first i ⌝ }
+{
+    let k = records::key_of(b, first);
+    let j = records::key_of(b, i);
+    if k.s == j.s {
+        return first;
+    }
+    i
+}
+
+// Has every edge tuple its two node tuples: ends at the first edge tuple without both ends.
+// Keys ascend, so an end is sought from the first record of the edge's own space to the first key that is not below it.
+fn edges_ended(b: &[u32]) -> bool
+    requires { ⌜ Sorted (now b) ⌝ }
+    ensures { λ r. ⌜ r ≡ everyKey (endsPresent (tuplesOf (now (b .entry)))) (tuplesOf (now (b .entry))) ⌝ }
+{
+    let mut space = records::head_word(b, 1);
+    let mut at = records::next_of(b, space);
+    'tuples: while at != 0 {
+        let k = records::key_of(b, at);
+        space = space_start(b, space, at);
+        if k.g != 0 {
+            if !holds_from(
+                b,
+                space,
+                Key {
+                    s: k.s,
+                    n: k.n,
+                    g: 0,
+                    m: 0,
+                },
+            ) {
+                break 'tuples;
+            }
+            let end = Key {
+                s: k.s,
+                n: k.m,
+                g: 0,
+                m: 0,
+            };
+            let mut seek = space;
+            while !is_at(b, seek, end) {
+                if !is_before(b, seek, end) {
+                    break 'tuples;
+                }
+                seek = records::next_of(b, seek);
+            }
+        }
+        at = records::next_of(b, at);
+    }
+    at == 0
 }
