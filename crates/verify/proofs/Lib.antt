@@ -5,3 +5,4 @@ pub mod Rest
 pub mod KeyTests
 pub mod Support
 pub mod Ends
+pub mod Parts

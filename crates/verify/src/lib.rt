@@ -6,7 +6,7 @@ ghost use mathlib.Core.Path.{_≡_};
 ghost use Prim.Native.Nat.{_+_, _-_, _*_, _≤_, _<_};
 ghost use lib.ListN.{length};
 ghost use Rattle.model.specs.Tuples.{present};
-ghost use Rattle.model.specs.Buffer.{capacityOf, follower, Preparing, tuplesOf, ascendsFromUniverse, smallKey, nodeSupported, everyKey};
+ghost use Rattle.model.specs.Buffer.{capacityOf, follower, Preparing, tuplesOf, ascendsFromUniverse, smallKey, nodeSupported, everyKey, sound, isStore};
 ghost use Rattle.records.specs.Words.{Inside};
 ghost use Rattle.verify.specs.Prepare.{headed, universeIn, chained, afterPreparing};
 ghost use Rattle.verify.specs.Checks.{headsFit, nextsWithin, Walkable, walkedFrom, chainsRight, UsedEnds, tuplesFrom, shapedKey, goodKey, Seekable, isAt, isBefore, Sorted, edgeInUniverse, namedPresent, endsPresent, spaceStart};
@@ -447,4 +447,37 @@ fn edges_ended(b: &[u32]) -> bool
         at = records::next_of(b, at);
     }
     at == 0
+}
+
+// Do the tuples of the used chain keep the rules.
+fn tuples_sound(b: &[u32]) -> bool
+    requires { ⌜ UsedEnds (now b) ⌝ }
+    ensures { λ r. ⌜ r ≡ sound (tuplesOf (now (b .entry))) ⌝ }
+{
+    if !keys_ascend(b) {
+        return false;
+    }
+    if !keys_good(b) {
+        return false;
+    }
+    if !all_named(b) {
+        return false;
+    }
+    edges_ended(b)
+}
+
+// Is the buffer, of any length and with any words, a store.
+pub fn is_store(buffer: &[u32]) -> bool
+    ensures { λ r. ⌜ r ≡ isStore (now (buffer .entry)) ⌝ }
+{
+    if !heads_fit(buffer) {
+        return false;
+    }
+    if !nexts_within(buffer) {
+        return false;
+    }
+    if !chains_right(buffer) {
+        return false;
+    }
+    tuples_sound(buffer)
 }
