@@ -202,52 +202,55 @@ spanning-start b h n S e f =
 
 -- ---- one tuple
 
-module _
-    (b : List ℕ) (w : Walkable b) (space at : ℕ) (S : Spanning b space at) (at≢ : at ≢ 0) (sp : ℕ) (f : sp ≡ spaceStart b space at) (k : Key)
-    (e : k ≡ keyAt b at) where
+-- a tuple of the walk, with the first record of its space and its key
+pub record AtTuple (b : List ℕ) (space at sp : ℕ) (k : Key) : Type 0 where
+  pub walkable : Walkable b
+  pub spanning : Spanning b space at
+  pub some : at ≢ 0
+  pub start : sp ≡ spaceStart b space at
+  pub key : k ≡ keyAt b at
+
+module _ (b : List ℕ) (space at sp : ℕ) (k : Key) (T : AtTuple b space at sp k) where
   E : Entered b sp at
-  E = entered b w space at sp S at≢ f
+  E = entered b (T .walkable) space at sp (T .spanning) (T .some) (T .start)
+
+  e : k ≡ keyAt b at
+  e = T .key
 
   pub own-space : Seekable b sp
   own-space = E .first
 
   -- a search from the first record of the space finds what the store has
-  found : (j : Key) → j .s ≡ k .s → (r : Bool) → r ≡ present j (tuplesFrom b sp) → r ≡ present j (tuplesOf b)
-  found j h r g = g ∙ sym (E .here j (h ∙ ap (λ (x : Key). x .s) e))
+  found : (j : Key) → j .s ≡ k .s → (i : Key) → i ≡ j → (r : Bool) → r ≡ present i (tuplesFrom b sp) → r ≡ present j (tuplesOf b)
+  found j h i z r g = g ∙ ap (λ (x : Key). present x (tuplesFrom b sp)) z ∙ sym (E .here j (h ∙ ap (λ (x : Key). x .s) e))
 
   -- no edge
   pub no-edge : k .g ≡ 0 → endsPresent (tuplesOf b) (keyAt b at) ≡ true
   no-edge g = ap (endsPresent (tuplesOf b)) (sym e) ∙ ends-none (tuplesOf b) k g
 
-  pub no-first-end : k .g ≢ 0 → (r : Bool) → r ≡ present (nodeKey (k .s) (k .n)) (tuplesFrom b sp) → r ≡ false
-      → endsPresent (tuplesOf b) (keyAt b at) ≡ false
-  no-first-end g r h z =
-      ap (endsPresent (tuplesOf b)) (sym e) ∙ ends-no-first (tuplesOf b) k g (sym (found (nodeKey (k .s) (k .n)) refl r h) ∙ z)
+  module _ (g : k .g ≢ 0) (i : Key) (one : i ≡ nodeKey (k .s) (k .n)) (r : Bool) (h : r ≡ present i (tuplesFrom b sp)) where
+    pub no-first-end : r ≡ false → endsPresent (tuplesOf b) (keyAt b at) ≡ false
+    no-first-end z =
+        ap (endsPresent (tuplesOf b)) (sym e) ∙ ends-no-first (tuplesOf b) k g (sym (found (nodeKey (k .s) (k .n)) refl i one r h) ∙ z)
 
-  module _ (g : k .g ≢ 0) (seek : ℕ) (K : Seeking b (nodeKey (k .s) (k .m)) sp seek) where
-    pub no-second-end : isAt b seek (nodeKey (k .s) (k .m)) ≡ false → isBefore b seek (nodeKey (k .s) (k .m)) ≡ false
-        → endsPresent (tuplesOf b) (keyAt b at) ≡ false
-    no-second-end a h =
-        ap (endsPresent (tuplesOf b)) (sym e)
-        ∙ ends-no-second (tuplesOf b) k g
-        (sym (found (nodeKey (k .s) (k .m)) refl (isAt b seek (nodeKey (k .s) (k .m))) (seek-end b (nodeKey (k .s) (k .m)) sp seek K h)) ∙ a)
+    module _ (j : Key) (two : j ≡ nodeKey (k .s) (k .m)) (seek : ℕ) (K : Seeking b j sp seek) where
+      pub no-second-end : isAt b seek j ≡ false → isBefore b seek j ≡ false → endsPresent (tuplesOf b) (keyAt b at) ≡ false
+      no-second-end a l =
+          ap (endsPresent (tuplesOf b)) (sym e)
+          ∙ ends-no-second (tuplesOf b) k g (sym (found (nodeKey (k .s) (k .m)) refl j two (isAt b seek j) (seek-end b j sp seek K l)) ∙ a)
 
-    pub both-ends : (r : Bool) → r ≡ present (nodeKey (k .s) (k .n)) (tuplesFrom b sp) → r ≡ true → isAt b seek (nodeKey (k .s) (k .m)) ≡ true
-        → endsPresent (tuplesOf b) (keyAt b at) ≡ true
-    both-ends r h z a =
-        ap (endsPresent (tuplesOf b)) (sym e)
-        ∙ ends-both (tuplesOf b) k g (sym (found (nodeKey (k .s) (k .n)) refl r h) ∙ z)
-        (sym
-        (found (nodeKey (k .s) (k .m)) refl (isAt b seek (nodeKey (k .s) (k .m)))
-        (seek-end b (nodeKey (k .s) (k .m)) sp seek K (at-not-before b seek (nodeKey (k .s) (k .m)) a)))
-        ∙ a)
+      pub both-ends : r ≡ true → isAt b seek j ≡ true → endsPresent (tuplesOf b) (keyAt b at) ≡ true
+      both-ends z a =
+          ap (endsPresent (tuplesOf b)) (sym e)
+          ∙ ends-both (tuplesOf b) k g (sym (found (nodeKey (k .s) (k .n)) refl i one r h) ∙ z)
+          (sym (found (nodeKey (k .s) (k .m)) refl j two (isAt b seek j) (seek-end b j sp seek K (at-not-before b seek j a))) ∙ a)
 
   -- on to the next tuple, or out with no
   pub go-on : (n : ℕ) → n ≡ next b at → endsPresent (tuplesOf b) (keyAt b at) ≡ true → Spanning b sp n
   go-on n h t = E .onward n h t
 
   pub leave : endsPresent (tuplesOf b) (keyAt b at) ≡ false → eqb at 0 ≡ everyKey (endsPresent (tuplesOf b)) (tuplesOf b)
-  leave t = ne-eqb at 0 at≢ ∙ every-no (endsPresent (tuplesOf b)) b at w (S .every) at≢ t
+  leave t = ne-eqb at 0 (T .some) ∙ every-no (endsPresent (tuplesOf b)) b at (T .walkable) (T .spanning .every) (T .some) t
 
 pub finish : (b : List ℕ) (space at : ℕ) → Spanning b space at → at ≡ 0 → eqb at 0 ≡ everyKey (endsPresent (tuplesOf b)) (tuplesOf b)
 finish b space at S z = eq-eqb at 0 z ∙ every-end (endsPresent (tuplesOf b)) b at (S .every) z

@@ -33,8 +33,8 @@ module _ (b : List ℕ) (h : ℕ) (S : Sorted b) (e : h ≡ word b 1) where
       }
 
   -- what a search from the head says
-  pub head-says : (k : Key) (r : Bool) → r ≡ present k (tuplesFrom b h) → r ≡ present k (tuplesOf b)
-  head-says k r f = f ∙ ap (present k) (used-from-head b h e)
+  pub head-says : (j k : Key) → j ≡ k → (r : Bool) → r ≡ present j (tuplesFrom b h) → r ≡ present k (tuplesOf b)
+  head-says j k g r f = f ∙ ap (present j) (used-from-head b h e) ∙ ap (λ (i : Key). present i (tuplesOf b)) g
 
   -- the used chain is not empty
   pub head-some : h ≢ 0

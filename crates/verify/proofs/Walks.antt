@@ -15,7 +15,7 @@ use Rattle.model.proofs.Bools.{and-left, and-right}
 use Rattle.model.proofs.Steps.{every-record}
 use Rattle.model.proofs.Store.{fits-least, fits-most, fits-length}
 use Rattle.model.proofs.Chains.{Within, walk-chain, chain-within}
-use Rattle.verify.specs.declared.Walked.{Walked}
+use Rattle.verify.specs.declared.chains.Walked.{Walked}
 use Rattle.verify.specs.Checks.{headsFit, nextsWithin, Walkable, metOnce, chainsRight, steps, lastMet, walkedFrom}
 use Rattle.verify.proofs.Preparing.{too-short, too-long}
 use Rattle.verify.proofs.Once.{lastOr, once-test}

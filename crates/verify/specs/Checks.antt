@@ -12,7 +12,7 @@ use Rattle.model.specs.Keys.{keyOf, nodeKey, edgeKey, isEdge, compareKeys, same
 use Rattle.model.specs.Tuples.{Tuples, present}
 use Rattle.model.specs.Buffer.{word, leastLength, mostLength, fitsLength, capacityOf, sizeWord, next, keyAt, tupleAt, walk, ends, orNothing, usedChain, freeChain, usedOf, freeOf, tuplesOf, count, everyRecord, ascendsFromUniverse, smallKey, noEdgeWithoutNode, edgeHasEnd, nodeSupported}
 use Rattle.model.specs.Rules.{Chain}
-use Rattle.verify.specs.declared.Walked.{Walked}
+use Rattle.verify.specs.declared.chains.Walked.{Walked}
 
 -- ---- words and nexts
 

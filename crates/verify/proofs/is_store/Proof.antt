@@ -6,9 +6,9 @@ use Rattle.verify.proofs.is_store.Statement.{statement}
 use Rattle.verify.proofs.is_store.Tie as tie
 use Rattle.verify.proofs.is_store.Reads as reads
 use Rattle.verify.proofs.is_store.Lts as lts
-use Rattle.verify.proofs.chains_right.Reads as chains-right-reads
-use Rattle.verify.proofs.heads_fit.Reads as heads-fit-reads
-use Rattle.verify.proofs.nexts_within.Reads as nexts-within-reads
+use Rattle.verify.proofs.chains.chains_right.Reads as chains-right-reads
+use Rattle.verify.proofs.chains.heads_fit.Reads as heads-fit-reads
+use Rattle.verify.proofs.chains.nexts_within.Reads as nexts-within-reads
 use Rattle.verify.proofs.tuples_sound.Reads as tuples-sound-reads
 
 -- src/lib.rt:473:9

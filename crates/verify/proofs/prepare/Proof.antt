@@ -5,10 +5,10 @@ use Rattle.verify.proofs.prepare.Statement.{statement}
 use Rattle.verify.proofs.prepare.Tie as tie
 use Rattle.verify.proofs.prepare.Reads as reads
 use Rattle.verify.proofs.prepare.Lts as lts
-use Rattle.verify.proofs.capacity.Reads as capacity-reads
-use Rattle.verify.proofs.chain_free.Reads as chain-free-reads
-use Rattle.verify.proofs.put_heads.Reads as put-heads-reads
-use Rattle.verify.proofs.put_universe.Reads as put-universe-reads
+use Rattle.verify.proofs.layout.capacity.Reads as capacity-reads
+use Rattle.verify.proofs.fresh.chain_free.Reads as chain-free-reads
+use Rattle.verify.proofs.fresh.put_heads.Reads as put-heads-reads
+use Rattle.verify.proofs.fresh.put_universe.Reads as put-universe-reads
 
 -- src/lib.rt:69:9
 returns : tie.Need-returns

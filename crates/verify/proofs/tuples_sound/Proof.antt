@@ -5,10 +5,10 @@ use Rattle.verify.proofs.tuples_sound.Statement.{statement}
 use Rattle.verify.proofs.tuples_sound.Tie as tie
 use Rattle.verify.proofs.tuples_sound.Reads as reads
 use Rattle.verify.proofs.tuples_sound.Lts as lts
-use Rattle.verify.proofs.all_named.Reads as all-named-reads
-use Rattle.verify.proofs.edges_ended.Reads as edges-ended-reads
-use Rattle.verify.proofs.keys_ascend.Reads as keys-ascend-reads
-use Rattle.verify.proofs.keys_good.Reads as keys-good-reads
+use Rattle.verify.proofs.named.all_named.Reads as all-named-reads
+use Rattle.verify.proofs.edge_ends.edges_ended.Reads as edges-ended-reads
+use Rattle.verify.proofs.keys.keys_ascend.Reads as keys-ascend-reads
+use Rattle.verify.proofs.keys.keys_good.Reads as keys-good-reads
 
 -- src/lib.rt:457:9
 keys-ascend-requires : tie.Need-keys-ascend-requires

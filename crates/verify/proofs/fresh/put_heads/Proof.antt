@@ -1,0 +1,51 @@
+use Rattle.verify.specs.Prepare.{headed}
+use native.Mathlib.Omega.{arith}
+use Rattle.verify.proofs.Preparing.{follower-most}
+use borrow.Author.Needs.{needs}
+use Rattle.verify.proofs.fresh.put_heads.Statement.{statement}
+use Rattle.verify.proofs.fresh.put_heads.Tie as tie
+use Rattle.verify.proofs.fresh.put_heads.Reads as reads
+use Rattle.verify.proofs.fresh.put_heads.Lts as lts
+use Rattle.records.proofs.put_head_word.Reads as put-head-word-reads
+use Rattle.verify.proofs.fresh.follower_of.Reads as follower-of-reads
+
+-- src/lib.rt:34:9
+follower-of-requires : tie.Need-follower-of-requires
+follower-of-requires c κs = search needs
+
+-- src/lib.rt:35:5
+put-head-word-requires : tie.Need-put-head-word-requires
+put-head-word-requires c κs = search needs
+
+-- src/lib.rt:36:5
+put-head-word-requires-2 : tie.Need-put-head-word-requires-2
+put-head-word-requires-2 c κs = search needs
+
+-- src/lib.rt:37:5
+put-head-word-requires-3 : tie.Need-put-head-word-requires-3
+put-head-word-requires-3 c κs = (omega arith, omega (arith, follower-most (c .before .before .before .before .before .before .before .before .before .before .before .args .c) 1))
+
+-- src/lib.rt:38:5
+put-head-word-requires-4 : tie.Need-put-head-word-requires-4
+put-head-word-requires-4 c κs = search needs
+
+-- src/lib.rt:30:1
+same-length : tie.Need-same-length
+same-length c = search needs
+
+-- src/lib.rt:30:1
+returns : tie.Need-returns
+unfolding headed
+returns c = cc
+
+pub put-heads-spec : {M : Type 1} → statement M
+put-heads-spec =
+    tie.close
+    (tie.spec
+    follower-of-requires
+    put-head-word-requires
+    put-head-word-requires-2
+    put-head-word-requires-3
+    put-head-word-requires-4
+    same-length
+    returns)

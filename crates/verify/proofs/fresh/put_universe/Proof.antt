@@ -1,0 +1,34 @@
+use Rattle.verify.specs.Prepare.{universeIn}
+use borrow.Author.Needs.{needs}
+use Rattle.verify.proofs.fresh.put_universe.Statement.{statement}
+use Rattle.verify.proofs.fresh.put_universe.Tie as tie
+use Rattle.verify.proofs.fresh.put_universe.Reads as reads
+use Rattle.verify.proofs.fresh.put_universe.Lts as lts
+use Rattle.records.proofs.put_next.Reads as put-next-reads
+use Rattle.records.proofs.put_tuple.Reads as put-tuple-reads
+use Rattle.verify.proofs.layout.node_key.Reads as node-key-reads
+
+-- src/fresh.rt:37:9
+node-key-requires : tie.Need-node-key-requires
+node-key-requires c κs = search needs
+
+-- src/fresh.rt:38:5
+put-next-requires : tie.Need-put-next-requires
+put-next-requires c κs = search needs
+
+-- src/fresh.rt:39:5
+put-tuple-requires : tie.Need-put-tuple-requires
+put-tuple-requires c κs = search needs
+
+-- src/fresh.rt:33:1
+same-length : tie.Need-same-length
+same-length c = search needs
+
+-- src/fresh.rt:33:1
+returns : tie.Need-returns
+unfolding universeIn
+returns c = cc
+
+pub put-universe-spec : {M : Type 1} → statement M
+put-universe-spec =
+    tie.close (tie.spec node-key-requires put-next-requires put-tuple-requires same-length returns)
