@@ -1,3 +1,4 @@
+pub mod Capacity
 pub mod Preparing
 pub mod Once
 pub mod Walks

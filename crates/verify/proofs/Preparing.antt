@@ -2,7 +2,7 @@
 use mathlib.Core.Bool.{Bool, true, false, cond}
 use mathlib.Core.List.{List, [], _∷_}
 use mathlib.Core.Logic.{_≢_}
-use mathlib.Core.Path.{_≡_, refl, sym, ap, _∙_, subst}
+use mathlib.Core.Path.{_≡_, refl, sym, ap, ap₂, _∙_, subst}
 use Prim.Native.Nat.{ℕ, zero, suc, _+_, _-_, _*_, _/_, _≤_, _<_}
 use native.Mathlib.Omega.{arith}
 use lib.Dec.{eqb, ltb}
@@ -10,11 +10,13 @@ use lib.ListN.{length, set, drop, length-set}
 use lib.Seq.{getD-set-same, getD-set-other, drop-set-lt}
 use borrow.Author.Tests.{eqb-true, eqb-false, ltb-true, lt-ltb, le-ltb, le-leb, lt-leb}
 use Rattle.model.specs.declared.Preparation.the-variants.{Refused, Capacity}
+use Rattle.model.specs.declared.Key.{Key}
 use Rattle.model.specs.Keys.{NIL, spaceKey}
 use Rattle.model.specs.Buffer.{word, recordStart, fitsLength, capacityOf, next, keyAt, tupleAt, pastRecords, follower, Prepared, Preparing}
 use Rattle.model.proofs.Bools.{clash}
 use Rattle.model.proofs.Store.{fits-length}
 use Rattle.records.specs.Words.{putNext, putTuple}
+use Rattle.verify.proofs.Capacity.{some-record, room}
 use Rattle.verify.specs.Prepare.{headed, universeIn, chained, preparedBuffer, afterPreparing}
 
 -- ---- the record after a free one
@@ -43,9 +45,12 @@ chained-length C b zero = refl
 chained-length C b (suc n) = length-set (chained C b n) _ _ ∙ chained-length C b n
 
 -- one more record
-pub chained-more : (C : ℕ) (b : List ℕ) (n : ℕ) → putNext (chained C b n) (n + 2) (follower C (n + 2)) ≡ chained C b (n + 1)
+pub chained-more : (C : ℕ) (b : List ℕ) (n : ℕ) (b₁ b₂ : List ℕ) (j : ℕ) → b₁ ≡ chained C b n → j ≡ follower C (n + 2) → b₂ ≡ putNext b₁ (n + 2) j
+    → b₂ ≡ chained C b (n + 1)
 unfolding chained
-chained-more C b n = let e : suc n ≡ n + 1 = omega arith in ap (chained C b) e
+chained-more C b n b₁ b₂ j e f g =
+    let s : suc n ≡ n + 1 = omega arith in
+    g ∙ ap₂ (λ (l : List ℕ) (k : ℕ). putNext l (n + 2) k) e f ∙ ap (chained C b) s
 
 -- words outside the nexts of records 2 on are as before
 chained-other : (C : ℕ) (b : List ℕ) (n j : ℕ) → ((i : ℕ) → 2 ≤ i → j ≢ recordStart i) → word (chained C b n) j ≡ word b j
@@ -122,21 +127,20 @@ started-past C b m h =
     let h₉ : 9 < m = omega arith in
     simp drop-set-lt
 
+-- the words written one after another
+pub heads-put : (b b₁ b₂ b₃ b₄ : List ℕ) (C f : ℕ) → f ≡ follower C 1 → b₁ ≡ set b 0 C → b₂ ≡ set b₁ 1 1 → b₃ ≡ set b₂ 2 f → b₄ ≡ set b₃ 3 1
+    → b₄ ≡ headed C b
+unfolding headed
+heads-put b b₁ b₂ b₃ b₄ C f e p q r s =
+    s ∙ ap (λ (l : List ℕ). set l 3 1) (r ∙ ap₂ (λ (l : List ℕ) (w : ℕ). set l 2 w) (q ∙ ap (λ (l : List ℕ). set l 1 1) p) e)
+
+pub universe-put : (b b₁ b₂ : List ℕ) (k : Key) → k ≡ spaceKey 0 → b₁ ≡ putNext b 1 0 → b₂ ≡ putTuple b₁ 1 k NIL → b₂ ≡ universeIn b
+unfolding universeIn
+universe-put b b₁ b₂ k e p q = q ∙ ap₂ (λ (l : List ℕ) (j : Key). putTuple l 1 j NIL) p e
+
 -- ---- preparing
 
 module _ (b : List ℕ) (low : 10 ≤ length b) (high : length b ≤ 12297) where
-  capacity-low : 1 ≤ capacityOf b
-  unfolding capacityOf
-  capacity-low = omega arith
-
-  pub capacity-high : capacityOf b ≤ 2048
-  unfolding capacityOf
-  capacity-high = omega arith
-
-  pub capacity-room : 4 + 6 * capacityOf b ≤ length b
-  unfolding capacityOf
-  capacity-room = omega arith
-
   fits : fitsLength b ≡ true
   fits = fits-length b low high
 
@@ -174,14 +178,14 @@ module _ (b : List ℕ) (low : 10 ≤ length b) (high : length b ≤ 12297) wher
   unfolding next preparedBuffer
   free-next i h k =
       chained-next (capacityOf b) (universeIn (headed (capacityOf b) b)) (capacityOf b - 1) i
-      (omega (arith, started-length (capacityOf b) b, capacity-room, capacity-low)) h (omega (arith, capacity-low))
+      (omega (arith, started-length (capacityOf b) b, room b low high, some-record b low high)) h (omega (arith, some-record b low high))
 
   past : pastRecords (preparedBuffer b) ≡ pastRecords b
   unfolding pastRecords preparedBuffer
   past =
       ap (λ (C : ℕ). drop (4 + 6 * C) (preparedBuffer b)) same-capacity
-      ∙ chained-past (capacityOf b) (universeIn (headed (capacityOf b) b)) (capacityOf b - 1) (4 + 6 * capacityOf b) (omega (arith, capacity-low))
-      ∙ started-past (capacityOf b) b (4 + 6 * capacityOf b) (omega (arith, capacity-low))
+      ∙ chained-past (capacityOf b) (universeIn (headed (capacityOf b) b)) (capacityOf b - 1) (4 + 6 * capacityOf b) (omega (arith, some-record b low high))
+      ∙ started-past (capacityOf b) b (4 + 6 * capacityOf b) (omega (arith, some-record b low high))
     where
       same-capacity : capacityOf (preparedBuffer b) ≡ capacityOf b
       same-capacity = unfold capacityOf in ap (λ (l : ℕ). (l - 4) / 6) prepared-length

@@ -21,7 +21,8 @@ use Rattle.model.proofs.Ordered.{above-not-held, ascending-tail}
 use Rattle.model.proofs.Chains.{chain-walk}
 use Rattle.records.specs.Words.{Inside}
 use Rattle.verify.specs.Checks.{Walkable, UsedEnds, recordsFrom, tuplesFrom, OnChain, Seekable, isAt, isBefore}
-use Rattle.verify.proofs.Walks.{room, met-by-walk}
+use Rattle.verify.proofs.Capacity.{room}
+use Rattle.verify.proofs.Walks.{met-by-walk}
 
 -- ---- one record on
 

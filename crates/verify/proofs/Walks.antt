@@ -4,7 +4,7 @@ use mathlib.Core.List.{List, [], _∷_}
 use mathlib.Core.Logic.{_≢_}
 use mathlib.Core.Option.{Option, none, some, Option·map}
 use mathlib.Core.Path.{_≡_, refl, sym, ap, ap₂, _∙_, subst}
-use Prim.Native.Nat.{ℕ, zero, suc, _+_, _-_, _*_, _≤_, _<_}
+use Prim.Native.Nat.{ℕ, zero, suc, _+_, _-_, _≤_, _<_}
 use native.Mathlib.Omega.{arith}
 use lib.Dec.{eqb, leb}
 use lib.ListN.{length}
@@ -17,23 +17,9 @@ use Rattle.model.proofs.Store.{fits-least, fits-most, fits-length}
 use Rattle.model.proofs.Chains.{Within, walk-chain, chain-within}
 use Rattle.verify.specs.declared.chains.Walked.{Walked}
 use Rattle.verify.specs.Checks.{headsFit, nextsWithin, Walkable, metOnce, chainsRight, steps, lastMet, walkedFrom}
+use Rattle.verify.proofs.Capacity.{some-record}
 use Rattle.verify.proofs.Preparing.{too-short, too-long}
 use Rattle.verify.proofs.Once.{lastOr, once-test}
-
--- ---- the capacity
-
-module _ (b : List ℕ) (low : 10 ≤ length b) (high : length b ≤ 12297) where
-  pub some-record : 1 ≤ capacityOf b
-  unfolding capacityOf
-  some-record = omega arith
-
-  pub few-records : capacityOf b ≤ 2048
-  unfolding capacityOf
-  few-records = omega arith
-
-  pub room : 4 + 6 * capacityOf b ≤ length b
-  unfolding capacityOf
-  room = omega arith
 
 -- ---- length and heads
 

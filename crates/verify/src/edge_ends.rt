@@ -1,4 +1,5 @@
 // Has each edge tuple its two ends.
+// The walk requires that the used chain ends and its keys ascend from (0,0,0,0).
 use super::layout::node_key;
 use super::seek::holds_from;
 use super::seek::is_at;

@@ -1,4 +1,5 @@
 // The keys of the used chain: do they ascend, and is each one that a store may hold.
+// The walks require that the used chain ends.
 use super::layout::node_key;
 use model::Key;
 ghost use mathlib.Core.Path.{_≡_};

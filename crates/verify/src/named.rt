@@ -1,4 +1,5 @@
 // Is there what each tuple names, but the ends of edges.
+// Each requires that the used chain ends and its keys ascend from (0,0,0,0).
 use super::layout::node_key;
 use super::seek::holds_from;
 use model::Key;

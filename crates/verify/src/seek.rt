@@ -1,4 +1,5 @@
 // A key sought in a chain whose keys ascend.
+// Each requires that the chain ends; the search, that its keys ascend.
 use model::Key;
 ghost use mathlib.Core.Path.{_≡_};
 ghost use Prim.Native.Nat.{_≤_};

@@ -1,4 +1,5 @@
-use Rattle.verify.proofs.Preparing.{capacity-high, capacity-room, prepares, after-prepared, refused, after-refused, too-short, too-long}
+use Rattle.verify.proofs.Capacity.{few-records, room}
+use Rattle.verify.proofs.Preparing.{prepares, after-prepared, refused, after-refused, too-short, too-long}
 use native.Mathlib.Omega.{arith}
 use borrow.Author.Needs.{needs}
 use Rattle.verify.proofs.prepare.Statement.{statement}
@@ -24,7 +25,7 @@ capacity-requires c κs = search needs
 
 -- src/lib.rt:75:5
 put-heads-requires : tie.Need-put-heads-requires
-put-heads-requires c κs = (omega arith, omega (arith, capacity-high (c .before .before .before .before .before .before .args .buffer .now) (c .before .before .before .before .if1 .left) (c .before .before .before .if2 .left)))
+put-heads-requires c κs = (omega arith, omega (arith, few-records (c .before .before .before .before .before .before .args .buffer .now) (c .before .before .before .before .if1 .left) (c .before .before .before .if2 .left)))
 
 -- src/lib.rt:76:5
 put-universe-requires : tie.Need-put-universe-requires
@@ -32,11 +33,11 @@ put-universe-requires c κs = search needs
 
 -- src/lib.rt:77:5
 chain-free-requires : tie.Need-chain-free-requires
-chain-free-requires c κs = (omega (arith, capacity-room (c .before .before .before .before .before .before .before .before .before .before .before .before .before .before .args .buffer .now) (c .before .before .before .before .before .before .before .before .before .before .before .before .if1 .left) (c .before .before .before .before .before .before .before .before .before .before .before .if2 .left)), omega (arith, capacity-high (c .before .before .before .before .before .before .before .before .before .before .before .before .before .before .args .buffer .now) (c .before .before .before .before .before .before .before .before .before .before .before .before .if1 .left) (c .before .before .before .before .before .before .before .before .before .before .before .if2 .left)))
+chain-free-requires c κs = (omega (arith, room (c .before .before .before .before .before .before .before .before .before .before .before .before .before .before .args .buffer .now) (c .before .before .before .before .before .before .before .before .before .before .before .before .if1 .left) (c .before .before .before .before .before .before .before .before .before .before .before .if2 .left)), omega (arith, few-records (c .before .before .before .before .before .before .before .before .before .before .before .before .before .before .args .buffer .now) (c .before .before .before .before .before .before .before .before .before .before .before .before .if1 .left) (c .before .before .before .before .before .before .before .before .before .before .before .if2 .left)))
 
 -- src/lib.rt:78:27
 cast-t14 : tie.Need-cast-t14
-cast-t14 c = omega (arith, capacity-high (c .before .before .before .before .before .before .before .before .before .before .before .before .before .before .before .before .before .args .buffer .now) (c .before .before .before .before .before .before .before .before .before .before .before .before .before .before .before .if1 .left) (c .before .before .before .before .before .before .before .before .before .before .before .before .before .before .if2 .left))
+cast-t14 c = omega (arith, few-records (c .before .before .before .before .before .before .before .before .before .before .before .before .before .before .before .before .before .args .buffer .now) (c .before .before .before .before .before .before .before .before .before .before .before .before .before .before .before .if1 .left) (c .before .before .before .before .before .before .before .before .before .before .before .before .before .before .if2 .left))
 
 -- src/lib.rt:64:1
 same-length : tie.Need-same-length

@@ -1,6 +1,7 @@
 use borrow.Author.Tests.{not-true, not-false}
 use native.Mathlib.Omega.{arith}
-use Rattle.verify.proofs.Walks.{few-records, counts-most, no-used, no-free, no-count, no-last, all-right}
+use Rattle.verify.proofs.Capacity.{few-records}
+use Rattle.verify.proofs.Walks.{counts-most, no-used, no-free, no-count, no-last, all-right}
 use borrow.Author.Needs.{needs}
 use Rattle.verify.proofs.chains.chains_right.Statement.{statement}
 use Rattle.verify.proofs.chains.chains_right.Tie as tie

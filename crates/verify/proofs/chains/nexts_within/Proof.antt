@@ -2,7 +2,8 @@ use native.Mathlib.Omega.{arith}
 use Prim.Native.Nat.{_≤_}
 use mathlib.Core.Path.{_≡_, sym, subst}
 use Rattle.model.specs.Buffer.{capacityOf}
-use Rattle.verify.proofs.Walks.{room, fit-least, fit-most, Nexts, nexts-start, nexts-stop, nexts-on, nexts-end}
+use Rattle.verify.proofs.Capacity.{room}
+use Rattle.verify.proofs.Walks.{fit-least, fit-most, Nexts, nexts-start, nexts-stop, nexts-on, nexts-end}
 use Rattle.verify.proofs.chains.nexts_within.Statement.{statement}
 use Rattle.verify.proofs.chains.nexts_within.Tie as tie
 use Rattle.verify.proofs.chains.nexts_within.Reads as reads

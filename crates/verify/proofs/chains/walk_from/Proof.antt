@@ -3,7 +3,8 @@ use Prim.Native.Nat.{ℕ, _-_}
 use mathlib.Core.Path.{_≡_, ap, _∙_}
 use mathlib.Core.Bool.{true, false}
 use Rattle.model.specs.Buffer.{capacityOf}
-use Rattle.verify.proofs.Walks.{room, Walking, walking-start, walking-on, walking-end, walking-stop}
+use Rattle.verify.proofs.Capacity.{room}
+use Rattle.verify.proofs.Walks.{Walking, walking-start, walking-on, walking-end, walking-stop}
 use Rattle.verify.proofs.chains.walk_from.Statement.{statement}
 use Rattle.verify.proofs.chains.walk_from.Tie as tie
 use Rattle.verify.proofs.chains.walk_from.Reads as reads

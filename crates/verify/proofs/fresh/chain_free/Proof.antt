@@ -52,7 +52,7 @@ loop-less c = omega arith
 
 -- src/lib.rt:56:5
 loop-again : tie.Need-loop-again Inv-loop μ-loop
-loop-again c = (omega arith, c .before .before .put-next .ensures ∙ (cc) ∙ chained-more _ _ _)
+loop-again c = (omega arith, chained-more _ _ (c .before .before .before .before .before .before .loop .n) (c .before .before .before .before .before .before .loop .b) (c .before .before .put-next .last .0) (c .before .before .before .before .follower-of .result) (c .before .before .before .before .before .before .loop .inv .1) (c .before .before .before .before .follower-of .ensures) (c .before .before .put-next .ensures))
 
 -- src/lib.rt:51:1
 same-length : tie.Need-same-length Inv-loop μ-loop

@@ -1,4 +1,4 @@
-use Rattle.verify.specs.Prepare.{headed}
+use Rattle.verify.proofs.Preparing.{heads-put}
 use native.Mathlib.Omega.{arith}
 use Rattle.verify.proofs.Preparing.{follower-most}
 use borrow.Author.Needs.{needs}
@@ -35,8 +35,7 @@ same-length c = search needs
 
 -- src/lib.rt:30:1
 returns : tie.Need-returns
-unfolding headed
-returns c = cc
+returns c = heads-put (c .before .before .before .before .before .before .before .before .before .before .before .before .before .before .before .before .before .before .args .b .now) (c .before .before .before .before .before .before .before .before .before .before .before .before .before .before .put-head-word .last .0) (c .before .before .before .before .before .before .before .before .before .before .put-head-word2 .last .0) (c .before .before .before .before .before .before .put-head-word3 .last .0) (c .before .before .put-head-word4 .last .0) (c .before .before .before .before .before .before .before .before .before .before .before .before .before .before .before .before .before .before .args .c) (c .before .before .before .before .before .before .before .before .before .before .before .before .before .before .before .before .follower-of .result) (c .before .before .before .before .before .before .before .before .before .before .before .before .before .before .before .before .follower-of .ensures) (c .before .before .before .before .before .before .before .before .before .before .before .before .before .before .put-head-word .ensures) (c .before .before .before .before .before .before .before .before .before .before .put-head-word2 .ensures) (c .before .before .before .before .before .before .put-head-word3 .ensures) (c .before .before .put-head-word4 .ensures)
 
 pub put-heads-spec : {M : Type 1} → statement M
 put-heads-spec =

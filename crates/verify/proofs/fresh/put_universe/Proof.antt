@@ -1,4 +1,4 @@
-use Rattle.verify.specs.Prepare.{universeIn}
+use Rattle.verify.proofs.Preparing.{universe-put}
 use borrow.Author.Needs.{needs}
 use Rattle.verify.proofs.fresh.put_universe.Statement.{statement}
 use Rattle.verify.proofs.fresh.put_universe.Tie as tie
@@ -26,8 +26,7 @@ same-length c = search needs
 
 -- src/fresh.rt:33:1
 returns : tie.Need-returns
-unfolding universeIn
-returns c = cc
+returns c = universe-put (c .before .before .before .before .before .before .before .before .before .before .args .b .now) (c .before .before .before .before .before .before .put-next .last .0) (c .before .before .put-tuple .last .0) (c .before .before .before .before .before .before .before .before .node-key .result) (c .before .before .before .before .before .before .before .before .node-key .ensures) (c .before .before .before .before .before .before .put-next .ensures) (c .before .before .put-tuple .ensures)
 
 pub put-universe-spec : {M : Type 1} → statement M
 put-universe-spec =
