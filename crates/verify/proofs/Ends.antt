@@ -1,6 +1,6 @@
 -- The ends of edges, sought from the first record of the edge's space on.
 use mathlib.Core.Bool.{Bool, true, false, cond, not, _||_, false≢true, and-false}
-use mathlib.Core.List.{List, [], _∷_}
+use mathlib.Core.List.{List, _∷_}
 use mathlib.Core.Logic.{_≢_}
 use mathlib.Core.Path.{_≡_, refl, sym, ap, _∙_, subst}
 use Prim.Native.Nat.{ℕ, _≤_, _<_, compare, Ordering, Ordering·lt, Ordering·eq, Ordering·gt}
@@ -169,10 +169,6 @@ at-not-before b i k t =
     never Ordering·gt e f = false≢true e
 
 -- ---- the start
-
-empty-false : (ts : Tuples) → ascendsFromUniverse ts ≡ true → ts ≡ [] → ⊥
-unfolding ascendsFromUniverse
-empty-false ts e f = false≢true (sym (ap ascendsFromUniverse f) ∙ e)
 
 first-universe : (b : List ℕ) (i : ℕ) (ts : Tuples) → ascendsFromUniverse (tupleAt b i ∷ ts) ≡ true
     → (keyAt b i ≡ spaceKey 0) × Above keyOf compareKeys (keyAt b i) ts

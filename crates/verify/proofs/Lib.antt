@@ -1,6 +1,7 @@
 pub mod Capacity
 pub mod Preparing
 pub mod Once
+pub mod Heads
 pub mod Walks
 pub mod Rest
 pub mod KeyTests

@@ -11,7 +11,7 @@ use Rattle.model.specs.Tuples.{Tuples, present}
 use Rattle.model.specs.Buffer.{word, fitsLength, capacityOf, sizeWord, ends, usedChain, freeChain, usedOf, tuplesOf, ascendsFromUniverse, smallKey, noEdgeWithoutNode, edgeHasEnd, nodeSupported, edgeSupported, everyKey, sound, isStore}
 use Rattle.model.proofs.Bools.{and-left}
 use Rattle.verify.specs.Checks.{headsFit, nextsWithin, Walkable, metOnce, chainsRight, UsedEnds, shapedKey, goodKey, Sorted, edgeInUniverse, namedPresent, endsPresent}
-use Rattle.verify.proofs.Walks.{walkable}
+use Rattle.verify.proofs.Heads.{walkable}
 
 -- ---- tests
 

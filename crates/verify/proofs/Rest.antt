@@ -10,7 +10,7 @@ use lib.Dec.{eqb, isEq}
 use lib.ListN.{length}
 use borrow.Author.Tests.{eqb-true, eqb-false, eq-eqb, ne-eqb}
 use Rattle.model.specs.declared.Key.{Key}
-use Rattle.model.specs.Ordered.{isLess, holds, ascendsFrom, Above, Ascending}
+use Rattle.model.specs.Ordered.{isLess, holds, ascendsFrom, Ascending}
 use Rattle.model.specs.Keys.{keyOf, spaceKey, compareKeys, sameKey}
 use Rattle.model.specs.Tuples.{Tuples, present}
 use Rattle.model.specs.Buffer.{word, capacityOf, next, keyAt, tupleAt, walk, orNothing, usedChain, usedOf, tuplesOf, ascendsFromUniverse, everyKey}
@@ -88,10 +88,6 @@ unfolding tuplesFrom recordsFrom orNothing
 tuples-none b at e =
     ap (λ (i : ℕ). map (tupleAt b) (orNothing (walk (next b) (capacityOf b) i))) e
     ∙ ap (λ (r : Option (List ℕ)). map (tupleAt b) (orNothing r)) (walk-none (next b) (capacityOf b))
-
-pub key-at : (b : List ℕ) (i : ℕ) → tupleAt b i .key ≡ keyAt b i
-unfolding tupleAt
-key-at b i = refl
 
 -- ---- a test on every key
 
@@ -235,10 +231,6 @@ flip-key j k = keys .compares .flip j k
 pub present-cons : (k : Key) (b : List ℕ) (i : ℕ) (ts : Tuples) → present k (tupleAt b i ∷ ts) ≡ (sameKey k (keyAt b i) || present k ts)
 unfolding holds tupleAt
 present-cons k b i ts = refl
-
-above-cons : (k : Key) (b : List ℕ) (i : ℕ) (ts : Tuples) → Ascending keyOf compareKeys (tupleAt b i ∷ ts) → Above keyOf compareKeys (keyAt b i) ts
-unfolding tupleAt
-above-cons k b i ts h = h
 
 not-present : (k : Key) (b : List ℕ) (i : ℕ) (ts : Tuples) → compareKeys k (keyAt b i) ≡ Ordering·lt → Ascending keyOf compareKeys (tupleAt b i ∷ ts)
     → present k (tupleAt b i ∷ ts) ≡ false

@@ -33,18 +33,20 @@ pub fn edges_ended(b: &[u32]) -> bool
     'tuples: while at != 0 {
         let k = records::key_of(b, at);
         space = space_start(b, space, at);
-        if k.g != 0 {
-            if !holds_from(b, space, node_key(k.s, k.n)) {
+        if k.g == 0 {
+            at = records::next_of(b, at);
+            continue;
+        }
+        if !holds_from(b, space, node_key(k.s, k.n)) {
+            break 'tuples;
+        }
+        let end = node_key(k.s, k.m);
+        let mut seek = space;
+        while !is_at(b, seek, end) {
+            if !is_before(b, seek, end) {
                 break 'tuples;
             }
-            let end = node_key(k.s, k.m);
-            let mut seek = space;
-            while !is_at(b, seek, end) {
-                if !is_before(b, seek, end) {
-                    break 'tuples;
-                }
-                seek = records::next_of(b, seek);
-            }
+            seek = records::next_of(b, seek);
         }
         at = records::next_of(b, at);
     }

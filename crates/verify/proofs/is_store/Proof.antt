@@ -11,35 +11,27 @@ use Rattle.verify.proofs.chains.heads_fit.Reads as heads-fit-reads
 use Rattle.verify.proofs.chains.nexts_within.Reads as nexts-within-reads
 use Rattle.verify.proofs.tuples_sound.Reads as tuples-sound-reads
 
--- src/lib.rt:473:9
 heads-fit-requires : tie.Need-heads-fit-requires
 heads-fit-requires c κs = search needs
 
--- src/lib.rt:474:9
 returns : tie.Need-returns
 returns c = store-no-heads (c .before .before .before .args .buffer .now) _ (c .before .heads-fit .ensures) (not-true _ (c .if1 .taken))
 
--- src/lib.rt:476:9
 nexts-within-requires : tie.Need-nexts-within-requires
 nexts-within-requires c κs = sym (c .before .heads-fit .ensures) ∙ not-false _ (c .if1 .left)
 
--- src/lib.rt:477:9
 returns-2 : tie.Need-returns-2
 returns-2 c = store-no-nexts (c .before .before .before .before .before .args .buffer .now) _ (c .before .before .before .heads-fit .ensures) (not-false _ (c .before .before .if1 .left)) _ (c .before .nexts-within .ensures) (not-true _ (c .if2 .taken))
 
--- src/lib.rt:479:9
 chains-right-requires : tie.Need-chains-right-requires
 chains-right-requires c κs = store-walkable (c .before .before .before .before .before .args .buffer .now) _ (c .before .before .before .heads-fit .ensures) (not-false _ (c .before .before .if1 .left)) _ (c .before .nexts-within .ensures) (not-false _ (c .if2 .left))
 
--- src/lib.rt:480:9
 returns-3 : tie.Need-returns-3
 returns-3 c = store-no-chains (c .before .before .before .before .before .before .before .args .buffer .now) _ (c .before .before .before .before .before .heads-fit .ensures) (not-false _ (c .before .before .before .before .if1 .left)) _ (c .before .before .before .nexts-within .ensures) (not-false _ (c .before .before .if2 .left)) _ (c .before .chains-right .ensures) (not-true _ (c .if3 .taken))
 
--- src/lib.rt:482:5
 tuples-sound-requires : tie.Need-tuples-sound-requires
 tuples-sound-requires c κs = store-used (c .before .before .before .before .before .before .before .args .buffer .now) _ (c .before .before .before .before .before .heads-fit .ensures) (not-false _ (c .before .before .before .before .if1 .left)) _ (c .before .before .before .nexts-within .ensures) (not-false _ (c .before .before .if2 .left)) _ (c .before .chains-right .ensures) (not-false _ (c .if3 .left))
 
--- src/lib.rt:470:1
 returns-4 : tie.Need-returns-4
 returns-4 c = store-tuples (c .before .before .before .before .before .before .before .before .args .buffer .now) _ (c .before .before .before .before .before .before .heads-fit .ensures) (not-false _ (c .before .before .before .before .before .if1 .left)) _ (c .before .before .before .before .nexts-within .ensures) (not-false _ (c .before .before .before .if2 .left)) _ (c .before .before .chains-right .ensures) (not-false _ (c .before .if3 .left)) _ (c .tuples-sound .ensures)
 

@@ -11,39 +11,30 @@ use Rattle.verify.proofs.fresh.chain_free.Reads as chain-free-reads
 use Rattle.verify.proofs.fresh.put_heads.Reads as put-heads-reads
 use Rattle.verify.proofs.fresh.put_universe.Reads as put-universe-reads
 
--- src/lib.rt:69:9
 returns : tie.Need-returns
 returns c = (refused _ (too-short _ (c .if1 .taken)), after-refused _ (too-short _ (c .if1 .taken)))
 
--- src/lib.rt:72:9
 returns-2 : tie.Need-returns-2
 returns-2 c = (refused _ (too-long _ (c .if2 .taken)), after-refused _ (too-long _ (c .if2 .taken)))
 
--- src/lib.rt:74:9
 capacity-requires : tie.Need-capacity-requires
 capacity-requires c κs = search needs
 
--- src/lib.rt:75:5
 put-heads-requires : tie.Need-put-heads-requires
 put-heads-requires c κs = (omega arith, omega (arith, few-records (c .before .before .before .before .before .before .args .buffer .now) (c .before .before .before .before .if1 .left) (c .before .before .before .if2 .left)))
 
--- src/lib.rt:76:5
 put-universe-requires : tie.Need-put-universe-requires
 put-universe-requires c κs = search needs
 
--- src/lib.rt:77:5
 chain-free-requires : tie.Need-chain-free-requires
 chain-free-requires c κs = (omega (arith, room (c .before .before .before .before .before .before .before .before .before .before .before .before .before .before .args .buffer .now) (c .before .before .before .before .before .before .before .before .before .before .before .before .if1 .left) (c .before .before .before .before .before .before .before .before .before .before .before .if2 .left)), omega (arith, few-records (c .before .before .before .before .before .before .before .before .before .before .before .before .before .before .args .buffer .now) (c .before .before .before .before .before .before .before .before .before .before .before .before .if1 .left) (c .before .before .before .before .before .before .before .before .before .before .before .if2 .left)))
 
--- src/lib.rt:78:27
 cast-t14 : tie.Need-cast-t14
 cast-t14 c = omega (arith, few-records (c .before .before .before .before .before .before .before .before .before .before .before .before .before .before .before .before .before .args .buffer .now) (c .before .before .before .before .before .before .before .before .before .before .before .before .before .before .before .if1 .left) (c .before .before .before .before .before .before .before .before .before .before .before .before .before .before .if2 .left))
 
--- src/lib.rt:64:1
 same-length : tie.Need-same-length
 same-length c = search needs
 
--- src/lib.rt:64:1
 returns-3 : tie.Need-returns-3
 returns-3 c = (prepares (c .before .before .before .before .before .before .before .before .before .before .before .before .before .before .before .before .before .args .buffer .now) (c .before .before .before .before .before .before .before .before .before .before .before .before .before .before .before .if1 .left) (c .before .before .before .before .before .before .before .before .before .before .before .before .before .before .if2 .left) (c .before .before .before .before .before .before .before .before .before .before .put-heads .last .0) (c .before .before .before .before .before .before .put-universe .last .0) (c .before .before .chain-free .last .0) (c .before .before .before .before .before .before .before .before .before .before .before .before .capacity .result) (c .before .before .before .before .before .before .before .before .before .before .before .before .capacity .ensures) (c .before .before .before .before .before .before .before .before .before .before .put-heads .ensures) (c .before .before .before .before .before .before .put-universe .ensures) (c .before .before .chain-free .ensures), after-prepared (c .before .before .before .before .before .before .before .before .before .before .before .before .before .before .before .before .before .args .buffer .now) (c .before .before .before .before .before .before .before .before .before .before .before .before .before .before .before .if1 .left) (c .before .before .before .before .before .before .before .before .before .before .before .before .before .before .if2 .left) (c .before .before .before .before .before .before .before .before .before .before .put-heads .last .0) (c .before .before .before .before .before .before .put-universe .last .0) (c .before .before .chain-free .last .0) (c .before .before .before .before .before .before .before .before .before .before .before .before .capacity .result) (c .before .before .before .before .before .before .before .before .before .before .before .before .capacity .ensures) (c .before .before .before .before .before .before .before .before .before .before .put-heads .ensures) (c .before .before .before .before .before .before .put-universe .ensures) (c .before .before .chain-free .ensures))
 

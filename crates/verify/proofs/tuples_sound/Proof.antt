@@ -10,35 +10,27 @@ use Rattle.verify.proofs.edge_ends.edges_ended.Reads as edges-ended-rea
 use Rattle.verify.proofs.keys.keys_ascend.Reads as keys-ascend-reads
 use Rattle.verify.proofs.keys.keys_good.Reads as keys-good-reads
 
--- src/lib.rt:457:9
 keys-ascend-requires : tie.Need-keys-ascend-requires
 keys-ascend-requires c κs = search needs
 
--- src/lib.rt:458:9
 returns : tie.Need-returns
 returns c = sound-no-order (c .before .before .before .args .b .now) (c .before .before .before .pre) _ (c .before .keys-ascend .ensures) (not-true _ (c .if1 .taken))
 
--- src/lib.rt:460:9
 keys-good-requires : tie.Need-keys-good-requires
 keys-good-requires c κs = search needs
 
--- src/lib.rt:461:9
 returns-2 : tie.Need-returns-2
 returns-2 c = sound-no-good (c .before .before .before .before .before .args .b .now) (c .before .before .before .before .before .pre) _ (c .before .before .before .keys-ascend .ensures) (not-false _ (c .before .before .if1 .left)) _ (c .before .keys-good .ensures) (not-true _ (c .if2 .taken))
 
--- src/lib.rt:463:9
 all-named-requires : tie.Need-all-named-requires
 all-named-requires c κs = sound-sorted (c .before .before .before .before .before .args .b .now) (c .before .before .before .before .before .pre) _ (c .before .before .before .keys-ascend .ensures) (not-false _ (c .before .before .if1 .left))
 
--- src/lib.rt:464:9
 returns-3 : tie.Need-returns-3
 returns-3 c = sound-no-named (c .before .before .before .before .before .before .before .args .b .now) (c .before .before .before .before .before .before .before .pre) _ (c .before .before .before .before .before .keys-ascend .ensures) (not-false _ (c .before .before .before .before .if1 .left)) _ (c .before .before .before .keys-good .ensures) (not-false _ (c .before .before .if2 .left)) _ (c .before .all-named .ensures) (not-true _ (c .if3 .taken))
 
--- src/lib.rt:466:5
 edges-ended-requires : tie.Need-edges-ended-requires
 edges-ended-requires c κs = sound-sorted (c .before .before .before .before .before .before .before .args .b .now) (c .before .before .before .before .before .before .before .pre) _ (c .before .before .before .before .before .keys-ascend .ensures) (not-false _ (c .before .before .before .before .if1 .left))
 
--- src/lib.rt:453:1
 returns-4 : tie.Need-returns-4
 returns-4 c = sound-ends (c .before .before .before .before .before .before .before .before .args .b .now) (c .before .before .before .before .before .before .before .before .pre) _ (c .before .before .before .before .before .before .keys-ascend .ensures) (not-false _ (c .before .before .before .before .before .if1 .left)) _ (c .before .before .before .before .keys-good .ensures) (not-false _ (c .before .before .before .if2 .left)) _ (c .before .before .all-named .ensures) (not-false _ (c .before .if3 .left)) _ (c .edges-ended .ensures)
 

@@ -11,51 +11,39 @@ use Rattle.records.proofs.head_word.Reads as head-word-reads
 use Rattle.verify.proofs.layout.capacity.Reads as capacity-reads
 use Rattle.verify.proofs.chains.walk_from.Reads as walk-from-reads
 
--- src/lib.rt:173:29
 head-word-requires : tie.Need-head-word-requires
 head-word-requires c κs = search needs
 
--- src/lib.rt:173:9
 walk-from-requires : tie.Need-walk-from-requires
 walk-from-requires c κs = search needs
 
--- src/lib.rt:175:9
 returns : tie.Need-returns
 returns c = no-used (c .before .before .before .before .before .args .b .now) (c .before .before .before .before .before .pre) _ (c .before .before .before .head-word .ensures) (c .before .before .walk-from .result) (c .before .before .walk-from .ensures) (not-true _ (c .if1 .taken))
 
--- src/lib.rt:177:29
 head-word-requires-2 : tie.Need-head-word-requires-2
 head-word-requires-2 c κs = search needs
 
--- src/lib.rt:177:9
 walk-from-requires-2 : tie.Need-walk-from-requires-2
 walk-from-requires-2 c κs = search needs
 
--- src/lib.rt:179:9
 returns-2 : tie.Need-returns-2
 returns-2 c = no-free (c .before .before .before .before .before .before .before .before .before .args .b .now) (c .before .before .before .before .before .before .before .before .before .pre) _ (c .before .before .before .before .before .before .before .head-word .ensures) (c .before .before .before .before .before .before .walk-from .result) (c .before .before .before .before .before .before .walk-from .ensures) (not-false _ (c .before .before .before .before .if1 .left)) _ (c .before .before .before .head-word2 .ensures) (c .before .before .walk-from2 .result) (c .before .before .walk-from2 .ensures) (not-true _ (c .if2 .taken))
 
--- src/lib.rt:181:8
 add-if3 : tie.Need-add-if3
 add-if3 c = omega (arith, few-records (c .before .before .before .before .before .before .before .before .before .before .before .args .b .now) (c .before .before .before .before .before .before .before .before .before .before .before .pre .least) (c .before .before .before .before .before .before .before .before .before .before .before .pre .most), counts-most (c .before .before .before .before .before .before .before .before .before .before .before .args .b .now) _ (c .before .before .before .before .before .before .before .before .walk-from .result) (c .before .before .before .before .before .before .before .before .walk-from .ensures), counts-most (c .before .before .before .before .before .before .before .before .before .before .before .args .b .now) _ (c .before .before .before .before .walk-from2 .result) (c .before .before .before .before .walk-from2 .ensures))
 
--- src/lib.rt:181:35
 capacity-requires : tie.Need-capacity-requires
 capacity-requires c κs = search needs
 
--- src/lib.rt:182:9
 returns-3 : tie.Need-returns-3
 returns-3 c = no-count (c .before .before .before .before .before .before .before .before .before .before .before .before .before .args .b .now) (c .before .before .before .before .before .before .before .before .before .before .before .before .before .pre) _ (c .before .before .before .before .before .before .before .before .before .before .before .head-word .ensures) (c .before .before .before .before .before .before .before .before .before .before .walk-from .result) (c .before .before .before .before .before .before .before .before .before .before .walk-from .ensures) (not-false _ (c .before .before .before .before .before .before .before .before .if1 .left)) _ (c .before .before .before .before .before .before .before .head-word2 .ensures) (c .before .before .before .before .before .before .walk-from2 .result) (c .before .before .before .before .before .before .walk-from2 .ensures) (not-false _ (c .before .before .before .before .if2 .left)) _ (c .before .capacity .ensures) (c .if3 .taken)
 
--- src/lib.rt:185:9
 returns-4 : tie.Need-returns-4
 returns-4 c = no-last (c .before .before .before .before .before .before .before .before .before .before .before .before .before .before .before .before .args .b .now) (c .before .before .before .before .before .before .before .before .before .before .before .before .before .before .before .before .pre) _ (c .before .before .before .before .before .before .before .before .before .before .before .before .before .before .head-word .ensures) (c .before .before .before .before .before .before .before .before .before .before .before .before .before .walk-from .result) (c .before .before .before .before .before .before .before .before .before .before .before .before .before .walk-from .ensures) (not-false _ (c .before .before .before .before .before .before .before .before .before .before .before .if1 .left)) _ (c .before .before .before .before .before .before .before .before .before .before .head-word2 .ensures) (c .before .before .before .before .before .before .before .before .before .walk-from2 .result) (c .before .before .before .before .before .before .before .before .before .walk-from2 .ensures) (not-false _ (c .before .before .before .before .before .before .before .if2 .left)) _ (c .before .before .before .before .capacity .ensures) (c .before .before .before .if3 .left) (c .if4 .taken)
 
--- src/lib.rt:187:5
 head-word-requires-3 : tie.Need-head-word-requires-3
 head-word-requires-3 c κs = search needs
 
--- src/lib.rt:169:1
 returns-5 : tie.Need-returns-5
 returns-5 c = all-right (c .before .before .before .before .before .before .before .before .before .before .before .before .before .before .before .before .before .before .args .b .now) (c .before .before .before .before .before .before .before .before .before .before .before .before .before .before .before .before .before .before .pre) _ (c .before .before .before .before .before .before .before .before .before .before .before .before .before .before .before .before .head-word .ensures) (c .before .before .before .before .before .before .before .before .before .before .before .before .before .before .before .walk-from .result) (c .before .before .before .before .before .before .before .before .before .before .before .before .before .before .before .walk-from .ensures) (not-false _ (c .before .before .before .before .before .before .before .before .before .before .before .before .before .if1 .left)) _ (c .before .before .before .before .before .before .before .before .before .before .before .before .head-word2 .ensures) (c .before .before .before .before .before .before .before .before .before .before .before .walk-from2 .result) (c .before .before .before .before .before .before .before .before .before .before .before .walk-from2 .ensures) (not-false _ (c .before .before .before .before .before .before .before .before .before .if2 .left)) _ (c .before .before .before .before .before .before .capacity .ensures) _ (c .before .before .before .before .before .if3 .left) (c .before .before .if4 .left) (c .before .head-word3 .ensures)
 

@@ -1,4 +1,4 @@
-use Rattle.verify.proofs.Walks.{heads-short, heads-long, heads-size, heads-used, heads-free}
+use Rattle.verify.proofs.Heads.{heads-short, heads-long, heads-size, heads-used, heads-free}
 use borrow.Author.Needs.{needs}
 use Rattle.verify.proofs.chains.heads_fit.Statement.{statement}
 use Rattle.verify.proofs.chains.heads_fit.Tie as tie
@@ -7,39 +7,30 @@ use Rattle.verify.proofs.chains.heads_fit.Lts as lts
 use Rattle.records.proofs.head_word.Reads as head-word-reads
 use Rattle.verify.proofs.layout.capacity.Reads as capacity-reads
 
--- src/lib.rt:108:9
 returns : tie.Need-returns
 returns c = heads-short _ (c .if1 .taken)
 
--- src/lib.rt:111:9
 returns-2 : tie.Need-returns-2
 returns-2 c = heads-long _ (c .if2 .taken)
 
--- src/lib.rt:113:9
 capacity-requires : tie.Need-capacity-requires
 capacity-requires c κs = search needs
 
--- src/lib.rt:114:8
 head-word-requires : tie.Need-head-word-requires
 head-word-requires c κs = search needs
 
--- src/lib.rt:115:9
 returns-3 : tie.Need-returns-3
 returns-3 c = heads-size (c .before .before .before .before .before .before .args .b .now) (c .before .before .before .before .if1 .left) (c .before .before .before .if2 .left) _ (c .before .before .capacity .ensures) _ (c .before .head-word .ensures) (c .if3 .taken)
 
--- src/lib.rt:117:8
 head-word-requires-2 : tie.Need-head-word-requires-2
 head-word-requires-2 c κs = search needs
 
--- src/lib.rt:118:9
 returns-4 : tie.Need-returns-4
 returns-4 c = heads-used (c .before .before .before .before .before .before .before .before .args .b .now) (c .before .before .before .before .before .before .if1 .left) (c .before .before .before .before .before .if2 .left) _ (c .before .before .before .before .capacity .ensures) _ _ (c .before .before .before .head-word .ensures) (c .before .before .if3 .left) (c .before .head-word2 .ensures) (c .if4 .taken)
 
--- src/lib.rt:120:5
 head-word-requires-3 : tie.Need-head-word-requires-3
 head-word-requires-3 c κs = search needs
 
--- src/lib.rt:104:1
 returns-5 : tie.Need-returns-5
 returns-5 c = heads-free (c .before .before .before .before .before .before .before .before .before .args .b .now) (c .before .before .before .before .before .before .before .if1 .left) (c .before .before .before .before .before .before .if2 .left) _ (c .before .before .before .before .before .capacity .ensures) _ _ _ (c .before .before .before .before .head-word .ensures) (c .before .before .before .if3 .left) (c .before .before .head-word2 .ensures) (c .before .if4 .left) (c .head-word3 .ensures)
 

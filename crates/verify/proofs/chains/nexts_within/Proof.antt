@@ -3,7 +3,7 @@ use Prim.Native.Nat.{_≤_}
 use mathlib.Core.Path.{_≡_, sym, subst}
 use Rattle.model.specs.Buffer.{capacityOf}
 use Rattle.verify.proofs.Capacity.{room}
-use Rattle.verify.proofs.Walks.{fit-least, fit-most, Nexts, nexts-start, nexts-stop, nexts-on, nexts-end}
+use Rattle.verify.proofs.Heads.{fit-least, fit-most, Nexts, nexts-start, nexts-stop, nexts-on, nexts-end}
 use Rattle.verify.proofs.chains.nexts_within.Statement.{statement}
 use Rattle.verify.proofs.chains.nexts_within.Tie as tie
 use Rattle.verify.proofs.chains.nexts_within.Reads as reads
@@ -17,35 +17,27 @@ Inv-loop b c i₀ i = (c ≡ capacityOf b) × ((i ≤ c) × Nexts b i)
 abbrev μ-loop : tie.MeasureT-loop
 μ-loop b c i₀ i = i
 
--- src/lib.rt:128:9
 capacity-requires : tie.Need-capacity-requires Inv-loop μ-loop
 capacity-requires c κs = omega (arith, fit-least (c .before .args .b .now) (c .before .pre))
 
--- src/lib.rt:130:5
 loop-holds : tie.Need-loop-holds Inv-loop μ-loop
 loop-holds c = (c .capacity .ensures, (omega arith, subst (Nexts _) (sym (c .capacity .ensures)) (nexts-start (c .before .before .args .b .now))))
 
--- src/lib.rt:131:12
 next-of-requires : tie.Need-next-of-requires Inv-loop μ-loop
 next-of-requires c κs = record { low = omega arith; high = omega (arith, room (c .before .before .before .before .args .b .now) (fit-least _ (c .before .before .before .before .pre)) (fit-most _ (c .before .before .before .before .pre))) }
 
--- src/lib.rt:132:13
 returns : tie.Need-returns Inv-loop μ-loop
 returns c = nexts-stop (c .before .before .before .before .before .before .args .b .now) _ _ (c .before .before .before .loop .inv .1 .1) (c .before .before .loop-test .taken) (c .before .next-of .ensures) (omega arith)
 
--- src/lib.rt:134:9
 sub-i : tie.Need-sub-i Inv-loop μ-loop
 sub-i c = omega arith
 
--- src/lib.rt:130:5
 loop-less : tie.Need-loop-less Inv-loop μ-loop
 loop-less c = omega arith
 
--- src/lib.rt:130:5
 loop-again : tie.Need-loop-again Inv-loop μ-loop
 loop-again c = (c .before .before .before .loop .inv .0, (omega arith, nexts-on (c .before .before .before .before .before .before .args .b .now) _ _ (c .before .before .before .loop .inv .1 .1) (c .before .before .loop-test .taken) (c .before .next-of .ensures) (omega arith)))
 
--- src/lib.rt:124:1
 returns-2 : tie.Need-returns-2 Inv-loop μ-loop
 returns-2 c = nexts-end (c .before .before .before .before .args .b .now) _ (c .before .loop .inv .1 .1) (c .loop-test .left)
 

@@ -18,43 +18,33 @@ Inv-loop b head c left₀ at₀ last₀ left at last = (c ≡ capacityOf b) × W
 abbrev μ-loop : tie.MeasureT-loop
 μ-loop b head c left₀ at₀ last₀ left at last = left
 
--- src/lib.rt:144:9
 capacity-requires : tie.Need-capacity-requires Inv-loop μ-loop
 capacity-requires c κs = omega arith
 
--- src/lib.rt:148:5
 loop-holds : tie.Need-loop-holds Inv-loop μ-loop
 loop-holds c = (c .capacity .ensures, walking-start (c .before .before .args .b .now) (c .before .before .args .head) _ (c .capacity .ensures) (c .before .before .pre .1))
 
--- src/lib.rt:152:24
 sub-t8 : tie.Need-sub-t8 Inv-loop μ-loop
 sub-t8 c = omega arith
 
--- src/lib.rt:150:13
 returns : tie.Need-returns Inv-loop μ-loop
 returns c = ap (λ (k : ℕ). record { ended = false; count = k - c .before .before .loop .left; last = c .before .before .loop .last }) (c .before .before .loop .inv .0) ∙ walking-stop (c .before .before .before .before .before .args .b .now) (c .before .before .before .before .before .args .head) _ _ _ (c .before .before .loop .inv .1) (c .before .loop-test .taken) (c .if1 .taken)
 
--- src/lib.rt:157:9
 next-of-requires : tie.Need-next-of-requires Inv-loop μ-loop
 next-of-requires c κs = record { low = omega arith; high = omega (arith, room (c .before .before .before .before .before .args .b .now) (c .before .before .before .before .before .pre .0 .least) (c .before .before .before .before .before .pre .0 .most)) }
 
--- src/lib.rt:158:9
 sub-left : tie.Need-sub-left Inv-loop μ-loop
 sub-left c = omega arith
 
--- src/lib.rt:148:5
 loop-less : tie.Need-loop-less Inv-loop μ-loop
 loop-less c = omega arith
 
--- src/lib.rt:148:5
 loop-again : tie.Need-loop-again Inv-loop μ-loop
 loop-again c = (c .before .before .before .loop .inv .0, walking-on (c .before .before .before .before .before .before .args .b .now) (c .before .before .before .before .before .before .args .head) _ _ _ _ (c .before .before .before .before .before .before .pre .0) (c .before .before .before .loop .inv .1) (c .before .before .loop-test .taken) (c .before .if1 .left) (c .next-of .ensures))
 
--- src/lib.rt:162:16
 sub-t9 : tie.Need-sub-t9 Inv-loop μ-loop
 sub-t9 c = omega arith
 
--- src/lib.rt:140:1
 returns-2 : tie.Need-returns-2 Inv-loop μ-loop
 returns-2 c = ap (λ (k : ℕ). record { ended = true; count = k - c .before .loop .left; last = c .before .loop .last }) (c .before .loop .inv .0) ∙ walking-end (c .before .before .before .before .args .b .now) (c .before .before .before .before .args .head) _ _ _ (c .before .loop .inv .1) (c .loop-test .left)
 

@@ -32,77 +32,68 @@ Inv-tuples b space₀ at₀ space at = Spanning b space at
 abbrev μ-tuples : tie.MeasureT-tuples
 μ-tuples b space₀ at₀ space at = length (recordsFrom b at)
 
--- src/edge_ends.rt:30:9
 head-word-requires : tie.Need-head-word-requires Inv-loop μ-loop Inv-tuples μ-tuples
 head-word-requires c κs = omega arith
 
--- src/edge_ends.rt:31:9
 next-of-requires : tie.Need-next-of-requires Inv-loop μ-loop Inv-tuples μ-tuples
 next-of-requires c κs = record-inside _ _ (c .before .before .pre .used .walkable) (on-head _ _ (c .before .before .pre .used) (c .head-word .ensures) .high) (head-some _ _ (c .before .before .pre) (c .head-word .ensures))
 
--- src/edge_ends.rt:32:5
 tuples-holds : tie.Need-tuples-holds Inv-loop μ-loop Inv-tuples μ-tuples
 tuples-holds c = spanning-start (c .before .before .before .args .b .now) _ _ (c .before .before .before .pre) (c .before .head-word .ensures) (c .next-of .ensures)
 
--- src/edge_ends.rt:33:13
 key-of-requires : tie.Need-key-of-requires Inv-loop μ-loop Inv-tuples μ-tuples
 key-of-requires c κs = record-inside _ _ (c .before .before .before .before .before .pre .used .walkable) (c .before .tuples .inv .every .on .high) (c .tuples-test .taken)
 
--- src/edge_ends.rt:34:9
 space-start-requires : tie.Need-space-start-requires Inv-loop μ-loop Inv-tuples μ-tuples
 space-start-requires c κs = (record-inside _ _ (c .before .before .before .before .before .before .pre .used .walkable) (c .before .before .tuples .inv .first .on .high) (c .before .before .tuples .inv .named), record-inside _ _ (c .before .before .before .before .before .before .pre .used .walkable) (c .before .before .tuples .inv .every .on .high) (c .before .tuples-test .taken))
 
--- src/edge_ends.rt:36:38
+next-of-requires-2 : tie.Need-next-of-requires-2 Inv-loop μ-loop Inv-tuples μ-tuples
+next-of-requires-2 c κs = record-inside _ _ (c .before .before .before .before .before .before .before .before .before .pre .used .walkable) (c .before .before .before .before .before .tuples .inv .every .on .high) (c .before .before .before .before .tuples-test .taken)
+
+tuples-less : tie.Need-tuples-less Inv-loop μ-loop Inv-tuples μ-tuples
+tuples-less c = fewer (c .before .before .before .before .before .before .before .before .before .before .args .b .now) (c .before .before .before .before .before .before .tuples .at) _ (c .before .before .before .before .before .before .before .before .before .before .pre .used .walkable) (c .before .before .before .before .before .before .tuples .inv .every .on) (c .before .before .before .before .before .tuples-test .taken) (c .next-of2 .ensures)
+
+tuples-again : tie.Need-tuples-again Inv-loop μ-loop Inv-tuples μ-tuples
+tuples-again c = let T : AtTuple (c .before .before .before .before .before .before .before .before .before .before .args .b .now) (c .before .before .before .before .before .before .tuples .space) (c .before .before .before .before .before .before .tuples .at) (c .before .before .before .space-start .result) (c .before .before .before .before .key-of .result) = record { walkable = c .before .before .before .before .before .before .before .before .before .before .pre .used .walkable; spanning = c .before .before .before .before .before .before .tuples .inv; some = c .before .before .before .before .before .tuples-test .taken; start = c .before .before .before .space-start .ensures; key = c .before .before .before .before .key-of .ensures } in go-on _ _ _ _ _ T _ (c .next-of2 .ensures) (no-edge _ _ _ _ _ T (c .before .if1 .taken))
+
 node-key-requires : tie.Need-node-key-requires Inv-loop μ-loop Inv-tuples μ-tuples
 node-key-requires c κs = tt
 
--- src/edge_ends.rt:36:17
 holds-from-requires : tie.Need-holds-from-requires Inv-loop μ-loop Inv-tuples μ-tuples
 holds-from-requires c κs = own-space (c .before .before .before .before .before .before .before .before .before .before .args .b .now) (c .before .before .before .before .before .before .tuples .space) (c .before .before .before .before .before .before .tuples .at) (c .before .before .before .space-start .result) (c .before .before .before .before .key-of .result) (record { walkable = c .before .before .before .before .before .before .before .before .before .before .pre .used .walkable; spanning = c .before .before .before .before .before .before .tuples .inv; some = c .before .before .before .before .before .tuples-test .taken; start = c .before .before .before .space-start .ensures; key = c .before .before .before .before .key-of .ensures })
 
--- src/edge_ends.rt:39:17
 node-key-requires-2 : tie.Need-node-key-requires-2 Inv-loop μ-loop Inv-tuples μ-tuples
 node-key-requires-2 c κs = tt
 
--- src/edge_ends.rt:41:13
 loop-holds : tie.Need-loop-holds Inv-loop μ-loop Inv-tuples μ-tuples
 loop-holds c = seek-start (c .before .before .before .before .before .before .before .before .before .before .before .before .before .args .b .now) (c .node-key2 .result) (c .before .before .before .before .before .before .space-start .result) (own-space (c .before .before .before .before .before .before .before .before .before .before .before .before .before .args .b .now) (c .before .before .before .before .before .before .before .before .before .tuples .space) (c .before .before .before .before .before .before .before .before .before .tuples .at) (c .before .before .before .before .before .before .space-start .result) (c .before .before .before .before .before .before .before .key-of .result) (record { walkable = c .before .before .before .before .before .before .before .before .before .before .before .before .before .pre .used .walkable; spanning = c .before .before .before .before .before .before .before .before .before .tuples .inv; some = c .before .before .before .before .before .before .before .before .tuples-test .taken; start = c .before .before .before .before .before .before .space-start .ensures; key = c .before .before .before .before .before .before .before .key-of .ensures }))
 
--- src/edge_ends.rt:41:20
 is-at-requires : tie.Need-is-at-requires Inv-loop μ-loop Inv-tuples μ-tuples
 is-at-requires c κs = (c .loop .inv .seekable .walkable, c .loop .inv .seekable .on .high)
 
--- src/edge_ends.rt:42:21
 is-before-requires : tie.Need-is-before-requires Inv-loop μ-loop Inv-tuples μ-tuples
 is-before-requires c κs = (c .before .before .loop .inv .seekable .walkable, c .before .before .loop .inv .seekable .on .high)
 
--- src/edge_ends.rt:45:17
-next-of-requires-2 : tie.Need-next-of-requires-2 Inv-loop μ-loop Inv-tuples μ-tuples
-next-of-requires-2 c κs = record-inside _ _ (c .before .before .before .before .loop .inv .seekable .walkable) (c .before .before .before .before .loop .inv .seekable .on .high) (before-not-none (c .before .before .before .before .before .before .before .before .before .before .before .before .before .before .before .before .before .before .args .b .now) _ (c .before .before .before .before .before .node-key2 .result) (sym (c .before .is-before .ensures) ∙ not-false _ (c .if4 .left)))
-
--- src/edge_ends.rt:41:13
-loop-less : tie.Need-loop-less Inv-loop μ-loop Inv-tuples μ-tuples
-loop-less c = seek-fewer (c .before .before .before .before .before .before .before .before .before .before .before .before .before .before .before .before .before .before .before .args .b .now) (c .before .before .before .before .before .before .node-key2 .result) (c .before .before .before .before .before .before .before .before .before .before .before .before .space-start .result) (c .before .before .before .before .before .loop .seek) (c .before .before .before .before .before .loop .inv) (c .next-of2 .result) (sym (c .before .before .is-before .ensures) ∙ not-false _ (c .before .if4 .left)) (c .next-of2 .ensures)
-
--- src/edge_ends.rt:41:13
-loop-again : tie.Need-loop-again Inv-loop μ-loop Inv-tuples μ-tuples
-loop-again c = seek-next (c .before .before .before .before .before .before .before .before .before .before .before .before .before .before .before .before .before .before .before .args .b .now) (c .before .before .before .before .before .before .node-key2 .result) (c .before .before .before .before .before .before .before .before .before .before .before .before .space-start .result) (c .before .before .before .before .before .loop .seek) (c .before .before .before .before .before .loop .inv) (c .next-of2 .result) (sym (c .before .before .is-before .ensures) ∙ not-false _ (c .before .if4 .left)) (c .next-of2 .ensures)
-
--- src/edge_ends.rt:48:9
 next-of-requires-3 : tie.Need-next-of-requires-3 Inv-loop μ-loop Inv-tuples μ-tuples
-next-of-requires-3 c κs = record-inside _ _ (c .before .before .before .before .before .before .before .before .before .pre .used .walkable) (c .before .before .before .before .before .tuples .inv .every .on .high) (c .before .before .before .before .tuples-test .taken)
+next-of-requires-3 c κs = record-inside _ _ (c .before .before .before .before .loop .inv .seekable .walkable) (c .before .before .before .before .loop .inv .seekable .on .high) (before-not-none (c .before .before .before .before .before .before .before .before .before .before .before .before .before .before .before .before .before .before .args .b .now) _ (c .before .before .before .before .before .node-key2 .result) (sym (c .before .is-before .ensures) ∙ not-false _ (c .if4 .left)))
 
--- src/edge_ends.rt:32:5
-tuples-less : tie.Need-tuples-less Inv-loop μ-loop Inv-tuples μ-tuples
-tuples-less c = fewer (c .before .before .before .before .before .before .before .before .before .before .args .b .now) (c .before .before .before .before .before .before .tuples .at) _ (c .before .before .before .before .before .before .before .before .before .before .pre .used .walkable) (c .before .before .before .before .before .before .tuples .inv .every .on) (c .before .before .before .before .before .tuples-test .taken) (c .next-of3 .ensures)
+loop-less : tie.Need-loop-less Inv-loop μ-loop Inv-tuples μ-tuples
+loop-less c = seek-fewer (c .before .before .before .before .before .before .before .before .before .before .before .before .before .before .before .before .before .before .before .args .b .now) (c .before .before .before .before .before .before .node-key2 .result) (c .before .before .before .before .before .before .before .before .before .before .before .before .space-start .result) (c .before .before .before .before .before .loop .seek) (c .before .before .before .before .before .loop .inv) (c .next-of3 .result) (sym (c .before .before .is-before .ensures) ∙ not-false _ (c .before .if4 .left)) (c .next-of3 .ensures)
 
--- src/edge_ends.rt:32:5
-tuples-again : tie.Need-tuples-again Inv-loop μ-loop Inv-tuples μ-tuples
-tuples-again c = let T : AtTuple (c .before .before .before .before .before .before .before .before .before .before .args .b .now) (c .before .before .before .before .before .before .tuples .space) (c .before .before .before .before .before .before .tuples .at) (c .before .before .before .space-start .result) (c .before .before .before .before .key-of .result) = record { walkable = c .before .before .before .before .before .before .before .before .before .before .pre .used .walkable; spanning = c .before .before .before .before .before .before .tuples .inv; some = c .before .before .before .before .before .tuples-test .taken; start = c .before .before .before .space-start .ensures; key = c .before .before .before .before .key-of .ensures } in go-on _ _ _ _ _ T _ (c .next-of3 .ensures) (⊎-elim (λ w. both-ends _ _ _ _ _ T (w .0 .taken) _ (w .1 .ensures) (w .2 .result) (w .2 .ensures) (w .4 .result) (w .4 .ensures) (w .5 .seek) (w .5 .inv) (not-false _ (w .3 .left)) (sym (w .6 .ensures) ∙ not-false _ (w .7 .left))) (λ w. no-edge _ _ _ _ _ T (w .left)) (c .before .if1 .came))
+loop-again : tie.Need-loop-again Inv-loop μ-loop Inv-tuples μ-tuples
+loop-again c = seek-next (c .before .before .before .before .before .before .before .before .before .before .before .before .before .before .before .before .before .before .before .args .b .now) (c .before .before .before .before .before .before .node-key2 .result) (c .before .before .before .before .before .before .before .before .before .before .before .before .space-start .result) (c .before .before .before .before .before .loop .seek) (c .before .before .before .before .before .loop .inv) (c .next-of3 .result) (sym (c .before .before .is-before .ensures) ∙ not-false _ (c .before .if4 .left)) (c .next-of3 .ensures)
 
--- src/edge_ends.rt:26:1
+next-of-requires-4 : tie.Need-next-of-requires-4 Inv-loop μ-loop Inv-tuples μ-tuples
+next-of-requires-4 c κs = record-inside _ _ (c .before .before .before .before .before .before .before .before .before .before .before .before .before .before .before .before .pre .used .walkable) (c .before .before .before .before .before .before .before .before .before .before .before .before .tuples .inv .every .on .high) (c .before .before .before .before .before .before .before .before .before .before .before .tuples-test .taken)
+
+tuples-less-2 : tie.Need-tuples-less-2 Inv-loop μ-loop Inv-tuples μ-tuples
+tuples-less-2 c = fewer (c .before .before .before .before .before .before .before .before .before .before .before .before .before .before .before .before .before .args .b .now) (c .before .before .before .before .before .before .before .before .before .before .before .before .before .tuples .at) _ (c .before .before .before .before .before .before .before .before .before .before .before .before .before .before .before .before .before .pre .used .walkable) (c .before .before .before .before .before .before .before .before .before .before .before .before .before .tuples .inv .every .on) (c .before .before .before .before .before .before .before .before .before .before .before .before .tuples-test .taken) (c .next-of4 .ensures)
+
+tuples-again-2 : tie.Need-tuples-again-2 Inv-loop μ-loop Inv-tuples μ-tuples
+tuples-again-2 c = let T : AtTuple (c .before .before .before .before .before .before .before .before .before .before .before .before .before .before .before .before .before .args .b .now) (c .before .before .before .before .before .before .before .before .before .before .before .before .before .tuples .space) (c .before .before .before .before .before .before .before .before .before .before .before .before .before .tuples .at) (c .before .before .before .before .before .before .before .before .before .before .space-start .result) (c .before .before .before .before .before .before .before .before .before .before .before .key-of .result) = record { walkable = c .before .before .before .before .before .before .before .before .before .before .before .before .before .before .before .before .before .pre .used .walkable; spanning = c .before .before .before .before .before .before .before .before .before .before .before .before .before .tuples .inv; some = c .before .before .before .before .before .before .before .before .before .before .before .before .tuples-test .taken; start = c .before .before .before .before .before .before .before .before .before .before .space-start .ensures; key = c .before .before .before .before .before .before .before .before .before .before .before .key-of .ensures } in go-on _ _ _ _ _ T _ (c .next-of4 .ensures) (both-ends _ _ _ _ _ T (c .before .before .before .before .before .before .before .before .if1 .left) (c .before .before .before .before .before .before .before .node-key .result) (c .before .before .before .before .before .before .before .node-key .ensures) (c .before .before .before .before .before .before .holds-from .result) (c .before .before .before .before .before .before .holds-from .ensures) (c .before .before .before .before .node-key2 .result) (c .before .before .before .before .node-key2 .ensures) (c .before .before .before .loop .seek) (c .before .before .before .loop .inv) (not-false _ (c .before .before .before .before .before .if2 .left)) (sym (c .before .before .is-at .ensures) ∙ not-false _ (c .before .if3 .left)))
+
 returns : tie.Need-returns Inv-loop μ-loop Inv-tuples μ-tuples
-returns c = ⊎-elim (λ w. finish (c .before .before .before .before .before .args .b .now) (c .before .tuples .space) (c .before .tuples .at) (c .before .tuples .inv) (w .0 .left)) (⊎-elim (λ w. let T : AtTuple (c .before .before .before .before .before .args .b .now) (c .before .tuples .space) (c .before .tuples .at) (w .2 .result) (w .1 .result) = record { walkable = c .before .before .before .before .before .pre .used .walkable; spanning = c .before .tuples .inv; some = w .0 .taken; start = w .2 .ensures; key = w .1 .ensures } in leave _ _ _ _ _ T (no-first-end _ _ _ _ _ T (w .4 .taken) (w .5 .result) (w .5 .ensures) (w .6 .result) (w .6 .ensures) (not-true _ (w .7 .taken)))) (λ w. let T : AtTuple (c .before .before .before .before .before .args .b .now) (c .before .tuples .space) (c .before .tuples .at) (w .2 .result) (w .1 .result) = record { walkable = c .before .before .before .before .before .pre .used .walkable; spanning = c .before .tuples .inv; some = w .0 .taken; start = w .2 .ensures; key = w .1 .ensures } in leave _ _ _ _ _ T (no-second-end _ _ _ _ _ T (w .4 .taken) (w .5 .result) (w .5 .ensures) (w .6 .result) (w .6 .ensures) (w .8 .result) (w .8 .ensures) (w .9 .seek) (w .9 .inv) (sym (w .10 .ensures) ∙ not-true _ (w .11 .taken)) (sym (w .12 .ensures) ∙ not-true _ (w .13 .taken))))) (c .tuples-test .came)
+returns c = ⊎-elim (λ w. finish (c .before .before .before .before .before .args .b .now) (c .before .tuples .space) (c .before .tuples .at) (c .before .tuples .inv) (w .0 .left)) (⊎-elim (λ w. let T : AtTuple (c .before .before .before .before .before .args .b .now) (c .before .tuples .space) (c .before .tuples .at) (w .2 .result) (w .1 .result) = record { walkable = c .before .before .before .before .before .pre .used .walkable; spanning = c .before .tuples .inv; some = w .0 .taken; start = w .2 .ensures; key = w .1 .ensures } in leave _ _ _ _ _ T (no-first-end _ _ _ _ _ T (w .4 .left) (w .5 .result) (w .5 .ensures) (w .6 .result) (w .6 .ensures) (not-true _ (w .7 .taken)))) (λ w. let T : AtTuple (c .before .before .before .before .before .args .b .now) (c .before .tuples .space) (c .before .tuples .at) (w .2 .result) (w .1 .result) = record { walkable = c .before .before .before .before .before .pre .used .walkable; spanning = c .before .tuples .inv; some = w .0 .taken; start = w .2 .ensures; key = w .1 .ensures } in leave _ _ _ _ _ T (no-second-end _ _ _ _ _ T (w .4 .left) (w .5 .result) (w .5 .ensures) (w .6 .result) (w .6 .ensures) (w .8 .result) (w .8 .ensures) (w .9 .seek) (w .9 .inv) (sym (w .10 .ensures) ∙ not-true _ (w .11 .taken)) (sym (w .12 .ensures) ∙ not-true _ (w .13 .taken))))) (c .tuples-test .came)
 
 pub edges-ended-spec : {M : Type 1} → statement M
 edges-ended-spec =
@@ -117,16 +108,19 @@ edges-ended-spec =
     tuples-holds
     key-of-requires
     space-start-requires
+    next-of-requires-2
+    tuples-less
+    tuples-again
     node-key-requires
     holds-from-requires
     node-key-requires-2
     loop-holds
     is-at-requires
     is-before-requires
-    next-of-requires-2
+    next-of-requires-3
     loop-less
     loop-again
-    next-of-requires-3
-    tuples-less
-    tuples-again
+    next-of-requires-4
+    tuples-less-2
+    tuples-again-2
     returns)

@@ -6,19 +6,15 @@ use Rattle.verify.proofs.edge_ends.space_start.Reads as reads
 use Rattle.verify.proofs.edge_ends.space_start.Lts as lts
 use Rattle.records.proofs.key_of.Reads as key-of-reads
 
--- src/lib.rt:374:9
 key-of-requires : tie.Need-key-of-requires
 key-of-requires c κs = search needs
 
--- src/lib.rt:375:9
 key-of-requires-2 : tie.Need-key-of-requires-2
 key-of-requires-2 c κs = search needs
 
--- src/lib.rt:377:9
 returns : tie.Need-returns
 returns c = start-same (c .before .before .before .before .before .before .args .b .now) (c .before .before .before .before .before .before .args .first) (c .before .before .before .before .before .before .args .i) (c .before .before .before .before .key-of .result) (c .before .before .before .key-of2 .result) (c .before .before .before .before .key-of .ensures) (c .before .before .before .key-of2 .ensures) (c .if1 .taken)
 
--- src/lib.rt:370:1
 returns-2 : tie.Need-returns-2
 returns-2 c = start-other (c .before .before .before .before .before .before .args .b .now) (c .before .before .before .before .before .before .args .first) (c .before .before .before .before .before .before .args .i) (c .before .before .before .before .key-of .result) (c .before .before .before .key-of2 .result) (c .before .before .before .before .key-of .ensures) (c .before .before .before .key-of2 .ensures) (c .if1 .left)
 

@@ -17,48 +17,37 @@ Inv-loop b₀ c n₀ b n = (n ≤ c - 1) × (b ≡ chained c b₀ n)
 abbrev μ-loop : tie.MeasureT-loop
 μ-loop b₀ c n₀ b n = c - n
 
--- src/lib.rt:56:5
 loop-holds : tie.Need-loop-holds Inv-loop μ-loop
 unfolding chained
 loop-holds c = (omega arith, refl)
 
--- src/lib.rt:56:11
 add-loop : tie.Need-add-loop Inv-loop μ-loop
 add-loop c = omega arith
 
--- src/lib.rt:57:32
 add-follower-of : tie.Need-add-follower-of Inv-loop μ-loop
 add-follower-of c = omega arith
 
--- src/lib.rt:57:13
 follower-of-requires : tie.Need-follower-of-requires Inv-loop μ-loop
 follower-of-requires c κs = omega arith
 
--- src/lib.rt:58:30
 add-put-next : tie.Need-add-put-next Inv-loop μ-loop
 add-put-next c = omega arith
 
--- src/lib.rt:58:9
 put-next-requires : tie.Need-put-next-requires Inv-loop μ-loop
 put-next-requires c κs = (record { low = omega arith; high = omega (arith, ap length (c .before .before .before .loop .inv .1), chained-length (c .before .before .before .before .before .args .c) (c .before .before .before .before .before .args .b .now) (c .before .before .before .loop .n)) }, omega (arith, follower-most (c .before .before .before .before .before .args .c) (c .before .before .before .loop .n + 2)))
 
--- src/lib.rt:59:9
 add-n : tie.Need-add-n Inv-loop μ-loop
 add-n c = omega arith
 
--- src/lib.rt:56:5
 loop-less : tie.Need-loop-less Inv-loop μ-loop
 loop-less c = omega arith
 
--- src/lib.rt:56:5
 loop-again : tie.Need-loop-again Inv-loop μ-loop
 loop-again c = (omega arith, chained-more _ _ (c .before .before .before .before .before .before .loop .n) (c .before .before .before .before .before .before .loop .b) (c .before .before .put-next .last .0) (c .before .before .before .before .follower-of .result) (c .before .before .before .before .before .before .loop .inv .1) (c .before .before .before .before .follower-of .ensures) (c .before .before .put-next .ensures))
 
--- src/lib.rt:51:1
 same-length : tie.Need-same-length Inv-loop μ-loop
 same-length c = ap length (c .before .loop .inv .1) ∙ chained-length _ _ _
 
--- src/lib.rt:51:1
 returns : tie.Need-returns Inv-loop μ-loop
 returns c = c .before .loop .inv .1 ∙ ap (chained _ _) (omega arith)
 

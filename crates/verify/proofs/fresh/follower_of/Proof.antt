@@ -5,15 +5,12 @@ use Rattle.verify.proofs.fresh.follower_of.Tie as tie
 use Rattle.verify.proofs.fresh.follower_of.Reads as reads
 use Rattle.verify.proofs.fresh.follower_of.Lts as lts
 
--- src/lib.rt:24:16
 add-result : tie.Need-add-result
 add-result c = search needs
 
--- src/lib.rt:24:9
 returns : tie.Need-returns
 returns c = follower-on _ _ (c .if1 .taken)
 
--- src/lib.rt:19:1
 returns-2 : tie.Need-returns-2
 returns-2 c = follower-last _ _ (c .if1 .left)
 

@@ -9,31 +9,24 @@ use Rattle.verify.proofs.fresh.put_heads.Lts as lts
 use Rattle.records.proofs.put_head_word.Reads as put-head-word-reads
 use Rattle.verify.proofs.fresh.follower_of.Reads as follower-of-reads
 
--- src/lib.rt:34:9
 follower-of-requires : tie.Need-follower-of-requires
 follower-of-requires c κs = search needs
 
--- src/lib.rt:35:5
 put-head-word-requires : tie.Need-put-head-word-requires
 put-head-word-requires c κs = search needs
 
--- src/lib.rt:36:5
 put-head-word-requires-2 : tie.Need-put-head-word-requires-2
 put-head-word-requires-2 c κs = search needs
 
--- src/lib.rt:37:5
 put-head-word-requires-3 : tie.Need-put-head-word-requires-3
 put-head-word-requires-3 c κs = (omega arith, omega (arith, follower-most (c .before .before .before .before .before .before .before .before .before .before .before .args .c) 1))
 
--- src/lib.rt:38:5
 put-head-word-requires-4 : tie.Need-put-head-word-requires-4
 put-head-word-requires-4 c κs = search needs
 
--- src/lib.rt:30:1
 same-length : tie.Need-same-length
 same-length c = search needs
 
--- src/lib.rt:30:1
 returns : tie.Need-returns
 returns c = heads-put (c .before .before .before .before .before .before .before .before .before .before .before .before .before .before .before .before .before .before .args .b .now) (c .before .before .before .before .before .before .before .before .before .before .before .before .before .before .put-head-word .last .0) (c .before .before .before .before .before .before .before .before .before .before .put-head-word2 .last .0) (c .before .before .before .before .before .before .put-head-word3 .last .0) (c .before .before .put-head-word4 .last .0) (c .before .before .before .before .before .before .before .before .before .before .before .before .before .before .before .before .before .before .args .c) (c .before .before .before .before .before .before .before .before .before .before .before .before .before .before .before .before .follower-of .result) (c .before .before .before .before .before .before .before .before .before .before .before .before .before .before .before .before .follower-of .ensures) (c .before .before .before .before .before .before .before .before .before .before .before .before .before .before .put-head-word .ensures) (c .before .before .before .before .before .before .before .before .before .before .put-head-word2 .ensures) (c .before .before .before .before .before .before .put-head-word3 .ensures) (c .before .before .put-head-word4 .ensures)
 

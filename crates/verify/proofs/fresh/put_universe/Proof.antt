@@ -8,23 +8,18 @@ use Rattle.records.proofs.put_next.Reads as put-next-reads
 use Rattle.records.proofs.put_tuple.Reads as put-tuple-reads
 use Rattle.verify.proofs.layout.node_key.Reads as node-key-reads
 
--- src/fresh.rt:37:9
 node-key-requires : tie.Need-node-key-requires
 node-key-requires c κs = search needs
 
--- src/fresh.rt:38:5
 put-next-requires : tie.Need-put-next-requires
 put-next-requires c κs = search needs
 
--- src/fresh.rt:39:5
 put-tuple-requires : tie.Need-put-tuple-requires
 put-tuple-requires c κs = search needs
 
--- src/fresh.rt:33:1
 same-length : tie.Need-same-length
 same-length c = search needs
 
--- src/fresh.rt:33:1
 returns : tie.Need-returns
 returns c = universe-put (c .before .before .before .before .before .before .before .before .before .before .args .b .now) (c .before .before .before .before .before .before .put-next .last .0) (c .before .before .put-tuple .last .0) (c .before .before .before .before .before .before .before .before .node-key .result) (c .before .before .before .before .before .before .before .before .node-key .ensures) (c .before .before .before .before .before .before .put-next .ensures) (c .before .before .put-tuple .ensures)
 

@@ -8,19 +8,15 @@ use Rattle.verify.proofs.keys.key_good.Lts as lts
 use Rattle.verify.proofs.keys.key_shaped.Reads as key-shaped-reads
 use Rattle.verify.proofs.keys.key_small.Reads as key-small-reads
 
--- src/lib.rt:250:9
 key-small-requires : tie.Need-key-small-requires
 key-small-requires c κs = search needs
 
--- src/lib.rt:251:9
 returns : tie.Need-returns
 returns c = good-no (c .before .before .args .k) _ (c .before .key-small .ensures) (not-true _ (c .if1 .taken))
 
--- src/lib.rt:253:5
 key-shaped-requires : tie.Need-key-shaped-requires
 key-shaped-requires c κs = search needs
 
--- src/lib.rt:247:1
 returns-2 : tie.Need-returns-2
 returns-2 c = good-rest (c .before .before .before .args .k) _ _ (c .before .before .key-small .ensures) (not-false _ (c .before .if1 .left)) (c .key-shaped .ensures)
 

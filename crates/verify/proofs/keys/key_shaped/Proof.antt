@@ -4,15 +4,12 @@ use Rattle.verify.proofs.keys.key_shaped.Tie as tie
 use Rattle.verify.proofs.keys.key_shaped.Reads as reads
 use Rattle.verify.proofs.keys.key_shaped.Lts as lts
 
--- src/lib.rt:238:9
 returns : tie.Need-returns
 returns c = shaped-node (c .before .before .before .args .k) (c .before .if1 .taken)
 
--- src/lib.rt:241:9
 returns-2 : tie.Need-returns-2
 returns-2 c = shaped-nameless (c .before .before .before .before .args .k) (c .before .before .if1 .left) (c .if2 .taken)
 
--- src/lib.rt:234:1
 returns-3 : tie.Need-returns-3
 returns-3 c = shaped-edge (c .before .before .before .before .before .args .k) (c .before .before .before .if1 .left) (c .before .if2 .left)
 

@@ -4,19 +4,15 @@ use Rattle.verify.proofs.keys.key_small.Tie as tie
 use Rattle.verify.proofs.keys.key_small.Reads as reads
 use Rattle.verify.proofs.keys.key_small.Lts as lts
 
--- src/lib.rt:222:9
 returns : tie.Need-returns
 returns c = small-s (c .before .before .args .k) (c .if1 .taken)
 
--- src/lib.rt:225:9
 returns-2 : tie.Need-returns-2
 returns-2 c = small-n (c .before .before .before .before .args .k) (c .before .before .if1 .left) (c .if2 .taken)
 
--- src/lib.rt:228:9
 returns-3 : tie.Need-returns-3
 returns-3 c = small-g (c .before .before .before .before .before .before .args .k) (c .before .before .before .before .if1 .left) (c .before .before .if2 .left) (c .if3 .taken)
 
--- src/lib.rt:218:1
 returns-4 : tie.Need-returns-4
 returns-4 c = small-m (c .before .before .before .before .before .before .before .args .k) (c .before .before .before .before .before .if1 .left) (c .before .before .before .if2 .left) (c .before .if3 .left)
 

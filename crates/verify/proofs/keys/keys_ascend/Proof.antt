@@ -22,63 +22,48 @@ Inv-loop b head key₀ at₀ key at = AscendsLeft b key at
 abbrev μ-loop : tie.MeasureT-loop
 μ-loop b head key₀ at₀ key at = length (recordsFrom b at)
 
--- src/keys.rt:13:9
 head-word-requires : tie.Need-head-word-requires Inv-loop μ-loop
 head-word-requires c κs = omega arith
 
--- src/keys.rt:15:9
 returns : tie.Need-returns Inv-loop μ-loop
 returns c = ascends-empty (c .before .before .before .args .b .now) (c .before .before .before .pre) _ (c .before .head-word .ensures) (c .if1 .taken)
 
--- src/keys.rt:17:9
 key-of-requires : tie.Need-key-of-requires Inv-loop μ-loop
 key-of-requires c κs = record-inside _ _ (c .before .before .before .pre .walkable) (on-head _ _ (c .before .before .before .pre) (c .before .head-word .ensures) .high) (c .if1 .left)
 
--- src/keys.rt:18:32
 node-key-requires : tie.Need-node-key-requires Inv-loop μ-loop
 node-key-requires c κs = tt
 
--- src/keys.rt:18:9
 key-same-requires : tie.Need-key-same-requires Inv-loop μ-loop
 key-same-requires c κs = tt
 
--- src/keys.rt:19:9
 returns-2 : tie.Need-returns-2 Inv-loop μ-loop
 returns-2 c = ascends-not-first (c .before .before .before .before .before .before .before .args .b .now) (c .before .before .before .before .before .before .before .pre) _ (c .before .before .before .before .before .head-word .ensures) (c .before .before .before .before .if1 .left) (c .before .before .before .key-of .result) (c .before .before .before .key-of .ensures) (ap (sameKey (c .before .before .before .key-of .result)) (sym (c .before .before .node-key .ensures)) ∙ sym (c .before .key-same .ensures) ∙ not-true _ (c .if2 .taken))
 
--- src/keys.rt:21:9
 next-of-requires : tie.Need-next-of-requires Inv-loop μ-loop
 next-of-requires c κs = record-inside _ _ (c .before .before .before .before .before .before .before .pre .walkable) (on-head _ _ (c .before .before .before .before .before .before .before .pre) (c .before .before .before .before .before .head-word .ensures) .high) (c .before .before .before .before .if1 .left)
 
--- src/keys.rt:22:5
 loop-holds : tie.Need-loop-holds Inv-loop μ-loop
 loop-holds c = ascends-start (c .before .before .before .before .before .before .before .before .args .b .now) (c .before .before .before .before .before .before .before .before .pre) _ _ (c .before .before .before .before .before .before .head-word .ensures) (c .before .before .before .before .before .if1 .left) (c .next-of .ensures) (c .before .before .before .before .key-of .result) (c .before .before .before .before .key-of .ensures) (ap (sameKey (c .before .before .before .before .key-of .result)) (sym (c .before .before .before .node-key .ensures)) ∙ sym (c .before .before .key-same .ensures) ∙ not-false _ (c .before .if2 .left))
 
--- src/keys.rt:23:13
 key-of-requires-2 : tie.Need-key-of-requires-2 Inv-loop μ-loop
 key-of-requires-2 c κs = record-inside _ _ (c .before .before .before .before .before .before .before .before .before .before .pre .walkable) (c .before .loop .inv .on .high) (c .loop-test .taken)
 
--- src/keys.rt:24:13
 key-below-requires : tie.Need-key-below-requires Inv-loop μ-loop
 key-below-requires c κs = tt
 
--- src/keys.rt:25:13
 returns-3 : tie.Need-returns-3 Inv-loop μ-loop
 returns-3 c = ascends-no (c .before .before .before .before .before .before .before .before .before .before .before .before .before .args .b .now) (c .before .before .before .before .before .before .before .before .before .before .before .before .before .pre) (c .before .before .before .before .loop .key) (c .before .before .before .before .loop .at) (c .before .before .before .before .loop .inv) (c .before .before .before .loop-test .taken) (c .before .before .key-of2 .result) (c .before .before .key-of2 .ensures) (sym (c .before .key-below .ensures) ∙ not-true _ (c .if3 .taken))
 
--- src/keys.rt:28:9
 next-of-requires-2 : tie.Need-next-of-requires-2 Inv-loop μ-loop
 next-of-requires-2 c κs = record-inside _ _ (c .before .before .before .before .before .before .before .before .before .before .before .before .before .pre .walkable) (c .before .before .before .before .loop .inv .on .high) (c .before .before .before .loop-test .taken)
 
--- src/keys.rt:22:5
 loop-less : tie.Need-loop-less Inv-loop μ-loop
 loop-less c = fewer (c .before .before .before .before .before .before .before .before .before .before .before .before .before .before .args .b .now) (c .before .before .before .before .before .loop .at) _ (c .before .before .before .before .before .before .before .before .before .before .before .before .before .before .pre .walkable) (c .before .before .before .before .before .loop .inv .on) (c .before .before .before .before .loop-test .taken) (c .next-of2 .ensures)
 
--- src/keys.rt:22:5
 loop-again : tie.Need-loop-again Inv-loop μ-loop
 loop-again c = ascends-next (c .before .before .before .before .before .before .before .before .before .before .before .before .before .before .args .b .now) (c .before .before .before .before .before .before .before .before .before .before .before .before .before .before .pre) (c .before .before .before .before .before .loop .key) (c .before .before .before .before .before .loop .at) _ (c .before .before .before .before .before .loop .inv) (c .before .before .before .before .loop-test .taken) (c .next-of2 .ensures) (c .before .before .before .key-of2 .result) (c .before .before .before .key-of2 .ensures) (sym (c .before .before .key-below .ensures) ∙ not-false _ (c .before .if3 .left))
 
--- src/keys.rt:9:1
 returns-4 : tie.Need-returns-4 Inv-loop μ-loop
 returns-4 c = ascends-end (c .before .before .before .before .before .before .before .before .before .before .args .b .now) (c .before .before .before .before .before .before .before .before .before .before .pre) (c .before .loop .key) (c .before .loop .at) (c .before .loop .inv) (c .loop-test .left)
 

@@ -19,39 +19,30 @@ Inv-loop b at₀ at = EveryLeft goodKey b at
 abbrev μ-loop : tie.MeasureT-loop
 μ-loop b at₀ at = length (recordsFrom b at)
 
--- src/lib.rt:261:9
 head-word-requires : tie.Need-head-word-requires Inv-loop μ-loop
 head-word-requires c κs = omega arith
 
--- src/lib.rt:262:5
 loop-holds : tie.Need-loop-holds Inv-loop μ-loop
 loop-holds c = every-start goodKey (c .before .before .args .b .now) _ (c .before .before .pre) (c .head-word .ensures)
 
--- src/lib.rt:263:22
 key-of-requires : tie.Need-key-of-requires Inv-loop μ-loop
 key-of-requires c κs = record-inside _ _ (c .before .before .before .before .pre .walkable) (c .before .loop .inv .on .high) (c .loop-test .taken)
 
--- src/lib.rt:263:13
 key-good-requires : tie.Need-key-good-requires Inv-loop μ-loop
 key-good-requires c κs = tt
 
--- src/lib.rt:264:13
 returns : tie.Need-returns Inv-loop μ-loop
 returns c = every-no goodKey (c .before .before .before .before .before .before .before .args .b .now) (c .before .before .before .before .loop .at) (c .before .before .before .before .before .before .before .pre .walkable) (c .before .before .before .before .loop .inv) (c .before .before .before .loop-test .taken) (ap goodKey (sym (c .before .before .key-of .ensures)) ∙ sym (c .before .key-good .ensures) ∙ not-true _ (c .if1 .taken))
 
--- src/lib.rt:266:9
 next-of-requires : tie.Need-next-of-requires Inv-loop μ-loop
 next-of-requires c κs = record-inside _ _ (c .before .before .before .before .before .before .before .pre .walkable) (c .before .before .before .before .loop .inv .on .high) (c .before .before .before .loop-test .taken)
 
--- src/lib.rt:262:5
 loop-less : tie.Need-loop-less Inv-loop μ-loop
 loop-less c = fewer (c .before .before .before .before .before .before .before .before .args .b .now) (c .before .before .before .before .before .loop .at) _ (c .before .before .before .before .before .before .before .before .pre .walkable) (c .before .before .before .before .before .loop .inv .on) (c .before .before .before .before .loop-test .taken) (c .next-of .ensures)
 
--- src/lib.rt:262:5
 loop-again : tie.Need-loop-again Inv-loop μ-loop
 loop-again c = every-next goodKey (c .before .before .before .before .before .before .before .before .args .b .now) (c .before .before .before .before .before .loop .at) _ (c .before .before .before .before .before .before .before .before .pre .walkable) (c .before .before .before .before .before .loop .inv) (c .before .before .before .before .loop-test .taken) (c .next-of .ensures) (ap goodKey (sym (c .before .before .before .key-of .ensures)) ∙ sym (c .before .before .key-good .ensures) ∙ not-false _ (c .before .if1 .left))
 
--- src/lib.rt:257:1
 returns-2 : tie.Need-returns-2 Inv-loop μ-loop
 returns-2 c = every-end goodKey (c .before .before .before .before .args .b .now) (c .before .loop .at) (c .before .loop .inv) (c .loop-test .left)
 

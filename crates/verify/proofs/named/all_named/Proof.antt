@@ -20,39 +20,30 @@ Inv-loop b at₀ at = EveryLeft (namedPresent (tuplesOf b)) b at
 abbrev μ-loop : tie.MeasureT-loop
 μ-loop b at₀ at = length (recordsFrom b at)
 
--- src/lib.rt:359:9
 head-word-requires : tie.Need-head-word-requires Inv-loop μ-loop
 head-word-requires c κs = omega arith
 
--- src/lib.rt:360:5
 loop-holds : tie.Need-loop-holds Inv-loop μ-loop
 loop-holds c = every-start (namedPresent (tuplesOf (c .before .before .args .b .now))) (c .before .before .args .b .now) _ (c .before .before .pre .used) (c .head-word .ensures)
 
--- src/lib.rt:361:30
 key-of-requires : tie.Need-key-of-requires Inv-loop μ-loop
 key-of-requires c κs = record-inside _ _ (c .before .before .before .before .pre .used .walkable) (c .before .loop .inv .on .high) (c .loop-test .taken)
 
--- src/lib.rt:361:13
 named-present-requires : tie.Need-named-present-requires Inv-loop μ-loop
 named-present-requires c κs = c .before .before .before .before .before .pre
 
--- src/lib.rt:362:13
 returns : tie.Need-returns Inv-loop μ-loop
 returns c = every-no (namedPresent (tuplesOf (c .before .before .before .before .before .before .before .args .b .now))) (c .before .before .before .before .before .before .before .args .b .now) (c .before .before .before .before .loop .at) (c .before .before .before .before .before .before .before .pre .used .walkable) (c .before .before .before .before .loop .inv) (c .before .before .before .loop-test .taken) (ap (namedPresent (tuplesOf (c .before .before .before .before .before .before .before .args .b .now))) (sym (c .before .before .key-of .ensures)) ∙ sym (c .before .named-present .ensures) ∙ not-true _ (c .if1 .taken))
 
--- src/lib.rt:364:9
 next-of-requires : tie.Need-next-of-requires Inv-loop μ-loop
 next-of-requires c κs = record-inside _ _ (c .before .before .before .before .before .before .before .pre .used .walkable) (c .before .before .before .before .loop .inv .on .high) (c .before .before .before .loop-test .taken)
 
--- src/lib.rt:360:5
 loop-less : tie.Need-loop-less Inv-loop μ-loop
 loop-less c = fewer (c .before .before .before .before .before .before .before .before .args .b .now) (c .before .before .before .before .before .loop .at) _ (c .before .before .before .before .before .before .before .before .pre .used .walkable) (c .before .before .before .before .before .loop .inv .on) (c .before .before .before .before .loop-test .taken) (c .next-of .ensures)
 
--- src/lib.rt:360:5
 loop-again : tie.Need-loop-again Inv-loop μ-loop
 loop-again c = every-next (namedPresent (tuplesOf (c .before .before .before .before .before .before .before .before .args .b .now))) (c .before .before .before .before .before .before .before .before .args .b .now) (c .before .before .before .before .before .loop .at) _ (c .before .before .before .before .before .before .before .before .pre .used .walkable) (c .before .before .before .before .before .loop .inv) (c .before .before .before .before .loop-test .taken) (c .next-of .ensures) (ap (namedPresent (tuplesOf (c .before .before .before .before .before .before .before .before .args .b .now))) (sym (c .before .before .before .key-of .ensures)) ∙ sym (c .before .before .named-present .ensures) ∙ not-false _ (c .before .if1 .left))
 
--- src/lib.rt:355:1
 returns-2 : tie.Need-returns-2 Inv-loop μ-loop
 returns-2 c = every-end (namedPresent (tuplesOf (c .before .before .before .before .args .b .now))) (c .before .before .before .before .args .b .now) (c .before .loop .at) (c .before .loop .inv) (c .loop-test .left)
 

@@ -9,19 +9,15 @@ use Rattle.verify.proofs.named.edge_in_universe.Lts as lts
 use Rattle.records.proofs.head_word.Reads as head-word-reads
 use Rattle.verify.proofs.seek.holds_from.Reads as holds-from-reads
 
--- src/lib.rt:337:9
 returns : tie.Need-returns
 returns c = edge-none _ (c .before .before .before .args .k) (c .if1 .taken)
 
--- src/lib.rt:339:9
 head-word-requires : tie.Need-head-word-requires
 head-word-requires c κs = search needs
 
--- src/lib.rt:340:5
 holds-from-requires : tie.Need-holds-from-requires
 holds-from-requires c κs = from-head _ _ (c .before .before .before .before .pre) (c .head-word .ensures)
 
--- src/lib.rt:332:1
 returns-2 : tie.Need-returns-2
 returns-2 c = edge-some (tuplesOf (c .before .before .before .before .before .args .b .now)) (c .before .before .before .before .before .args .k) (c .before .before .if1 .left) _ (head-says (c .before .before .before .before .before .args .b .now) _ (c .before .before .before .before .before .pre) (c .before .head-word .ensures) _ _ refl _ (c .holds-from .ensures))
 

@@ -8,19 +8,15 @@ use Rattle.verify.proofs.named.named_present.Lts as lts
 use Rattle.verify.proofs.named.edge_in_universe.Reads as edge-in-universe-reads
 use Rattle.verify.proofs.named.node_supported.Reads as node-supported-reads
 
--- src/lib.rt:348:9
 node-supported-requires : tie.Need-node-supported-requires
 node-supported-requires c κs = search needs
 
--- src/lib.rt:349:9
 returns : tie.Need-returns
 returns c = named-no _ (c .before .before .before .args .k) _ (c .before .node-supported .ensures) (not-true _ (c .if1 .taken))
 
--- src/lib.rt:351:5
 edge-in-universe-requires : tie.Need-edge-in-universe-requires
 edge-in-universe-requires c κs = search needs
 
--- src/lib.rt:344:1
 returns-2 : tie.Need-returns-2
 returns-2 c = named-rest _ (c .before .before .before .before .args .k) _ _ (c .before .before .node-supported .ensures) (not-false _ (c .before .if1 .left)) (c .edge-in-universe .ensures)
 

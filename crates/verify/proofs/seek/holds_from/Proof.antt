@@ -16,31 +16,24 @@ Inv-loop b from k at₀ at = Seeking b k from at
 abbrev μ-loop : tie.MeasureT-loop
 μ-loop b from k at₀ at = length (recordsFrom b at)
 
--- src/lib.rt:299:5
 loop-holds : tie.Need-loop-holds Inv-loop μ-loop
 loop-holds c = seek-start (c .before .args .b .now) (c .before .args .k) (c .before .args .from) (c .before .pre)
 
--- src/lib.rt:299:11
 is-before-requires : tie.Need-is-before-requires Inv-loop μ-loop
 is-before-requires c κs = (c .loop .inv .seekable .walkable, c .loop .inv .seekable .on .high)
 
--- src/lib.rt:300:9
 next-of-requires : tie.Need-next-of-requires Inv-loop μ-loop
 next-of-requires c κs = record-inside _ _ (c .before .before .loop .inv .seekable .walkable) (c .before .before .loop .inv .seekable .on .high) (before-not-none (c .before .before .before .before .args .b .now) _ (c .before .before .before .before .args .k) (sym (c .before .is-before .ensures) ∙ c .if1 .taken))
 
--- src/lib.rt:299:5
 loop-less : tie.Need-loop-less Inv-loop μ-loop
 loop-less c = seek-fewer (c .before .before .before .before .before .args .b .now) (c .before .before .before .before .before .args .k) (c .before .before .before .before .before .args .from) (c .before .before .before .loop .at) (c .before .before .before .loop .inv) (c .next-of .result) (sym (c .before .before .is-before .ensures) ∙ c .before .if1 .taken) (c .next-of .ensures)
 
--- src/lib.rt:299:5
 loop-again : tie.Need-loop-again Inv-loop μ-loop
 loop-again c = seek-next (c .before .before .before .before .before .args .b .now) (c .before .before .before .before .before .args .k) (c .before .before .before .before .before .args .from) (c .before .before .before .loop .at) (c .before .before .before .loop .inv) (c .next-of .result) (sym (c .before .before .is-before .ensures) ∙ c .before .if1 .taken) (c .next-of .ensures)
 
--- src/lib.rt:302:5
 is-at-requires : tie.Need-is-at-requires Inv-loop μ-loop
 is-at-requires c κs = (c .before .before .loop .inv .seekable .walkable, c .before .before .loop .inv .seekable .on .high)
 
--- src/lib.rt:294:1
 returns : tie.Need-returns Inv-loop μ-loop
 returns c = c .is-at .ensures ∙ seek-end (c .before .before .before .before .before .args .b .now) (c .before .before .before .before .before .args .k) (c .before .before .before .before .before .args .from) (c .before .before .before .loop .at) (c .before .before .before .loop .inv) (sym (c .before .before .is-before .ensures) ∙ c .before .if1 .left)
 

@@ -8,19 +8,15 @@ use Rattle.verify.proofs.seek.is_at.Lts as lts
 use Rattle.records.proofs.key_of.Reads as key-of-reads
 use Rattle.records.proofs.key_same.Reads as key-same-reads
 
--- src/lib.rt:277:9
 returns : tie.Need-returns
 returns c = at-none (c .before .before .args .b .now) (c .before .before .args .i) (c .before .before .args .k) (c .if1 .taken)
 
--- src/lib.rt:279:23
 key-of-requires : tie.Need-key-of-requires
 key-of-requires c κs = record-inside _ _ (c .before .before .pre .0) (c .before .before .pre .1) (c .if1 .left)
 
--- src/lib.rt:279:5
 key-same-requires : tie.Need-key-same-requires
 key-same-requires c κs = search needs
 
--- src/lib.rt:272:1
 returns-2 : tie.Need-returns-2
 returns-2 c = c .key-same .ensures ∙ at-some (c .before .before .before .before .args .b .now) (c .before .before .before .before .args .i) (c .before .before .before .before .args .k) (c .before .before .if1 .left) (c .before .key-of .result) (c .before .key-of .ensures)
 

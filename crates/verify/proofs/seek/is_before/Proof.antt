@@ -8,19 +8,15 @@ use Rattle.verify.proofs.seek.is_before.Lts as lts
 use Rattle.records.proofs.key_below.Reads as key-below-reads
 use Rattle.records.proofs.key_of.Reads as key-of-reads
 
--- src/lib.rt:288:9
 returns : tie.Need-returns
 returns c = before-none (c .before .before .args .b .now) (c .before .before .args .i) (c .before .before .args .k) (c .if1 .taken)
 
--- src/lib.rt:290:24
 key-of-requires : tie.Need-key-of-requires
 key-of-requires c κs = record-inside _ _ (c .before .before .pre .0) (c .before .before .pre .1) (c .if1 .left)
 
--- src/lib.rt:290:5
 key-below-requires : tie.Need-key-below-requires
 key-below-requires c κs = search needs
 
--- src/lib.rt:283:1
 returns-2 : tie.Need-returns-2
 returns-2 c = c .key-below .ensures ∙ before-some (c .before .before .before .before .args .b .now) (c .before .before .before .before .args .i) (c .before .before .before .before .args .k) (c .before .before .if1 .left) (c .before .key-of .result) (c .before .key-of .ensures)
 
