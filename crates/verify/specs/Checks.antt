@@ -65,14 +65,16 @@ walkedFrom b i =
 
 -- ---- the used chain, once it is known to end
 
+-- chains stay within the records, and the used chain ends
 pub record UsedEnds (b : List ℕ) : Type 0 where
   pub walkable : Walkable b
   pub ended : ends (usedChain b) ≡ true
 
--- the records and the tuples of a chain from a record on
+-- the records of a chain from a record on
 unfoldable pub recordsFrom : List ℕ → ℕ → List ℕ
 recordsFrom b i = orNothing (walk (next b) (capacityOf b) i)
 
+-- their tuples
 unfoldable pub tuplesFrom : List ℕ → ℕ → Tuples
 tuplesFrom b i = map (tupleAt b) (recordsFrom b i)
 
@@ -84,24 +86,27 @@ pub record OnChain (b : List ℕ) (i : ℕ) : Type 0 where
 
 -- ---- keys
 
--- "key words are at most 65,535; n = 0 makes g and m 0; g is 0 exactly when m is"
+-- "n = 0 makes g and m 0; g is 0 exactly when m is"
 unfoldable pub shapedKey : Key → Bool
 shapedKey k = noEdgeWithoutNode k && edgeHasEnd k
 
+-- that, and "key words are at most 65,535"
 unfoldable pub goodKey : Key → Bool
 goodKey k = smallKey k && shapedKey k
 
 -- ---- a key in a chain whose keys ascend
 
+-- a record from which the chain ends and its keys ascend
 pub record Seekable (b : List ℕ) (i : ℕ) : Type 0 where
   pub walkable : Walkable b
   pub on : OnChain b i
   pub ascends : Ascending keyOf compareKeys (tuplesFrom b i)
 
--- does record i have the key; has it one below the key (record 0, the chain's end, has none)
+-- does record i have the key; record 0, the chain's end, has none
 unfoldable pub isAt : List ℕ → ℕ → Key → Bool
 isAt b i k = not (eqb i 0) && sameKey (keyAt b i) k
 
+-- does record i have a key below the key
 unfoldable pub isBefore : List ℕ → ℕ → Key → Bool
 isBefore b i k = not (eqb i 0) && isLess (compareKeys (keyAt b i) k)
 
