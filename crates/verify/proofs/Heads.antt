@@ -1,0 +1,113 @@
+-- Length, heads and nexts: what makes chains walkable.
+use mathlib.Core.Bool.{Bool, true, false, _&&_}
+use mathlib.Core.List.{List}
+use mathlib.Core.Path.{_≡_, refl, sym, ap, ap₂, _∙_}
+use Prim.Native.Nat.{ℕ, zero, suc, _+_, _-_, _≤_, _<_}
+use native.Mathlib.Omega.{arith}
+use lib.Dec.{eqb, leb}
+use lib.ListN.{length}
+use borrow.Author.Tests.{eq-eqb, ne-eqb, leb-true, le-leb, lt-leb}
+use Rattle.model.specs.Buffer.{word, fitsLength, capacityOf, next, everyRecord}
+use Rattle.model.proofs.Bools.{and-left, and-right}
+use Rattle.model.proofs.Steps.{every-record}
+use Rattle.model.proofs.Store.{fits-least, fits-most, fits-length}
+use Rattle.verify.specs.Checks.{headsFit, nextsWithin, Walkable}
+use Rattle.verify.proofs.Preparing.{too-short, too-long}
+
+-- ---- length and heads
+
+pub heads-short : (b : List ℕ) → length b < 10 → false ≡ headsFit b
+unfolding headsFit
+heads-short b h = simp (too-short b h)
+
+pub heads-long : (b : List ℕ) → 12297 < length b → false ≡ headsFit b
+unfolding headsFit
+heads-long b h = simp (too-long b h)
+
+module _ (b : List ℕ) (low : 10 ≤ length b) (high : length b ≤ 12297) (C : ℕ) (size : C ≡ capacityOf b) where
+  pub heads-size : (w : ℕ) → w ≡ word b 0 → (w ≡ C → ⊥) → false ≡ headsFit b
+  unfolding headsFit
+  heads-size w e h =
+      let n : word b 0 ≡ capacityOf b → ⊥ = λ z. h (e ∙ z ∙ sym size) in simp (fits-length b low high, ne-eqb (word b 0) (capacityOf b) n)
+
+  pub heads-used : (w v : ℕ) → w ≡ word b 0 → w ≡ C → v ≡ word b 1 → C < v → false ≡ headsFit b
+  unfolding headsFit
+  heads-used w v e f g h =
+      let k : capacityOf b < word b 1 = omega arith in
+      simp (fits-length b low high, eq-eqb (word b 0) (capacityOf b) (sym e ∙ f ∙ size), lt-leb (word b 1) (capacityOf b) k)
+
+  pub heads-free : (w v u : ℕ) → w ≡ word b 0 → w ≡ C → v ≡ word b 1 → v ≤ C → u ≡ word b 2 → leb u C ≡ headsFit b
+  unfolding headsFit
+  heads-free w v u e f g h i =
+      let k : word b 1 ≤ capacityOf b = omega arith in
+      ap₂ leb i size
+      ∙ simp (fits-length b low high, eq-eqb (word b 0) (capacityOf b) (sym e ∙ f ∙ size), le-leb (word b 1) (capacityOf b) k)
+
+pub fit-least : (b : List ℕ) → headsFit b ≡ true → 10 ≤ length b
+unfolding headsFit
+fit-least b e = fits-least b (and-left (fitsLength b) _ e)
+
+pub fit-most : (b : List ℕ) → headsFit b ≡ true → length b ≤ 12297
+unfolding headsFit
+fit-most b e = fits-most b (and-left (fitsLength b) _ e)
+
+-- ---- every next at most C
+
+pub every-on : (p : ℕ → Bool) (i : ℕ) → 0 < i → p i ≡ true → everyRecord p i ≡ everyRecord p (i - 1)
+unfolding everyRecord
+every-on p zero h e = absurd (omega arith)
+every-on p (suc i) h e =
+    let z : i ≡ suc i - 1 = omega arith in
+    ap (λ (t : Bool). t && everyRecord p i) e ∙ ap (everyRecord p) z
+
+pub every-stop : (p : ℕ → Bool) (i : ℕ) → 0 < i → p i ≡ false → everyRecord p i ≡ false
+unfolding everyRecord
+every-stop p zero h e = absurd (omega arith)
+every-stop p (suc i) h e = ap (λ (t : Bool). t && everyRecord p i) e
+
+pub every-none : (p : ℕ → Bool) → everyRecord p 0 ≡ true
+unfolding everyRecord
+every-none p = refl
+
+-- records from C down to i + 1 are within
+unfoldable pub Nexts : List ℕ → ℕ → Type 0
+Nexts b i = nextsWithin b ≡ everyRecord (λ (j : ℕ). leb (next b j) (capacityOf b)) i
+
+module _ (b : List ℕ) where
+  pub nexts-start : Nexts b (capacityOf b)
+  unfolding Nexts nextsWithin
+  nexts-start = refl
+
+  pub nexts-stop : (i n : ℕ) → Nexts b i → 0 < i → n ≡ next b i → capacityOf b < n → false ≡ nextsWithin b
+  unfolding Nexts
+  nexts-stop i n h low e k =
+      let far : capacityOf b < next b i = omega arith in
+      sym (h ∙ every-stop (λ (j : ℕ). leb (next b j) (capacityOf b)) i low (lt-leb (next b i) (capacityOf b) far))
+
+  pub nexts-on : (i n : ℕ) → Nexts b i → 0 < i → n ≡ next b i → n ≤ capacityOf b → Nexts b (i - 1)
+  unfolding Nexts
+  nexts-on i n h low e k =
+      let near : next b i ≤ capacityOf b = omega arith in
+      h ∙ every-on (λ (j : ℕ). leb (next b j) (capacityOf b)) i low (le-leb (next b i) (capacityOf b) near)
+
+  pub nexts-end : (i : ℕ) → Nexts b i → i ≤ 0 → true ≡ nextsWithin b
+  unfolding Nexts
+  nexts-end i h z =
+      let e : i ≡ 0 = omega arith in
+      sym (h ∙ ap (everyRecord (λ (j : ℕ). leb (next b j) (capacityOf b))) e ∙ every-none (λ (j : ℕ). leb (next b j) (capacityOf b)))
+
+-- the two tests make chains walkable
+pub walkable : (b : List ℕ) → headsFit b ≡ true → nextsWithin b ≡ true → Walkable b
+unfolding headsFit nextsWithin
+walkable b e f =
+    let C : ℕ = capacityOf b in
+    let fits = and-left (fitsLength b) _ e in
+    let e₂ = and-right (fitsLength b) _ e in
+    let e₃ = and-right (eqb (word b 0) C) _ e₂ in
+    record {
+      least = fits-least b fits;
+      most = fits-most b fits;
+      usedHead = leb-true (word b 1) C (and-left (leb (word b 1) C) (leb (word b 2) C) e₃);
+      freeHead = leb-true (word b 2) C (and-right (leb (word b 1) C) (leb (word b 2) C) e₃);
+      nexts = λ i h k. leb-true (next b i) C (every-record (λ (i : ℕ). leb (next b i) C) C f i h k);
+    }

@@ -1,0 +1,10 @@
+pub mod Capacity
+pub mod Preparing
+pub mod Once
+pub mod Heads
+pub mod Walks
+pub mod Rest
+pub mod KeyTests
+pub mod Support
+pub mod Ends
+pub mod Parts

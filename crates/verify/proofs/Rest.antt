@@ -1,0 +1,295 @@
+-- Walks of the used chain once it is known to end: what is left of the chain, of its tuples and of a test on them.
+use mathlib.Core.Bool.{Bool, true, false, not, _&&_, _||_, false≢true, true≢false}
+use mathlib.Core.List.{List, [], _∷_, map}
+use mathlib.Core.Logic.{_≢_}
+use mathlib.Core.Option.{Option, some}
+use mathlib.Core.Path.{_≡_, refl, sym, ap, ap₂, _∙_, subst}
+use Prim.Native.Nat.{ℕ, _≤_, _<_, Ordering, Ordering·lt, Ordering·eq, Ordering·gt}
+use native.Mathlib.Omega.{arith}
+use lib.Dec.{eqb, isEq}
+use lib.ListN.{length}
+use borrow.Author.Tests.{eqb-true, eqb-false, eq-eqb, ne-eqb}
+use Rattle.model.specs.declared.Key.{Key}
+use Rattle.model.specs.Ordered.{isLess, holds, ascendsFrom, Ascending}
+use Rattle.model.specs.Keys.{keyOf, spaceKey, compareKeys, sameKey}
+use Rattle.model.specs.Tuples.{Tuples, present}
+use Rattle.model.specs.Buffer.{word, capacityOf, next, keyAt, tupleAt, walk, orNothing, usedChain, usedOf, tuplesOf, ascendsFromUniverse, everyKey}
+use Rattle.model.specs.Rules.{Chain}
+use Rattle.model.proofs.Bools.{and-left, and-right, not-yes}
+use Rattle.model.proofs.Order.{keys, opposite}
+use Rattle.model.proofs.Ordered.{above-not-held, ascending-tail}
+use Rattle.model.proofs.Chains.{chain-walk}
+use Rattle.records.specs.Words.{Inside}
+use Rattle.verify.specs.Checks.{Walkable, UsedEnds, recordsFrom, tuplesFrom, OnChain, Seekable, isAt, isBefore}
+use Rattle.verify.proofs.Capacity.{room}
+use Rattle.verify.proofs.Walks.{met-by-walk}
+
+-- ---- one record on
+
+walk-none : (link : ℕ → ℕ) (most : ℕ) → walk link most 0 ≡ some []
+walk-none link most = chain-walk link most 0 [] refl (omega arith)
+
+pub record-inside : (b : List ℕ) (i : ℕ) → Walkable b → i ≤ capacityOf b → i ≢ 0 → Inside b i
+record-inside b i w h n = record { low = omega arith; high = omega (arith, room b (w .least) (w .most)) }
+
+-- the used chain from its head
+pub used-from-head : (b : List ℕ) (h : ℕ) → h ≡ word b 1 → tuplesFrom b h ≡ tuplesOf b
+unfolding tuplesFrom recordsFrom tuplesOf usedOf usedChain
+used-from-head b h e = ap (λ (i : ℕ). map (tupleAt b) (orNothing (walk (next b) (capacityOf b) i))) e
+
+pub on-head : (b : List ℕ) (h : ℕ) → UsedEnds b → h ≡ word b 1 → OnChain b h
+unfolding recordsFrom usedChain
+on-head b h U e =
+    let M = met-by-walk b (word b 1) (U .walkable) (U .walkable .usedHead) (U .ended) in
+    subst (OnChain b) (sym e) (record { high = U .walkable .usedHead; chain = M .chain; short = M .short })
+
+-- the record, the tuple and the chain at a record that is not the end
+pub record Further (b : List ℕ) (at n : ℕ) : Type 0 where
+  pub records : recordsFrom b at ≡ at ∷ recordsFrom b n
+  pub on : OnChain b n
+
+pub further : (b : List ℕ) (at n : ℕ) → Walkable b → OnChain b at → at ≢ 0 → n ≡ next b at → Further b at n
+unfolding recordsFrom
+further b at n w O at≢ e = go (recordsFrom b at) refl (O .chain) (O .short)
+  where
+    go : (is : List ℕ) → recordsFrom b at ≡ is → Chain (next b) at is → length is ≤ capacityOf b → Further b at n
+    go [] f c s = absurd (at≢ c)
+    go (j ∷ js) f c s =
+        let rest : recordsFrom b (next b at) ≡ js
+        = unfold recordsFrom orNothing in ap orNothing (chain-walk (next b) (capacityOf b) (next b at) js (c .2) (omega arith)) in
+        let rest′ : recordsFrom b n ≡ js = ap (recordsFrom b) e ∙ rest in
+        let high : at ≤ capacityOf b = O .high in
+        let low : 1 ≤ at = omega arith in
+        record {
+          records = f ∙ ap₂ _∷_ (c .1) (sym rest′);
+          on =
+              record {
+                high = subst (λ (i : ℕ). i ≤ capacityOf b) (sym e) (w .nexts at low high);
+                chain =
+                    subst (λ (i : ℕ). Chain (next b) i (recordsFrom b n)) (sym e)
+                    (subst (Chain (next b) (next b at)) (sym rest′) (c .2));
+                short = omega (arith, ap length rest′);
+              };
+        }
+
+module _ (b : List ℕ) (at n : ℕ) (w : Walkable b) (O : OnChain b at) (at≢ : at ≢ 0) (e : n ≡ next b at) where
+  pub on-next : OnChain b n
+  on-next = further b at n w O at≢ e .on
+
+  pub tuples-next : tuplesFrom b at ≡ tupleAt b at ∷ tuplesFrom b n
+  unfolding tuplesFrom
+  tuples-next = ap (map (tupleAt b)) (further b at n w O at≢ e .records)
+
+  pub fewer : length (recordsFrom b n) < length (recordsFrom b at)
+  fewer = omega (arith, ap length (further b at n w O at≢ e .records))
+
+pub tuples-none : (b : List ℕ) (at : ℕ) → at ≡ 0 → tuplesFrom b at ≡ []
+unfolding tuplesFrom recordsFrom orNothing
+tuples-none b at e =
+    ap (λ (i : ℕ). map (tupleAt b) (orNothing (walk (next b) (capacityOf b) i))) e
+    ∙ ap (λ (r : Option (List ℕ)). map (tupleAt b) (orNothing r)) (walk-none (next b) (capacityOf b))
+
+-- ---- a test on every key
+
+-- what is left of it at a record
+pub record EveryLeft (p : Key → Bool) (b : List ℕ) (at : ℕ) : Type 0 where
+  pub on : OnChain b at
+  pub left : everyKey p (tuplesOf b) ≡ everyKey p (tuplesFrom b at)
+
+every-cons : (p : Key → Bool) (b : List ℕ) (i : ℕ) (ts : Tuples) → everyKey p (tupleAt b i ∷ ts) ≡ (p (keyAt b i) && everyKey p ts)
+unfolding everyKey tupleAt
+every-cons p b i ts = refl
+
+module _ (p : Key → Bool) (b : List ℕ) where
+  pub every-start : (h : ℕ) → UsedEnds b → h ≡ word b 1 → EveryLeft p b h
+  every-start h U e = record { on = on-head b h U e; left = ap (everyKey p) (sym (used-from-head b h e)) }
+
+  pub every-end : (at : ℕ) → EveryLeft p b at → at ≡ 0 → true ≡ everyKey p (tuplesOf b)
+  unfolding everyKey
+  every-end at E z = sym (E .left ∙ ap (everyKey p) (tuples-none b at z))
+
+  module _ (at n : ℕ) (w : Walkable b) (E : EveryLeft p b at) (at≢ : at ≢ 0) (e : n ≡ next b at) where
+    one-more : everyKey p (tuplesOf b) ≡ (p (keyAt b at) && everyKey p (tuplesFrom b n))
+    one-more = E .left ∙ ap (everyKey p) (tuples-next b at n w (E .on) at≢ e) ∙ every-cons p b at (tuplesFrom b n)
+
+    pub every-next : p (keyAt b at) ≡ true → EveryLeft p b n
+    every-next t = record { on = on-next b at n w (E .on) at≢ e; left = one-more ∙ ap (λ (a : Bool). a && everyKey p (tuplesFrom b n)) t }
+
+  pub every-no : (at : ℕ) → Walkable b → EveryLeft p b at → at ≢ 0 → p (keyAt b at) ≡ false → false ≡ everyKey p (tuplesOf b)
+  every-no at w E at≢ t =
+      sym (one-more at (next b at) w E at≢ refl ∙ ap (λ (a : Bool). a && everyKey p (tuplesFrom b (next b at))) t)
+
+-- ---- keys that ascend from (0,0,0,0)
+
+pub record AscendsLeft (b : List ℕ) (k : Key) (at : ℕ) : Type 0 where
+  pub on : OnChain b at
+  pub left : ascendsFromUniverse (tuplesOf b) ≡ ascendsFrom keyOf compareKeys k (tuplesFrom b at)
+
+universe-cons : (b : List ℕ) (i : ℕ) (ts : Tuples)
+    → ascendsFromUniverse (tupleAt b i ∷ ts) ≡ (sameKey (keyAt b i) (spaceKey 0) && ascendsFrom keyOf compareKeys (keyAt b i) ts)
+unfolding ascendsFromUniverse tupleAt
+universe-cons b i ts = refl
+
+ascends-cons : (b : List ℕ) (k : Key) (i : ℕ) (ts : Tuples)
+    → ascendsFrom keyOf compareKeys k (tupleAt b i ∷ ts) ≡ (isLess (compareKeys k (keyAt b i)) && ascendsFrom keyOf compareKeys (keyAt b i) ts)
+unfolding ascendsFrom tupleAt
+ascends-cons b k i ts = refl
+
+module _ (b : List ℕ) (U : UsedEnds b) where
+  pub ascends-empty : (h : ℕ) → h ≡ word b 1 → h ≡ 0 → false ≡ ascendsFromUniverse (tuplesOf b)
+  unfolding ascendsFromUniverse
+  ascends-empty h e z = sym (ap ascendsFromUniverse (sym (used-from-head b h e) ∙ tuples-none b h z))
+
+  module _ (h n : ℕ) (e : h ≡ word b 1) (h≢ : h ≢ 0) (f : n ≡ next b h) where
+    first : ascendsFromUniverse (tuplesOf b) ≡ (sameKey (keyAt b h) (spaceKey 0) && ascendsFrom keyOf compareKeys (keyAt b h) (tuplesFrom b n))
+    first =
+        ap ascendsFromUniverse (sym (used-from-head b h e) ∙ tuples-next b h n (U .walkable) (on-head b h U e) h≢ f)
+        ∙ universe-cons b h (tuplesFrom b n)
+
+    pub ascends-start : (k : Key) → k ≡ keyAt b h → sameKey k (spaceKey 0) ≡ true → AscendsLeft b k n
+    ascends-start k g t =
+        record {
+          on = on-next b h n (U .walkable) (on-head b h U e) h≢ f;
+          left =
+              first ∙ ap (λ (j : Key). sameKey j (spaceKey 0) && ascendsFrom keyOf compareKeys j (tuplesFrom b n)) (sym g)
+              ∙ ap (λ (a : Bool). a && ascendsFrom keyOf compareKeys k (tuplesFrom b n)) t;
+        }
+
+  pub ascends-not-first : (h : ℕ) → h ≡ word b 1 → h ≢ 0 → (k : Key) → k ≡ keyAt b h → sameKey k (spaceKey 0) ≡ false → false ≡ ascendsFromUniverse (tuplesOf b)
+  ascends-not-first h e h≢ k g t =
+      sym
+      (first h (next b h) e h≢ refl ∙ ap (λ (j : Key). sameKey j (spaceKey 0) && ascendsFrom keyOf compareKeys j (tuplesFrom b (next b h))) (sym g)
+      ∙ ap (λ (a : Bool). a && ascendsFrom keyOf compareKeys k (tuplesFrom b (next b h))) t)
+
+  pub ascends-end : (k : Key) (at : ℕ) → AscendsLeft b k at → at ≡ 0 → true ≡ ascendsFromUniverse (tuplesOf b)
+  unfolding ascendsFrom
+  ascends-end k at A z = sym (A .left ∙ ap (ascendsFrom keyOf compareKeys k) (tuples-none b at z))
+
+  module _ (k : Key) (at n : ℕ) (A : AscendsLeft b k at) (at≢ : at ≢ 0) (e : n ≡ next b at) (j : Key) (g : j ≡ keyAt b at) where
+    next-key : ascendsFromUniverse (tuplesOf b) ≡ (isLess (compareKeys k j) && ascendsFrom keyOf compareKeys j (tuplesFrom b n))
+    next-key =
+        A .left ∙ ap (ascendsFrom keyOf compareKeys k) (tuples-next b at n (U .walkable) (A .on) at≢ e) ∙ ascends-cons b k at (tuplesFrom b n)
+        ∙ ap (λ (i : Key). isLess (compareKeys k i) && ascendsFrom keyOf compareKeys i (tuplesFrom b n)) (sym g)
+
+    pub ascends-next : isLess (compareKeys k j) ≡ true → AscendsLeft b j n
+    ascends-next t =
+        record {
+          on = on-next b at n (U .walkable) (A .on) at≢ e;
+          left = next-key ∙ ap (λ (a : Bool). a && ascendsFrom keyOf compareKeys j (tuplesFrom b n)) t;
+        }
+
+  pub ascends-no : (k : Key) (at : ℕ) → AscendsLeft b k at → at ≢ 0 → (j : Key) → j ≡ keyAt b at → isLess (compareKeys k j) ≡ false
+      → false ≡ ascendsFromUniverse (tuplesOf b)
+  ascends-no k at A at≢ j g t =
+      sym (next-key k at (next b at) A at≢ refl j g ∙ ap (λ (a : Bool). a && ascendsFrom keyOf compareKeys j (tuplesFrom b (next b at))) t)
+
+-- ---- a key sought in a chain whose keys ascend
+
+-- what is left of the search at a record
+pub record Seeking (b : List ℕ) (k : Key) (from at : ℕ) : Type 0 where
+  pub seekable : Seekable b at
+  pub left : present k (tuplesFrom b from) ≡ present k (tuplesFrom b at)
+
+-- the tests of a record
+module _ (b : List ℕ) (i : ℕ) (k : Key) where
+  pub at-none : i ≡ 0 → false ≡ isAt b i k
+  unfolding isAt
+  at-none z = simp (eq-eqb i 0 z)
+
+  pub at-some : i ≢ 0 → (j : Key) → j ≡ keyAt b i → sameKey j k ≡ isAt b i k
+  unfolding isAt
+  at-some n j e = ap (λ (x : Key). sameKey x k) e ∙ simp (ne-eqb i 0 n)
+
+  pub before-none : i ≡ 0 → false ≡ isBefore b i k
+  unfolding isBefore
+  before-none z = simp (eq-eqb i 0 z)
+
+  pub before-some : i ≢ 0 → (j : Key) → j ≡ keyAt b i → isLess (compareKeys j k) ≡ isBefore b i k
+  unfolding isBefore
+  before-some n j e = ap (λ (x : Key). isLess (compareKeys x k)) e ∙ simp (ne-eqb i 0 n)
+
+  pub before-not-none : isBefore b i k ≡ true → i ≢ 0
+  unfolding isBefore
+  before-not-none t = eqb-false i 0 (not-yes (eqb i 0) (and-left (not (eqb i 0)) _ t))
+
+  pub before-less : isBefore b i k ≡ true → isLess (compareKeys (keyAt b i) k) ≡ true
+  unfolding isBefore
+  before-less t = and-right (not (eqb i 0)) _ t
+
+  before-no : isBefore b i k ≡ false → i ≢ 0 → isLess (compareKeys (keyAt b i) k) ≡ false
+  unfolding isBefore
+  before-no t n = simp (ne-eqb i 0 n) at t
+
+less-lt : (o : Ordering) → isLess o ≡ true → o ≡ Ordering·lt
+less-lt Ordering·lt e = refl
+less-lt Ordering·eq e = absurd (false≢true e)
+less-lt Ordering·gt e = absurd (false≢true e)
+
+flip-key : (j k : Key) → compareKeys k j ≡ opposite (compareKeys j k)
+flip-key j k = keys .compares .flip j k
+
+pub present-cons : (k : Key) (b : List ℕ) (i : ℕ) (ts : Tuples) → present k (tupleAt b i ∷ ts) ≡ (sameKey k (keyAt b i) || present k ts)
+unfolding holds tupleAt
+present-cons k b i ts = refl
+
+not-present : (k : Key) (b : List ℕ) (i : ℕ) (ts : Tuples) → compareKeys k (keyAt b i) ≡ Ordering·lt → Ascending keyOf compareKeys (tupleAt b i ∷ ts)
+    → present k (tupleAt b i ∷ ts) ≡ false
+unfolding tupleAt
+not-present k b i ts e h = above-not-held keyOf compareKeys keys k (tupleAt b i ∷ ts) (e, h)
+
+module _ (b : List ℕ) (k : Key) where
+  pub seek-start : (from : ℕ) → Seekable b from → Seeking b k from from
+  seek-start from S = record { seekable = S; left = refl }
+
+  module _ (from at : ℕ) (S : Seeking b k from at) where
+    seek-on : OnChain b at
+    seek-on = S .seekable .on
+
+    seek-w : Walkable b
+    seek-w = S .seekable .walkable
+
+    pub seek-next : (n : ℕ) → isBefore b at k ≡ true → n ≡ next b at → Seeking b k from n
+    seek-next n t e =
+        let at≢ = before-not-none b at k t in
+        let more = tuples-next b at n seek-w seek-on at≢ e in
+        let asc : Ascending keyOf compareKeys (tupleAt b at ∷ tuplesFrom b n) = subst (Ascending keyOf compareKeys) more (S .seekable .ascends) in
+        let lower : sameKey k (keyAt b at) ≡ false
+        = ap isEq (flip-key (keyAt b at) k ∙ ap opposite (less-lt (compareKeys (keyAt b at) k) (before-less b at k t))) in
+        record {
+          seekable =
+              record {
+                walkable = seek-w;
+                on = on-next b at n seek-w seek-on at≢ e;
+                ascends = ascending-tail keyOf compareKeys keys (tupleAt b at .key) (tuplesFrom b n) asc;
+              };
+          left =
+              S .left ∙ ap (present k) more ∙ present-cons k b at (tuplesFrom b n) ∙ ap (λ (a : Bool). a || present k (tuplesFrom b n)) lower;
+        }
+
+    pub seek-fewer : (n : ℕ) → isBefore b at k ≡ true → n ≡ next b at → length (recordsFrom b n) < length (recordsFrom b at)
+    seek-fewer n t e = fewer b at n seek-w seek-on (before-not-none b at k t) e
+
+    -- found, or nowhere
+    pub seek-end : isBefore b at k ≡ false → isAt b at k ≡ present k (tuplesFrom b from)
+    unfolding isAt
+    seek-end t = go (eqb at 0) refl ∙ sym (S .left)
+      where
+        go : (z : Bool) → eqb at 0 ≡ z → (not z && sameKey (keyAt b at) k) ≡ present k (tuplesFrom b at)
+        go true e = sym (ap (present k) (tuples-none b at (eqb-true at 0 e)) ∙ (unfold holds in refl))
+        go false e =
+            let at≢ : at ≢ 0 = eqb-false at 0 e in
+            let more = tuples-next b at (next b at) seek-w seek-on at≢ refl in
+            let asc : Ascending keyOf compareKeys (tupleAt b at ∷ tuplesFrom b (next b at)) = subst (Ascending keyOf compareKeys) more (S .seekable .ascends) in
+            by-order (compareKeys (keyAt b at) k) refl asc (before-no b at k t at≢) ∙ sym (ap (present k) more)
+          where
+            by-order : (o : Ordering) → compareKeys (keyAt b at) k ≡ o → Ascending keyOf compareKeys (tupleAt b at ∷ tuplesFrom b (next b at))
+                → isLess (compareKeys (keyAt b at) k) ≡ false
+                → sameKey (keyAt b at) k ≡ present k (tupleAt b at ∷ tuplesFrom b (next b at))
+            by-order Ordering·lt f asc l = absurd (true≢false (sym (ap isLess f) ∙ l))
+            by-order Ordering·eq f asc l =
+                ap isEq f
+                ∙ sym
+                (present-cons k b at (tuplesFrom b (next b at))
+                ∙ ap (λ (a : Bool). a || present k (tuplesFrom b (next b at))) (ap isEq (flip-key (keyAt b at) k ∙ ap opposite f)))
+            by-order Ordering·gt f asc l =
+                ap isEq f ∙ sym (not-present k b at (tuplesFrom b (next b at)) (flip-key (keyAt b at) k ∙ ap opposite f) asc)

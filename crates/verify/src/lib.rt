@@ -1,0 +1,65 @@
+// Preparing a buffer, and the exact check of a store.
+mod chains;
+mod edge_ends;
+mod fresh;
+mod keys;
+mod layout;
+mod named;
+mod seek;
+
+use model::Preparation;
+ghost use mathlib.Core.Path.{_≡_};
+ghost use Rattle.model.specs.Buffer.{Preparing, tuplesOf, sound, isStore};
+ghost use Rattle.verify.specs.Prepare.{afterPreparing};
+ghost use Rattle.verify.specs.Checks.{UsedEnds};
+
+// Prepares the buffer as a store that holds UNIVERSE alone, and gives C; a length outside 10 to 12,297 words is refused (1).
+pub fn prepare(buffer: &mut [u32]) -> Preparation
+    ensures rules { λ r. ⌜ Preparing (now (buffer .entry)) r (now (buffer .exit)) ⌝ }
+    ensures words { λ _. ⌜ now (buffer .exit) ≡ afterPreparing (now (buffer .entry)) ⌝ }
+{
+    if buffer.len() < 10 {
+        return Preparation::Refused(1);
+    }
+    if buffer.len() > 12297 {
+        return Preparation::Refused(1);
+    }
+    let c = layout::capacity(buffer);
+    fresh::put_heads(buffer, c);
+    fresh::put_universe(buffer);
+    fresh::chain_free(buffer, c);
+    Preparation::Capacity(c as u32)
+}
+
+// Do the tuples of the used chain keep the rules.
+fn tuples_sound(b: &[u32]) -> bool
+    requires { ⌜ UsedEnds (now b) ⌝ }
+    ensures { λ r. ⌜ r ≡ sound (tuplesOf (now (b .entry))) ⌝ }
+{
+    if !keys::keys_ascend(b) {
+        return false;
+    }
+    if !keys::keys_good(b) {
+        return false;
+    }
+    if !named::all_named(b) {
+        return false;
+    }
+    edge_ends::edges_ended(b)
+}
+
+// Is the buffer, of any length and with any words, a store.
+pub fn is_store(buffer: &[u32]) -> bool
+    ensures { λ r. ⌜ r ≡ isStore (now (buffer .entry)) ⌝ }
+{
+    if !chains::heads_fit(buffer) {
+        return false;
+    }
+    if !chains::nexts_within(buffer) {
+        return false;
+    }
+    if !chains::chains_right(buffer) {
+        return false;
+    }
+    tuples_sound(buffer)
+}
