@@ -1,4 +1,5 @@
 -- From the rules on chains and the tuples of the records to an edit of the buffer.
+use mathlib.Core.Bool.{true}
 use mathlib.Core.List.{List, map}
 use mathlib.Core.Option.{some}
 use mathlib.Core.Path.{_≡_, refl, sym, ap, _∙_, subst, subst₂}
@@ -7,9 +8,9 @@ use lib.ListN.{length, length-map}
 use Rattle.model.specs.Ordered.{Ascending}
 use Rattle.model.specs.Keys.{keyOf, spaceKey, compareKeys}
 use Rattle.model.specs.Tuples.{Tuples}
-use Rattle.model.specs.Buffer.{tupleAt, pastRecords, usedOf, tuplesOf}
-use Rattle.model.specs.Rules.{firstKey, ChainRules}
-use Rattle.model.proofs.Store.{used-of, free-of, tuples-of}
+use Rattle.model.specs.Buffer.{tupleAt, pastRecords, usedOf, freeOf, tuplesOf, isStore}
+use Rattle.model.specs.Rules.{firstKey, TupleRules, ChainRules}
+use Rattle.model.proofs.Store.{store-rules, rules-store, used-of, free-of, tuples-of}
 use Rattle.chain.specs.Links.{Linked, Edited}
 
 pub edited : (b b′ used free : List ℕ) (ts : Tuples) → ChainRules b′ used free → map (tupleAt b′) used ≡ ts
@@ -36,3 +37,23 @@ unedited b ts L e = record { linked = L; tuples = e; size = refl; past = refl }
 pub length-tuples : (b : List ℕ) → length (tuplesOf b) ≡ length (usedOf b)
 unfolding tuplesOf
 length-tuples b = length-map (usedOf b) (tupleAt b)
+
+-- ---- stores
+
+-- a store has chains that the edits can work on
+pub store-linked : (b : List ℕ) → isStore b ≡ true → Linked b
+unfolding tuplesOf
+store-linked b e =
+    let S = store-rules b e in record { chains = S .chains; ascends = S .tuples .ascends; first = S .tuples .first }
+
+pub store-tuples : (b : List ℕ) → isStore b ≡ true → TupleRules (tuplesOf b)
+unfolding tuplesOf
+store-tuples b e = store-rules b e .tuples
+
+-- an edit whose tuples keep the rules leaves a store
+pub linked-store : (b : List ℕ) → Linked b → TupleRules (tuplesOf b) → isStore b ≡ true
+unfolding tuplesOf
+linked-store b L R = rules-store b (usedOf b) (freeOf b) (record { chains = L .chains; tuples = R })
+
+pub edited-store : (b b′ : List ℕ) (ts : Tuples) → Edited b b′ ts → TupleRules ts → isStore b′ ≡ true
+edited-store b b′ ts E R = linked-store b′ (E .linked) (subst TupleRules (sym (E .tuples)) R)
