@@ -1,0 +1,82 @@
+-- One removal with 0 for "any" is what each D operator takes (`destroyed`).
+use mathlib.Core.Bool.{Bool, true, false, _&&_, _||_, and-true}
+use mathlib.Core.List.{List}
+use mathlib.Core.Logic.{_≢_}
+use mathlib.Core.Path.{_≡_, refl, sym, ap, ap₂, _∙_, subst}
+use Prim.Native.Nat.{ℕ}
+use lib.Dec.{eqb}
+use borrow.Author.Tests.{ne-eqb}
+use Rattle.model.specs.declared.Call.{Call}
+use Rattle.model.specs.declared.Direction.{Direction}
+use Rattle.model.specs.declared.Pair.{Pair}
+use Rattle.model.specs.declared.Removal.{Removal}
+use Rattle.model.specs.Pairs.{edgeOf, nodeOf}
+use Rattle.model.specs.Tuples.{Tuples, remove}
+use Rattle.model.specs.Buffer.{tuplesOf}
+use Rattle.model.specs.Steps.{nOf, gOf, mOf, sOf, edgesTaken, nodeTaken, spaceTaken, destroyed}
+use Rattle.chain.specs.Links.{Edited}
+use Rattle.select.specs.Selections.{passes}
+use Rattle.operate.specs.declared.Fields.{Fields}
+use Rattle.operate.specs.Operate.{fieldsOf}
+
+-- a name that is not 0 is asked for
+asked-name : (want name : ℕ) → want ≢ 0 → (eqb want 0 || eqb name want) ≡ eqb name want
+asked-name want name h = ap (λ (b : Bool). b || eqb name want) (ne-eqb want 0 h)
+
+passes-any : (p : Pair) → passes 0 0 p ≡ true
+unfolding passes
+passes-any p = refl
+
+passes-edge : (g : ℕ) → g ≢ 0 → (p : Pair) → passes g 0 p ≡ eqb (edgeOf p) g
+unfolding passes
+passes-edge g h p = and-true (eqb g 0 || eqb (edgeOf p) g) ∙ asked-name g (edgeOf p) h
+
+passes-node : (m : ℕ) → m ≢ 0 → (p : Pair) → passes 0 m p ≡ eqb (nodeOf p) m
+unfolding passes
+passes-node m h p = asked-name m (nodeOf p) h
+
+passes-both : (g m : ℕ) → g ≢ 0 → m ≢ 0 → (p : Pair) → passes g m p ≡ (eqb (edgeOf p) g && eqb (nodeOf p) m)
+unfolding passes
+passes-both g m h k p = ap₂ _&&_ (asked-name g (edgeOf p) h) (asked-name m (nodeOf p) k)
+
+-- the same test of pairs, the same tuples left
+same-test : (d : Direction) (s n : ℕ) (p q : Pair → Bool) (ts : Tuples) → ((x : Pair) → p x ≡ q x)
+    → remove (edgesTaken d s n p) ts ≡ remove (edgesTaken d s n q) ts
+same-test d s n p q ts h = λ i. remove (edgesTaken d s n (λ (x : Pair). h x i)) ts
+
+-- the fields that a function learnt are the call's
+pub pair-removed : (d : Direction) (c : Call) (f : Fields) (ts : Tuples) → f ≡ fieldsOf c → gOf c ≢ 0 → mOf c ≢ 0
+    → remove (edgesTaken d (f .s) (f .n) (passes (f .g) (f .m))) ts ≡ destroyed (Removal.P d) c ts
+unfolding destroyed
+pair-removed d c f ts F g m =
+    ap (λ (x : Fields). remove (edgesTaken d (x .s) (x .n) (passes (x .g) (x .m))) ts) F
+    ∙ same-test d (sOf c) (nOf c) (passes (gOf c) (mOf c)) _ ts (passes-both (gOf c) (mOf c) g m)
+
+pub edges-removed : (d : Direction) (c : Call) (f : Fields) (ts : Tuples) → f ≡ fieldsOf c
+    → remove (edgesTaken d (f .s) (f .n) (passes 0 0)) ts ≡ destroyed (Removal.G d) c ts
+unfolding destroyed
+edges-removed d c f ts F =
+    ap (λ (x : Fields). remove (edgesTaken d (x .s) (x .n) (passes 0 0)) ts) F
+    ∙ same-test d (sOf c) (nOf c) (passes 0 0) _ ts passes-any
+
+pub named-removed : (d : Direction) (c : Call) (f : Fields) (ts : Tuples) → f ≡ fieldsOf c → gOf c ≢ 0
+    → remove (edgesTaken d (f .s) (f .n) (passes (f .g) 0)) ts ≡ destroyed (Removal.GG d) c ts
+unfolding destroyed
+named-removed d c f ts F g =
+    ap (λ (x : Fields). remove (edgesTaken d (x .s) (x .n) (passes (x .g) 0)) ts) F
+    ∙ same-test d (sOf c) (nOf c) (passes (gOf c) 0) _ ts (passes-edge (gOf c) g)
+
+pub between-removed : (d : Direction) (c : Call) (f : Fields) (ts : Tuples) → f ≡ fieldsOf c → mOf c ≢ 0
+    → remove (edgesTaken d (f .s) (f .n) (passes 0 (f .m))) ts ≡ destroyed (Removal.GN d) c ts
+unfolding destroyed
+between-removed d c f ts F m =
+    ap (λ (x : Fields). remove (edgesTaken d (x .s) (x .n) (passes 0 (x .m))) ts) F
+    ∙ same-test d (sOf c) (nOf c) (passes 0 (mOf c)) _ ts (passes-node (mOf c) m)
+
+pub node-removed : (c : Call) (f : Fields) (ts : Tuples) → f ≡ fieldsOf c → remove (nodeTaken (f .s) (f .n)) ts ≡ destroyed Removal.UN c ts
+unfolding destroyed
+node-removed c f ts F = ap (λ (x : Fields). remove (nodeTaken (x .s) (x .n)) ts) F
+
+pub space-removed : (c : Call) (f : Fields) (ts : Tuples) → f ≡ fieldsOf c → remove (spaceTaken (f .s)) ts ≡ destroyed Removal.US c ts
+unfolding destroyed
+space-removed c f ts F = ap (λ (x : Fields). remove (spaceTaken (x .s)) ts) F

@@ -1,0 +1,31 @@
+use Rattle.operate.proofs.Removals.{space-removed}
+use Rattle.operate.specs.declared.Fields.{Fields}
+use Rattle.chain.specs.Links.{Edited}
+use mathlib.Core.Path.{_≡_, sym, ap, _∙_, subst}
+use borrow.Author.Needs.{needs}
+use Rattle.operate.proofs.destroy_space.Statement.{statement}
+use Rattle.operate.proofs.destroy_space.Tie as tie
+use Rattle.operate.proofs.destroy_space.Reads as reads
+use Rattle.operate.proofs.destroy_space.Lts as lts
+use Rattle.operate.proofs.fields_of.Reads as fields-of-reads
+use Rattle.operate.proofs.remove_space.Reads as remove-space-reads
+
+-- src/lib.rt:290:9
+fields-of-requires : tie.Need-fields-of-requires
+fields-of-requires c κs = search needs
+
+-- src/lib.rt:291:5
+remove-space-requires : tie.Need-remove-space-requires
+remove-space-requires c κs = (c .before .before .before .pre .0, λ e. c .before .before .before .pre .1 (sym (ap (λ (x : Fields). x .s) (c .before .fields-of .ensures)) ∙ e))
+
+-- src/lib.rt:286:1
+same-length : tie.Need-same-length
+same-length c = search needs
+
+-- src/lib.rt:286:1
+returns : tie.Need-returns
+returns c = subst (Edited _ _) (space-removed (c .before .before .before .before .before .before .args .c) _ _ (c .before .before .before .before .fields-of .ensures)) (c .before .before .remove-space .ensures)
+
+pub destroy-space-spec : {M : Type 1} → statement M
+destroy-space-spec =
+    tie.close (tie.spec fields-of-requires remove-space-requires same-length returns)

@@ -1,0 +1,34 @@
+use Rattle.model.specs.Steps.{spaceNumber}
+use mathlib.Core.Path.{_≡_, sym, ap, _∙_}
+use borrow.Author.Needs.{needs}
+use Rattle.operate.proofs.space_number.Statement.{statement}
+use Rattle.operate.proofs.space_number.Tie as tie
+use Rattle.operate.proofs.space_number.Reads as reads
+use Rattle.operate.proofs.space_number.Lts as lts
+use Rattle.operate.proofs.name_word.Reads as name-word-reads
+
+-- src/lib.rt:43:28
+enum-told : tie.Need-enum-told
+enum-told c = search needs
+
+-- src/lib.rt:44:25
+enum-known-s : tie.Need-enum-known-s
+enum-known-s c = search needs
+
+-- src/lib.rt:44:31
+name-word-requires : tie.Need-name-word-requires
+name-word-requires c κs = search needs
+
+-- src/lib.rt:39:1
+returns : tie.Need-returns
+unfolding spaceNumber
+returns c = sym (ap spaceNumber (c .enum-told .given .1))
+
+-- src/lib.rt:39:1
+returns-2 : tie.Need-returns-2
+unfolding spaceNumber
+returns-2 c = c .name-word .ensures ∙ sym (ap spaceNumber (c .before .before .s .given .1))
+
+pub space-number-spec : {M : Type 1} → statement M
+space-number-spec =
+    tie.close (tie.spec enum-told enum-known-s name-word-requires returns returns-2)

@@ -1,0 +1,29 @@
+use Rattle.operate.proofs.Named.{value-named}
+use mathlib.Core.Path.{_≡_, _∙_}
+use borrow.Author.Needs.{needs}
+use Rattle.operate.proofs.value_of.Statement.{statement}
+use Rattle.operate.proofs.value_of.Tie as tie
+use Rattle.operate.proofs.value_of.Reads as reads
+use Rattle.operate.proofs.value_of.Lts as lts
+use Rattle.chain.proofs.value_at.Reads as value-at-reads
+use Rattle.operate.proofs.fields_of.Reads as fields-of-reads
+use Rattle.operate.proofs.main_key.Reads as main-key-reads
+
+-- src/lib.rt:148:9
+fields-of-requires : tie.Need-fields-of-requires
+fields-of-requires c κs = search needs
+
+-- src/lib.rt:149:24
+main-key-requires : tie.Need-main-key-requires
+main-key-requires c κs = search needs
+
+-- src/lib.rt:149:5
+value-at-requires : tie.Need-value-at-requires
+value-at-requires c κs = c .before .before .before .pre
+
+-- src/lib.rt:144:1
+returns : tie.Need-returns
+returns c = c .value-at .ensures ∙ value-named _ (c .before .before .before .before .args .c) _ _ _ (c .before .before .fields-of .ensures) (c .before .main-key .ensures)
+
+pub value-of-spec : {M : Type 1} → statement M
+value-of-spec = tie.close (tie.spec fields-of-requires main-key-requires value-at-requires returns)

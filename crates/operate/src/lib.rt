@@ -1,0 +1,292 @@
+// What each operator does to a store.
+// Each function is pub for the crate above, which has proved what it requires.
+use model::Call;
+use model::Direction;
+use model::Key;
+use model::Object;
+use model::Space;
+use select::EdgesOf;
+use select::NodeOf;
+use select::Selection;
+ghost use mathlib.Core.Logic.{_≢_};
+ghost use mathlib.Core.Path.{_≡_};
+ghost use mathlib.Core.Bool.{true, _&&_};
+ghost use lib.Dec.{eqb};
+ghost use Rattle.model.specs.Pairs.{edgeOf, nodeOf};
+ghost use Rattle.model.specs.Keys.{edgeKey};
+ghost use Rattle.model.specs.Tuples.{anyPresent, assignAll, remove};
+ghost use Rattle.model.specs.Buffer.{tuplesOf};
+ghost use Rattle.model.specs.Steps.{spaceNumber, nOf, gOf, mOf, vOf, sOf, objectKeys, firstValue, edgesTaken, nodeTaken, spaceTaken, destroyed};
+ghost use Rattle.chain.specs.Links.{Linked, Edited};
+ghost use Rattle.select.specs.Selections.{passes};
+ghost use Rattle.model.specs.declared.Removal.{Removal};
+ghost use Rattle.operate.specs.Operate.{fieldsOf, pairKey, mainKey, bothWays, isAdjacent};
+
+// The fields of a call as words; UNIVERSE is 0.
+pub struct Fields {
+    pub n: u32,
+    pub g: u32,
+    pub m: u32,
+    pub v: u32,
+    pub s: u32,
+}
+
+// A name as a word.
+fn name_word(x: u16) -> u32
+    ensures { λ r. ⌜ r ≡ x ⌝ }
+{
+    x as u32
+}
+
+// The number of a space; 0 for UNIVERSE.
+pub fn space_number(s: Space) -> u32
+    ensures { λ r. ⌜ r ≡ spaceNumber s ⌝ }
+{
+    match s {
+        Space::Universe => 0,
+        Space::Numbered(x) => name_word(x.0),
+    }
+}
+
+// The fields of a call.
+pub fn fields_of(c: Call) -> Fields
+    ensures { λ r. ⌜ r ≡ fieldsOf c ⌝ }
+{
+    let s = c.s;
+    Fields {
+        n: name_word(c.n.0),
+        g: name_word(c.g.0),
+        m: name_word(c.m.0),
+        v: c.v,
+        s: space_number(s),
+    }
+}
+
+// The key in space s of the edge from n to m.
+fn edge_key(s: u32, f: Fields) -> Key
+    ensures { λ r. ⌜ r ≡ edgeKey s (f .n) (f .g) (f .m) ⌝ }
+{
+    Key {
+        s,
+        n: f.n,
+        g: f.g,
+        m: f.m,
+    }
+}
+
+// The key in space s of the edge from m to n.
+fn reversed_key(s: u32, f: Fields) -> Key
+    ensures { λ r. ⌜ r ≡ edgeKey s (f .m) (f .g) (f .n) ⌝ }
+{
+    Key {
+        s,
+        n: f.m,
+        g: f.g,
+        m: f.n,
+    }
+}
+
+// The key that a pair has in space s; for an adjacent pair, that of the edge from n.
+fn pair_key(d: Direction, s: u32, f: Fields) -> Key
+    ensures { λ r. ⌜ r ≡ pairKey d s f ⌝ }
+{
+    match d {
+        Direction::Outpointing => edge_key(s, f),
+        Direction::Inpointing => reversed_key(s, f),
+        Direction::Adjacent => edge_key(s, f),
+    }
+}
+
+// The first key that an object has in space s.
+fn main_key(o: Object, s: u32, f: Fields) -> Key
+    ensures { λ r. ⌜ r ≡ mainKey o s f ⌝ }
+{
+    match o {
+        Object::P(d) => pair_key(d, s, f),
+        Object::UN => Key {
+            s,
+            n: f.n,
+            g: 0,
+            m: 0,
+        },
+        Object::US => Key {
+            s,
+            n: 0,
+            g: 0,
+            m: 0,
+        },
+    }
+}
+
+// Are both edges of a pair meant.
+fn both_ways(d: Direction) -> bool
+    ensures { λ r. ⌜ r ≡ bothWays d ⌝ }
+{
+    match d {
+        Direction::Outpointing => false,
+        Direction::Inpointing => false,
+        Direction::Adjacent => true,
+    }
+}
+
+// Has an object a second key.
+fn is_adjacent(o: Object) -> bool
+    ensures { λ r. ⌜ r ≡ isAdjacent o ⌝ }
+{
+    match o {
+        Object::P(d) => both_ways(d),
+        Object::UN => false,
+        Object::US => false,
+    }
+}
+
+// V: the value of what the call names.
+pub fn value_of(b: &[u32], o: Object, c: Call) -> u32
+    requires { ⌜ Linked (now b) ⌝ }
+    ensures { λ r. ⌜ r ≡ firstValue (objectKeys o (sOf c) c) (tuplesOf (now (b .entry))) ⌝ }
+{
+    let f = fields_of(c);
+    chain::value_at(b, main_key(o, f.s, f))
+}
+
+// X: is there what the call names.
+pub fn exists(b: &[u32], o: Object, c: Call) -> bool
+    requires { ⌜ Linked (now b) ⌝ }
+    ensures { λ r. ⌜ r ≡ anyPresent (objectKeys o (sOf c) c) (tuplesOf (now (b .entry))) ⌝ }
+{
+    let f = fields_of(c);
+    if chain::has(b, main_key(o, f.s, f)) {
+        return true;
+    }
+    if is_adjacent(o) {
+        return chain::has(b, reversed_key(f.s, f));
+    }
+    false
+}
+
+// B: sets the value of what the call names; of two edges, whichever are present.
+pub fn bind(b: &mut [u32], o: Object, c: Call)
+    requires { ⌜ Linked (now b) ⌝ }
+    ensures { λ _. ⌜ Edited (now (b .entry)) (now (b .exit)) (assignAll (objectKeys o (sOf c) c) (vOf c) (tuplesOf (now (b .entry)))) ⌝ }
+{
+    let f = fields_of(c);
+    edit::assign_value(b, main_key(o, f.s, f), f.v);
+    if !is_adjacent(o) {
+        return;
+    }
+    edit::assign_value(b, reversed_key(f.s, f), f.v);
+}
+
+// Removes the edges of the pairs of node n in space s with edge g and node m (0: any).
+fn remove_edges(b: &mut [u32], e: EdgesOf)
+    requires { ⌜ Linked (now b) ⌝ }
+    ensures { λ _. ⌜ Edited (now (b .entry)) (now (b .exit)) (remove (edgesTaken (e .d) (e .s) (e .n) (passes (e .g) (e .m))) (tuplesOf (now (b .entry)))) ⌝ }
+{
+    edit::sweep(b, Selection::Edges(e));
+}
+
+// Removes node n from space s (0: from all spaces), with its edges.
+fn remove_node(b: &mut [u32], x: NodeOf)
+    requires { ⌜ Linked (now b) × (x .n ≢ 0) ⌝ }
+    ensures { λ _. ⌜ Edited (now (b .entry)) (now (b .exit)) (remove (nodeTaken (x .s) (x .n)) (tuplesOf (now (b .entry)))) ⌝ }
+{
+    edit::sweep(b, Selection::Node(x));
+}
+
+// Removes a numbered space and all in it.
+fn remove_space(b: &mut [u32], s: u32)
+    requires { ⌜ Linked (now b) × (s ≢ 0) ⌝ }
+    ensures { λ _. ⌜ Edited (now (b .entry)) (now (b .exit)) (remove (spaceTaken s) (tuplesOf (now (b .entry)))) ⌝ }
+{
+    edit::sweep(b, Selection::Space(s));
+}
+
+// D 12–14: removes the edges of the call's pair.
+pub fn destroy_pair(b: &mut [u32], d: Direction, c: Call)
+    requires { ⌜ Linked (now b) × (gOf c ≢ 0) × (mOf c ≢ 0) ⌝ }
+    ensures { λ _. ⌜ Edited (now (b .entry)) (now (b .exit)) (destroyed (Removal.P d) c (tuplesOf (now (b .entry)))) ⌝ }
+{
+    let f = fields_of(c);
+    remove_edges(
+        b,
+        EdgesOf {
+            d,
+            s: f.s,
+            n: f.n,
+            g: f.g,
+            m: f.m,
+        },
+    );
+}
+
+// D 15–17: removes the edges of the pairs of node n.
+pub fn destroy_edges(b: &mut [u32], d: Direction, c: Call)
+    requires { ⌜ Linked (now b) ⌝ }
+    ensures { λ _. ⌜ Edited (now (b .entry)) (now (b .exit)) (destroyed (Removal.G d) c (tuplesOf (now (b .entry)))) ⌝ }
+{
+    let f = fields_of(c);
+    remove_edges(
+        b,
+        EdgesOf {
+            d,
+            s: f.s,
+            n: f.n,
+            g: 0,
+            m: 0,
+        },
+    );
+}
+
+// D 18–20: removes the edges of the pairs of node n with edge g.
+pub fn destroy_edges_named(b: &mut [u32], d: Direction, c: Call)
+    requires { ⌜ Linked (now b) × (gOf c ≢ 0) ⌝ }
+    ensures { λ _. ⌜ Edited (now (b .entry)) (now (b .exit)) (destroyed (Removal.GG d) c (tuplesOf (now (b .entry)))) ⌝ }
+{
+    let f = fields_of(c);
+    remove_edges(
+        b,
+        EdgesOf {
+            d,
+            s: f.s,
+            n: f.n,
+            g: f.g,
+            m: 0,
+        },
+    );
+}
+
+// D 21–23: removes the edges of the pairs of node n with node m.
+pub fn destroy_edges_between(b: &mut [u32], d: Direction, c: Call)
+    requires { ⌜ Linked (now b) × (mOf c ≢ 0) ⌝ }
+    ensures { λ _. ⌜ Edited (now (b .entry)) (now (b .exit)) (destroyed (Removal.GN d) c (tuplesOf (now (b .entry)))) ⌝ }
+{
+    let f = fields_of(c);
+    remove_edges(
+        b,
+        EdgesOf {
+            d,
+            s: f.s,
+            n: f.n,
+            g: 0,
+            m: f.m,
+        },
+    );
+}
+
+// D 49: removes node n, with its edges.
+pub fn destroy_node(b: &mut [u32], c: Call)
+    requires { ⌜ Linked (now b) × (nOf c ≢ 0) ⌝ }
+    ensures { λ _. ⌜ Edited (now (b .entry)) (now (b .exit)) (destroyed Removal.UN c (tuplesOf (now (b .entry)))) ⌝ }
+{
+    let f = fields_of(c);
+    remove_node(b, NodeOf { s: f.s, n: f.n });
+}
+
+// D 55: removes a space and all in it.
+pub fn destroy_space(b: &mut [u32], c: Call)
+    requires { ⌜ Linked (now b) × (sOf c ≢ 0) ⌝ }
+    ensures { λ _. ⌜ Edited (now (b .entry)) (now (b .exit)) (destroyed Removal.US c (tuplesOf (now (b .entry)))) ⌝ }
+{
+    let f = fields_of(c);
+    remove_space(b, f.s);
+}
