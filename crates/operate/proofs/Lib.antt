@@ -1,2 +1,3 @@
 pub mod Named
 pub mod Removals
+pub mod Creates

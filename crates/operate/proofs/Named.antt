@@ -50,14 +50,14 @@ value-named o c f k ts F K =
 
 any-present : (o : Object) (s : ℕ) (c : Call) (ts : Tuples)
     → anyPresent (objectKeys o s c) ts
-      ≡ (present (mainKey o s (fieldsOf c)) ts || cond (isAdjacent o) (present (secondKey s (fieldsOf c)) ts) false)
+    ≡ (present (mainKey o s (fieldsOf c)) ts || cond (isAdjacent o) (present (secondKey s (fieldsOf c)) ts) false)
 unfolding anyPresent
 any-present o s c ts =
     ap (λ (ks : List Key). anyPresent ks ts) (object-keys o s c) ∙ ap (λ (x : Bool). present (mainKey o s (fieldsOf c)) ts || x) (go (isAdjacent o))
   where
-  go : (a : Bool) → anyPresent (cond a (secondKey s (fieldsOf c) ∷ []) []) ts ≡ cond a (present (secondKey s (fieldsOf c)) ts) false
-  go true = or-false (present (secondKey s (fieldsOf c)) ts)
-  go false = refl
+    go : (a : Bool) → anyPresent (cond a (secondKey s (fieldsOf c) ∷ []) []) ts ≡ cond a (present (secondKey s (fieldsOf c)) ts) false
+    go true = or-false (present (secondKey s (fieldsOf c)) ts)
+    go false = refl
 
 pub exists-first : (o : Object) (c : Call) (f : Fields) (k : Key) (ts : Tuples) (x : Bool)
     → f ≡ fieldsOf c → k ≡ mainKey o (f .s) f → x ≡ present k ts → x ≡ true → true ≡ anyPresent (objectKeys o (sOf c) c) ts
@@ -92,14 +92,14 @@ exists-none o c f k ts x a F K X e A one =
 
 assigned : (o : Object) (s : ℕ) (c : Call) (v : Value) (ts : Tuples)
     → assignAll (objectKeys o s c) v ts
-      ≡ cond (isAdjacent o) (assign (secondKey s (fieldsOf c)) v (assign (mainKey o s (fieldsOf c)) v ts)) (assign (mainKey o s (fieldsOf c)) v ts)
+    ≡ cond (isAdjacent o) (assign (secondKey s (fieldsOf c)) v (assign (mainKey o s (fieldsOf c)) v ts)) (assign (mainKey o s (fieldsOf c)) v ts)
 unfolding assignAll
 assigned o s c v ts = ap (λ (ks : List Key). assignAll ks v ts) (object-keys o s c) ∙ go (isAdjacent o)
   where
-  go : (a : Bool) → assignAll (cond a (secondKey s (fieldsOf c) ∷ []) []) v (assign (mainKey o s (fieldsOf c)) v ts)
-      ≡ cond a (assign (secondKey s (fieldsOf c)) v (assign (mainKey o s (fieldsOf c)) v ts)) (assign (mainKey o s (fieldsOf c)) v ts)
-  go true = refl
-  go false = refl
+    go : (a : Bool) → assignAll (cond a (secondKey s (fieldsOf c) ∷ []) []) v (assign (mainKey o s (fieldsOf c)) v ts)
+        ≡ cond a (assign (secondKey s (fieldsOf c)) v (assign (mainKey o s (fieldsOf c)) v ts)) (assign (mainKey o s (fieldsOf c)) v ts)
+    go true = refl
+    go false = refl
 
 -- the first assignment, in the call's own fields
 first-assigned : (o : Object) (c : Call) (f : Fields) (k : Key) (ts : Tuples) → f ≡ fieldsOf c → k ≡ mainKey o (f .s) f

@@ -1,12 +1,16 @@
 -- The fields of a call as words, and the keys of what it names.
-use mathlib.Core.Bool.{Bool, true, false}
-use Prim.Native.Nat.{ℕ}
+use mathlib.Core.Bool.{Bool, true, false, cond}
+use mathlib.Core.List.{List, [], _∷_}
+use Prim.Native.Nat.{ℕ, _+_, _≤_}
+use lib.ListN.{length}
 use Rattle.model.specs.declared.Call.{Call}
 use Rattle.model.specs.declared.Direction.{Direction}
 use Rattle.model.specs.declared.Direction.the-variants.{Outpointing, Inpointing, Adjacent}
 use Rattle.model.specs.declared.Key.{Key}
 use Rattle.model.specs.declared.Object.{Object}
 use Rattle.model.specs.Keys.{spaceKey, nodeKey, edgeKey}
+use Rattle.model.specs.Tuples.{missing}
+use Rattle.model.specs.Buffer.{capacityOf, tuplesOf}
 use Rattle.model.specs.Steps.{nOf, gOf, mOf, vOf, sOf}
 use Rattle.operate.specs.declared.Fields.{Fields}
 
@@ -36,3 +40,17 @@ unfoldable pub isAdjacent : Object → Bool
 isAdjacent (Object.P d) = bothWays d
 isAdjacent Object.UN = false
 isAdjacent Object.US = false
+
+-- an object's keys in space s, from the fields as words (`objectKeys`)
+unfoldable pub keysIn : Object → ℕ → Fields → List Key
+keysIn o s f = mainKey o s f ∷ cond (isAdjacent o) (edgeKey s (f .m) (f .g) (f .n) ∷ []) []
+
+-- C 51 adds s alone; all other C add to s and to 0 (`created`)
+unfoldable pub isSpace : Object → Bool
+isSpace (Object.P d) = false
+isSpace Object.UN = false
+isSpace Object.US = true
+
+-- the records suffice for the tuples with these keys added: not "tuples present + tuples to add > C"
+abbrev pub Room : List ℕ → List Key → Type 0
+Room b ks = length (tuplesOf b) + length (missing ks (tuplesOf b)) ≤ capacityOf b

@@ -12,15 +12,17 @@ ghost use mathlib.Core.Logic.{_≢_};
 ghost use mathlib.Core.Path.{_≡_};
 ghost use mathlib.Core.Bool.{true, _&&_};
 ghost use lib.Dec.{eqb};
+ghost use lib.ListN.{length};
+ghost use mathlib.Core.List.{[], _∷_};
 ghost use Rattle.model.specs.Pairs.{edgeOf, nodeOf};
 ghost use Rattle.model.specs.Keys.{edgeKey};
-ghost use Rattle.model.specs.Tuples.{anyPresent, assignAll, remove};
+ghost use Rattle.model.specs.Tuples.{anyPresent, addAll, missing, assignAll, remove};
 ghost use Rattle.model.specs.Buffer.{tuplesOf};
-ghost use Rattle.model.specs.Steps.{spaceNumber, nOf, gOf, mOf, vOf, sOf, objectKeys, firstValue, edgesTaken, nodeTaken, spaceTaken, destroyed};
+ghost use Rattle.model.specs.Steps.{spaceNumber, nOf, gOf, mOf, vOf, sOf, objectKeys, created, firstValue, edgesTaken, nodeTaken, spaceTaken, destroyed};
 ghost use Rattle.chain.specs.Links.{Linked, Edited};
 ghost use Rattle.select.specs.Selections.{passes};
 ghost use Rattle.model.specs.declared.Removal.{Removal};
-ghost use Rattle.operate.specs.Operate.{fieldsOf, pairKey, mainKey, bothWays, isAdjacent};
+ghost use Rattle.operate.specs.Operate.{fieldsOf, pairKey, mainKey, bothWays, isAdjacent, keysIn, isSpace, Room};
 
 // The fields of a call as words; UNIVERSE is 0.
 pub struct Fields {
@@ -175,6 +177,84 @@ pub fn bind(b: &mut [u32], o: Object, c: Call)
         return;
     }
     edit::assign_value(b, reversed_key(f.s, f), f.v);
+}
+
+// How many tuples a key would add.
+fn count_absent(b: &[u32], k: Key) -> usize
+    requires { ⌜ Linked (now b) ⌝ }
+    ensures { λ r. ⌜ r ≡ length (missing (k ∷ []) (tuplesOf (now (b .entry)))) ⌝ }
+{
+    if chain::has(b, k) {
+        return 0;
+    }
+    1
+}
+
+// How many tuples an object would add in space s; a loop has one edge.
+fn missing_in(b: &[u32], o: Object, s: u32, f: Fields) -> usize
+    requires { ⌜ Linked (now b) ⌝ }
+    ensures { λ r. ⌜ r ≡ length (missing (keysIn o s f) (tuplesOf (now (b .entry)))) ⌝ }
+{
+    let first = count_absent(b, main_key(o, s, f));
+    if !is_adjacent(o) {
+        return first;
+    }
+    if f.n == f.m {
+        return first;
+    }
+    first + count_absent(b, reversed_key(s, f))
+}
+
+// Is a space created, which has no second tuple in 0.
+fn is_space(o: Object) -> bool
+    ensures { λ r. ⌜ r ≡ isSpace o ⌝ }
+{
+    match o {
+        Object::P(d) => false,
+        Object::UN => false,
+        Object::US => true,
+    }
+}
+
+// C: how many tuples it would add.
+pub fn count_created(b: &[u32], o: Object, c: Call) -> usize
+    requires { ⌜ Linked (now b) ⌝ }
+    ensures { λ r. ⌜ r ≡ length (missing (created o c) (tuplesOf (now (b .entry)))) ⌝ }
+{
+    let f = fields_of(c);
+    let here = missing_in(b, o, f.s, f);
+    if f.s == 0 {
+        return here;
+    }
+    if is_space(o) {
+        return here;
+    }
+    here + missing_in(b, o, 0, f)
+}
+
+// Adds an object's tuples in space s, NIL where they are missing.
+fn add_in(b: &mut [u32], o: Object, s: u32, f: Fields)
+    requires { ⌜ Linked (now b) × Room (now b) (keysIn o s f) ⌝ }
+    ensures { λ _. ⌜ Edited (now (b .entry)) (now (b .exit)) (addAll (keysIn o s f) (tuplesOf (now (b .entry)))) ⌝ }
+{
+    edit::add_missing(b, main_key(o, s, f));
+    if !is_adjacent(o) {
+        return;
+    }
+    edit::add_missing(b, reversed_key(s, f));
+}
+
+// C: adds what the call names in s and in 0, where there is room for all of it.
+pub fn create(b: &mut [u32], o: Object, c: Call)
+    requires { ⌜ Linked (now b) × Room (now b) (created o c) ⌝ }
+    ensures { λ _. ⌜ Edited (now (b .entry)) (now (b .exit)) (addAll (created o c) (tuplesOf (now (b .entry)))) ⌝ }
+{
+    let f = fields_of(c);
+    add_in(b, o, f.s, f);
+    if is_space(o) {
+        return;
+    }
+    add_in(b, o, 0, f);
 }
 
 // Removes the edges of the pairs of node n in space s with edge g and node m (0: any).

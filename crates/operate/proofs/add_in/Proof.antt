@@ -1,0 +1,63 @@
+use Rattle.operate.proofs.Creates.{adding-first, adding-second, added-one, added-two}
+use Rattle.model.proofs.Bools.{not-yes, not-no}
+use borrow.Author.Needs.{needs}
+use Rattle.operate.proofs.add_in.Statement.{statement}
+use Rattle.operate.proofs.add_in.Tie as tie
+use Rattle.operate.proofs.add_in.Reads as reads
+use Rattle.operate.proofs.add_in.Lts as lts
+use Rattle.edit.proofs.add_missing.Reads as add-missing-reads
+use Rattle.operate.proofs.is_adjacent.Reads as is-adjacent-reads
+use Rattle.operate.proofs.main_key.Reads as main-key-reads
+use Rattle.operate.proofs.reversed_key.Reads as reversed-key-reads
+
+-- src/lib.rt:240:26
+main-key-requires : tie.Need-main-key-requires
+main-key-requires c κs = search needs
+
+-- src/lib.rt:240:5
+add-missing-requires : tie.Need-add-missing-requires
+add-missing-requires c κs = adding-first _ _ _ _ (c .before .before .before .pre .0) (c .before .before .before .pre .1) (c .main-key .ensures)
+
+-- src/lib.rt:241:9
+is-adjacent-requires : tie.Need-is-adjacent-requires
+is-adjacent-requires c κs = search needs
+
+-- src/lib.rt:242:9
+same-length : tie.Need-same-length
+same-length c = search needs
+
+-- src/lib.rt:242:9
+returns : tie.Need-returns
+returns c = added-one _ _ _ _ _ (c .before .before .before .before .before .main-key .ensures) (c .before .is-adjacent .ensures) (not-yes _ (c .if1 .taken)) (c .before .before .before .before .add-missing .ensures)
+
+-- src/lib.rt:244:26
+reversed-key-requires : tie.Need-reversed-key-requires
+reversed-key-requires c κs = search needs
+
+-- src/lib.rt:244:5
+add-missing-requires-2 : tie.Need-add-missing-requires-2
+add-missing-requires-2 c κs = adding-second _ _ _ _ _ _ (c .before .before .before .before .before .before .before .before .before .before .pre .0) (c .before .before .before .before .before .before .before .before .before .before .pre .1) (c .before .before .before .before .before .before .before .main-key .ensures) (c .before .before .before .is-adjacent .ensures) (not-no _ (c .before .before .if1 .left))
+    (c .reversed-key .ensures) (c .before .before .before .before .before .before .add-missing .ensures)
+
+-- src/lib.rt:236:1
+same-length-2 : tie.Need-same-length-2
+same-length-2 c = search needs
+
+-- src/lib.rt:236:1
+returns-2 : tie.Need-returns-2
+returns-2 c = added-two _ _ _ _ _ _ (c .before .before .before .before .before .before .before .before .before .before .main-key .ensures) (c .before .before .before .before .before .before .is-adjacent .ensures) (not-no _ (c .before .before .before .before .before .if1 .left)) (c .before .before .before .reversed-key .ensures)
+    (c .before .before .before .before .before .before .before .before .before .add-missing .ensures) (c .before .before .add-missing2 .ensures)
+
+pub add-in-spec : {M : Type 1} → statement M
+add-in-spec =
+    tie.close
+    (tie.spec
+    main-key-requires
+    add-missing-requires
+    is-adjacent-requires
+    same-length
+    returns
+    reversed-key-requires
+    add-missing-requires-2
+    same-length-2
+    returns-2)
