@@ -79,7 +79,7 @@ gather-complete f (t ∷ ts) q k h e =
     (λ there. or-right (member q (f (t .key))) (member q (gather f ts)) (gather-complete f ts q k there e))
     (or-cases (sameKey k (t .key)) (present k ts) h)
 
-map-sound : (f : Pair → Pair) (ps : List Pair) (q : Pair) → Member q (map f ps) → (p : Pair) × Member p ps × (q ≡ f p)
+pub map-sound : (f : Pair → Pair) (ps : List Pair) (q : Pair) → Member q (map f ps) → (p : Pair) × Member p ps × (q ≡ f p)
 unfolding holds
 map-sound f [] q e = absurd (false≢true e)
 map-sound f (p ∷ ps) q e =
@@ -87,7 +87,7 @@ map-sound f (p ∷ ps) q e =
     (λ h. let r = map-sound f ps q h in (r .0, or-right (samePair (r .0) p) (member (r .0) ps) (r .1), r .2))
     (or-cases (samePair q (f p)) (member q (map f ps)) e)
 
-map-complete : (f : Pair → Pair) (ps : List Pair) (p : Pair) → Member p ps → Member (f p) (map f ps)
+pub map-complete : (f : Pair → Pair) (ps : List Pair) (p : Pair) → Member p ps → Member (f p) (map f ps)
 unfolding holds
 map-complete f [] p e = absurd (false≢true e)
 map-complete f (r ∷ ps) p e =
@@ -111,7 +111,7 @@ only-sound p (r ∷ ps) q e = go (p r) refl (only-sound p ps q) e
         (or-cases (samePair q r) (member q (only p ps)) h)
     go false f ih h = let s = ih h in (or-right (samePair q r) (member q ps) (s .0), s .1)
 
-only-complete : (p : Pair → Bool) (ps : List Pair) (q : Pair) → Member q ps → p q ≡ true → Member q (only p ps)
+pub only-complete : (p : Pair → Bool) (ps : List Pair) (q : Pair) → Member q ps → p q ≡ true → Member q (only p ps)
 unfolding only holds
 only-complete p [] q e h = absurd (false≢true e)
 only-complete p (r ∷ ps) q e h = go (p r) refl (λ f. only-complete p ps q f h) (or-cases (samePair q r) (member q ps) e)

@@ -23,15 +23,15 @@ use Rattle.operate.specs.Operate.{fieldsOf}
 asked-name : (want name : ℕ) → want ≢ 0 → (eqb want 0 || eqb name want) ≡ eqb name want
 asked-name want name h = ap (λ (b : Bool). b || eqb name want) (ne-eqb want 0 h)
 
-passes-any : (p : Pair) → passes 0 0 p ≡ true
+pub passes-any : (p : Pair) → passes 0 0 p ≡ true
 unfolding passes
 passes-any p = refl
 
-passes-edge : (g : ℕ) → g ≢ 0 → (p : Pair) → passes g 0 p ≡ eqb (edgeOf p) g
+pub passes-edge : (g : ℕ) → g ≢ 0 → (p : Pair) → passes g 0 p ≡ eqb (edgeOf p) g
 unfolding passes
 passes-edge g h p = and-true (eqb g 0 || eqb (edgeOf p) g) ∙ asked-name g (edgeOf p) h
 
-passes-node : (m : ℕ) → m ≢ 0 → (p : Pair) → passes 0 m p ≡ eqb (nodeOf p) m
+pub passes-node : (m : ℕ) → m ≢ 0 → (p : Pair) → passes 0 m p ≡ eqb (nodeOf p) m
 unfolding passes
 passes-node m h p = asked-name m (nodeOf p) h
 
