@@ -329,7 +329,7 @@ every-member P [] h = tt
 every-member P (p ∷ ps) h = (h p (or-left (samePair p p) (member p ps) (own-pair p)), every-member P ps (λ q e. h q (or-right (samePair q p) (member q ps) e)))
 
 -- the node of a pair is named
-pair-named : (d : Direction) (s n : ℕ) (ts : Tuples) → TupleRules ts → (p : Pair) → IsPair d s n ts p → NodeNamed p
+pub pair-named : (d : Direction) (s n : ℕ) (ts : Tuples) → TupleRules ts → (p : Pair) → IsPair d s n ts p → NodeNamed p
 pair-named d s n ts R p = go d
   where
     out : PointsOut s n ts p → NodeNamed p
@@ -343,7 +343,7 @@ pair-named d s n ts R p = go d
     go Inpointing h = in′ h
     go Adjacent h = ⊎-elim out in′ h
 
-names-named : (ps : List Pair) → ((p : Pair) → Member p ps → NodeNamed p) → EveryPair NodeNamed (nodeNames ps)
+pub names-named : (ps : List Pair) → ((p : Pair) → Member p ps → NodeNamed p) → EveryPair NodeNamed (nodeNames ps)
 names-named ps h =
     every-member NodeNamed (nodeNames ps)
     (λ q e. let r = nodes-sound ps q e in subst NodeNamed (sym (r .2)) (h (r .0) (r .1)))

@@ -266,7 +266,7 @@ fn remove_edges(b: &mut [u32], e: EdgesOf)
 }
 
 // Removes node n from space s (0: from all spaces), with its edges.
-fn remove_node(b: &mut [u32], x: NodeOf)
+pub fn remove_node(b: &mut [u32], x: NodeOf)
     requires { ⌜ Linked (now b) × (x .n ≢ 0) ⌝ }
     ensures { λ _. ⌜ Edited (now (b .entry)) (now (b .exit)) (remove (nodeTaken (x .s) (x .n)) (tuplesOf (now (b .entry)))) ⌝ }
 {
