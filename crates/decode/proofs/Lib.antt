@@ -1,0 +1,3 @@
+pub mod Ranges
+pub mod Refused
+pub mod Rows

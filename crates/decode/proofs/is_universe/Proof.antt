@@ -1,0 +1,28 @@
+use Rattle.model.specs.Refusals.{isUniverse}
+use mathlib.Core.Path.{sym, ap}
+use borrow.Author.Needs.{needs}
+use Rattle.decode.proofs.is_universe.Statement.{statement}
+use Rattle.decode.proofs.is_universe.Tie as tie
+use Rattle.decode.proofs.is_universe.Reads as reads
+use Rattle.decode.proofs.is_universe.Lts as lts
+
+-- src/lib.rt:148:28
+enum-told : tie.Need-enum-told
+enum-told c = search needs
+
+-- src/lib.rt:149:31
+enum-told-2 : tie.Need-enum-told-2
+enum-told-2 c = search needs
+
+-- src/lib.rt:144:1
+returns : tie.Need-returns
+unfolding isUniverse
+returns c = sym (ap isUniverse (c .enum-told .given .1))
+
+-- src/lib.rt:144:1
+returns-2 : tie.Need-returns-2
+unfolding isUniverse
+returns-2 c = sym (ap isUniverse (c .enum-told2 .given .1))
+
+pub is-universe-spec : {M : Type 1} → statement M
+is-universe-spec = tie.close (tie.spec enum-told enum-told-2 returns returns-2)

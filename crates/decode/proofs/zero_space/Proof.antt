@@ -1,0 +1,28 @@
+use Rattle.model.specs.Refusals.{zeroSpace}
+use mathlib.Core.Path.{sym, ap}
+use borrow.Author.Needs.{needs}
+use Rattle.decode.proofs.zero_space.Statement.{statement}
+use Rattle.decode.proofs.zero_space.Tie as tie
+use Rattle.decode.proofs.zero_space.Reads as reads
+use Rattle.decode.proofs.zero_space.Lts as lts
+
+-- src/lib.rt:138:28
+enum-told : tie.Need-enum-told
+enum-told c = search needs
+
+-- src/lib.rt:139:25
+enum-known-s : tie.Need-enum-known-s
+enum-known-s c = search needs
+
+-- src/lib.rt:134:1
+returns : tie.Need-returns
+unfolding zeroSpace
+returns c = sym (ap zeroSpace (c .enum-told .given .1))
+
+-- src/lib.rt:134:1
+returns-2 : tie.Need-returns-2
+unfolding zeroSpace
+returns-2 c = sym (ap zeroSpace (c .before .before .s .given .1))
+
+pub zero-space-spec : {M : Type 1} → statement M
+zero-space-spec = tie.close (tie.spec enum-told enum-known-s returns returns-2)
