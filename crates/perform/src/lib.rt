@@ -1,0 +1,95 @@
+// The step of an operator on a store, where nothing stops the call.
+// `perform` is pub for the crate above, which has proved what it requires.
+use model::Answer;
+use model::Call;
+use model::Operator;
+use model::Removal;
+use model::Space;
+ghost use mathlib.Core.Bool.{true, _||_};
+ghost use mathlib.Core.Path.{_≡_};
+ghost use lib.Dec.{eqb};
+ghost use lib.ListN.{length};
+ghost use Rattle.model.specs.Operators.{within};
+ghost use Rattle.model.specs.Buffer.{tuplesOf, isStore};
+ghost use Rattle.model.specs.Steps.{spaceNumber, firstArgument, destroyed};
+ghost use Rattle.chain.specs.Links.{Edited};
+ghost use Rattle.perform.specs.Perform.{NamesRead, Ready, Performed};
+
+// Operators whose first argument is the space: 51, 52, 55.
+fn space_is_first(o: u32) -> bool
+    ensures { λ r. ⌜ r ≡ (within 51 52 o || eqb o 55) ⌝ }
+{
+    if o == 55 {
+        return true;
+    }
+    if o < 51 {
+        return false;
+    }
+    o <= 52
+}
+
+// The name of a space; 0 for UNIVERSE.
+fn space_name(s: Space) -> u16
+    ensures { λ r. ⌜ r ≡ spaceNumber s ⌝ }
+{
+    match s {
+        Space::Universe => 0,
+        Space::Numbered(x) => x.0,
+    }
+}
+
+// What C, B and D return.
+fn first_argument(c: Call) -> u16
+    ensures { λ r. ⌜ r ≡ firstArgument c ⌝ }
+{
+    if space_is_first(c.operator) {
+        let s = c.s;
+        return space_name(s);
+    }
+    c.n.0
+}
+
+// D: removes what the operator names.
+fn destroy(b: &mut [u32], r: Removal, c: Call)
+    requires { ⌜ (isStore (now b) ≡ true) × NamesRead r c ⌝ }
+    ensures { λ _. ⌜ Edited (now (b .entry)) (now (b .exit)) (destroyed r c (tuplesOf (now (b .entry)))) ⌝ }
+{
+    match r {
+        Removal::P(d) => operate::destroy_pair(b, d, c),
+        Removal::G(d) => operate::destroy_edges(b, d, c),
+        Removal::GG(d) => operate::destroy_edges_named(b, d, c),
+        Removal::GN(d) => operate::destroy_edges_between(b, d, c),
+        Removal::N(d) => collect::destroy_nodes(b, d, c),
+        Removal::NG(d) => collect::destroy_nodes_by_edge(b, d, c),
+        Removal::UN => operate::destroy_node(b, c),
+        Removal::US => operate::destroy_space(b, c),
+    }
+}
+
+// The step of an operator, and its answer.
+pub fn perform(store: &mut [u32], op: Operator, c: Call, list: &mut [u32]) -> Answer
+    requires { ⌜ (isStore (now store) ≡ true) × Ready op c (now store) (length (now list)) ⌝ }
+    ensures { λ r. ⌜ Performed op c (now (store .entry)) (now (list .entry)) r (now (store .exit)) (now (list .exit)) ⌝ }
+{
+    match op {
+        Operator::Create(o) => {
+            operate::create(store, o, c);
+            Answer::Name(first_argument(c))
+        }
+        Operator::Bind(o) => {
+            operate::bind(store, o, c);
+            Answer::Name(first_argument(c))
+        }
+        Operator::Value(o) => Answer::Value(operate::value_of(store, o, c)),
+        Operator::Exists(o) => Answer::YesNo(operate::exists(store, o, c)),
+        Operator::Destroy(r) => {
+            destroy(store, r, c);
+            Answer::Name(first_argument(c))
+        }
+        Operator::List(l) => {
+            let k = listing::count_listed(store, l, c);
+            listing::write_listed(store, l, c, list);
+            Answer::List(k)
+        }
+    }
+}
