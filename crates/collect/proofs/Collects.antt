@@ -1,5 +1,4 @@
 -- Nodes removed one after the other (specs/Collected.antt).
-use mathlib.Core.Bool.{true}
 use mathlib.Core.List.{List, [], _∷_, _++_, map}
 use mathlib.Core.Logic.{_≢_}
 use mathlib.Core.Path.{_≡_, refl, sym, ap, _∙_, subst}
@@ -14,14 +13,14 @@ use Rattle.model.specs.Ordered.{holds}
 use Rattle.model.specs.Pairs.{edgeOf, nodeOf, member, pairsOf, nodeNames, withEdge}
 use Rattle.model.specs.OneCall.{nameCount, pack}
 use Rattle.model.specs.Tuples.{Tuples, remove}
-use Rattle.model.specs.Buffer.{tuplesOf, isStore}
+use Rattle.model.specs.Buffer.{tuplesOf}
 use Rattle.model.specs.Rules.{TupleRules}
 use Rattle.model.specs.Steps.{nOf, gOf, sOf, nodeTaken, removeNodes, listed}
 use Rattle.model.proofs.Bools.{or-left, or-right}
 use Rattle.model.proofs.Entries.{Member, samePair, own-pair, pairs-sound, nodes-sound, only-sound}
 use Rattle.model.proofs.Steps.{pair-named}
 use Rattle.chain.specs.Links.{Linked, Edited}
-use Rattle.edit.proofs.Built.{unedited, store-linked, store-tuples}
+use Rattle.edit.proofs.Built.{unedited}
 use Rattle.list.specs.Queries.{Readable, written}
 use Rattle.list.proofs.Counted.{entries-most}
 use Rattle.operate.specs.declared.Fields.{Fields}
@@ -143,6 +142,3 @@ unfolding listed
 neighbours-by-edge d c ts R =
     names-listed (withEdge (gOf c) (pairsOf d (sOf c) (nOf c) ts))
     (λ p e. pair-named d (sOf c) (nOf c) ts R p (pairs-sound d (sOf c) (nOf c) ts p (only-sound _ (pairsOf d (sOf c) (nOf c) ts) p e .0)))
-
-pub store-readable : (b : List ℕ) → isStore b ≡ true → Readable b
-store-readable b e = record { linked = store-linked b e; small = store-tuples b e .small }

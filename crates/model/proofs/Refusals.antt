@@ -81,11 +81,11 @@ first-some (x ∷ xs) ys n e = go (x .applies) (first-some xs ys n) e
     go false ih f = ih f
 
 -- the number that wins is that of one of the conditions
-abbrev everyNumber : (ℕ → Bool) → List Stop → Bool
+abbrev pub everyNumber : (ℕ → Bool) → List Stop → Bool
 everyNumber p [] = true
 everyNumber p (x ∷ xs) = p (x .number) && everyNumber p xs
 
-first-number : (p : ℕ → Bool) (xs : List Stop) (n : ℕ) → everyNumber p xs ≡ true → first xs ≡ some n → p n ≡ true
+pub first-number : (p : ℕ → Bool) (xs : List Stop) (n : ℕ) → everyNumber p xs ≡ true → first xs ≡ some n → p n ≡ true
 unfolding first
 first-number p [] n h e = absurd (none≢some e)
 first-number p (x ∷ xs) n h e = go (x .applies) (first-number p xs n (and-right (p (x .number)) (everyNumber p xs) h)) e

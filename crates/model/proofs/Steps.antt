@@ -19,6 +19,7 @@ use Rattle.model.specs.Keys.{mostName, spaceKey, nodeKey, edgeKey, sameK
 use Rattle.model.specs.Tuples.{Tuples, present, addAll, missing, assign, assignAll, remove}
 use Rattle.model.specs.declared.Direction.{Direction}
 use Rattle.model.specs.declared.Direction.the-variants.{Outpointing, Inpointing, Adjacent}
+use Rattle.model.specs.declared.Listing.{Listing}
 use Rattle.model.specs.declared.Object.{Object}
 use Rattle.model.specs.declared.Operator.{Operator}
 use Rattle.model.specs.declared.Operator.the-variants.{Create, Bind, Value as Values, Exists, Destroy, List as Lists}
@@ -91,8 +92,8 @@ passed C ts c room e =
 abbrev spaceTested : ℕ → Bool
 spaceTested o = not (eqb o 51 || within 54 55 o)
 
--- what the steps below need of an operator's number
-abbrev agrees : Operator → ℕ → Bool
+-- what a step and its list need of an operator's number
+abbrev pub agrees : Operator → ℕ → Bool
 agrees (Create (Object.P d)) o =
     (readsOf o .n) && ((readsOf o .g) && ((readsOf o .m) && ((readsOf o .s) && (within 1 44 o && spaceTested o))))
 agrees (Create Object.UN) o = (readsOf o .n) && ((readsOf o .s) && spaceTested o)
@@ -100,15 +101,22 @@ agrees (Create Object.US) o = true
 agrees (Bind x) o = true
 agrees (Values x) o = true
 agrees (Exists x) o = true
-agrees (Destroy (Removal.P d)) o = true
+agrees (Destroy (Removal.P d)) o = (readsOf o .g) && (readsOf o .m)
 agrees (Destroy (Removal.G d)) o = true
-agrees (Destroy (Removal.GG d)) o = true
-agrees (Destroy (Removal.GN d)) o = true
+agrees (Destroy (Removal.GG d)) o = readsOf o .g
+agrees (Destroy (Removal.GN d)) o = readsOf o .m
 agrees (Destroy (Removal.N d)) o = true
-agrees (Destroy (Removal.NG d)) o = true
+agrees (Destroy (Removal.NG d)) o = readsOf o .g
 agrees (Destroy Removal.UN) o = readsOf o .n
 agrees (Destroy Removal.US) o = (readsOf o .s) && eqb o 55
-agrees (Lists x) o = true
+agrees (Lists (Listing.P d)) o = true
+agrees (Lists (Listing.G d)) o = true
+agrees (Lists (Listing.GN d)) o = readsOf o .m
+agrees (Lists (Listing.N d)) o = true
+agrees (Lists (Listing.NG d)) o = readsOf o .g
+agrees (Lists Listing.UN) o = true
+agrees (Lists Listing.US) o = true
+agrees (Lists Listing.USn) o = true
 
 agree-all : everyRecord (λ (o : ℕ). agrees (operatorOf o) o) 57 ≡ true
 unfolding everyRecord operatorOf table readsOf
@@ -124,7 +132,7 @@ every-record p (suc C) e i h k = go (eqb i (suc C)) refl (every-record p C (and-
     go false f rest = let d : i ≡ suc C → ⊥ = eqb-false i (suc C) f in rest (omega arith)
 
 -- the number of a call that is not stopped by condition 2
-agree : (c : Call) → noOperator c ≡ false → agrees (operatorOf (c .operator)) (c .operator) ≡ true
+pub agree : (c : Call) → noOperator c ≡ false → agrees (operatorOf (c .operator)) (c .operator) ≡ true
 unfolding noOperator
 agree c e =
     let o : ℕ = c .operator in
@@ -134,18 +142,18 @@ agree c e =
 
 -- ---- names that are read are not 0
 
-n-named : (c : Call) → zeroName c ≡ false → (readsOf (c .operator) .n) ≡ true → nOf c ≢ 0
+pub n-named : (c : Call) → zeroName c ≡ false → (readsOf (c .operator) .n) ≡ true → nOf c ≢ 0
 unfolding zeroName
 n-named c e r =
     eqb-false (nOf c) 0 (and-no (readsOf (c .operator) .n) (eqb (nOf c) 0) (or-no-left _ _ (or-no-left _ _ (or-no-left _ _ e))) r)
 
-g-named : (c : Call) → zeroName c ≡ false → (readsOf (c .operator) .g) ≡ true → gOf c ≢ 0
+pub g-named : (c : Call) → zeroName c ≡ false → (readsOf (c .operator) .g) ≡ true → gOf c ≢ 0
 unfolding zeroName
 g-named c e r =
     eqb-false (gOf c) 0
     (and-no (readsOf (c .operator) .g) (eqb (gOf c) 0) (or-no-right (readsOf (c .operator) .n && eqb (nOf c) 0) _ (or-no-left _ _ (or-no-left _ _ e))) r)
 
-m-named : (c : Call) → zeroName c ≡ false → (readsOf (c .operator) .m) ≡ true → mOf c ≢ 0
+pub m-named : (c : Call) → zeroName c ≡ false → (readsOf (c .operator) .m) ≡ true → mOf c ≢ 0
 unfolding zeroName
 m-named c e r =
     eqb-false (mOf c) 0
@@ -157,7 +165,7 @@ unfolding zeroSpace isUniverse spaceNumber
 numbered-named Universe e f = absurd (true≢false f)
 numbered-named (Numbered s) e f = eqb-false (s .0) 0 e
 
-s-named : (c : Call) → zeroName c ≡ false → destroysUniverse c ≡ false → (readsOf (c .operator) .s) ≡ true → eqb (c .operator) 55 ≡ true → sOf c ≢ 0
+pub s-named : (c : Call) → zeroName c ≡ false → destroysUniverse c ≡ false → (readsOf (c .operator) .s) ≡ true → eqb (c .operator) 55 ≡ true → sOf c ≢ 0
 unfolding zeroName destroysUniverse
 s-named c e f r o =
     numbered-named (c .s)

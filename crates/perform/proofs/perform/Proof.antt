@@ -1,6 +1,6 @@
 use Rattle.perform.proofs.Performs.{ready-as, create-performed, bind-performed, value-performed, exists-performed, destroy-performed, list-performed}
 use Rattle.edit.proofs.Built.{store-linked}
-use Rattle.collect.proofs.Collects.{store-readable}
+use Rattle.listing.proofs.Stores.{store-readable}
 use borrow.Author.Needs.{needs}
 use Rattle.perform.proofs.perform.Statement.{statement}
 use Rattle.perform.proofs.perform.Tie as tie

@@ -1,0 +1,109 @@
+-- The first condition that applies, as a number (specs/Numbers.antt), and conditions 9 and 10 by what they count.
+use mathlib.Core.Bool.{Bool, true, false, cond, not}
+use mathlib.Core.List.{List, [], _∷_}
+use mathlib.Core.Logic.{_↔_, _≢_}
+use mathlib.Core.Option.{Option, none, some}
+use mathlib.Core.Path.{_≡_, refl, sym, ap, ap₂, _∙_}
+use Prim.Native.Nat.{ℕ, _+_, _-_, _≤_}
+use native.Mathlib.Omega.{arith}
+use lib.Dec.{eqb, ltb}
+use lib.ListN.{length}
+use borrow.Author.Tests.{ltb-true, lt-ltb, eqb-false}
+use Rattle.model.specs.declared.Call.{Call}
+use Rattle.model.specs.declared.Operator.{Operator}
+use Rattle.model.specs.Operators.{operatorOf}
+use Rattle.model.specs.Tuples.{Tuples, missing}
+use Rattle.model.specs.Buffer.{word, capacityOf, tuplesOf}
+use Rattle.model.specs.Steps.{wouldList, wouldAdd}
+use Rattle.model.specs.Refusals.{Stop, stop, first, listShort, full, ofCall, ofTuples, earlier, refusalOf}
+use Rattle.model.proofs.Bools.{equal, not-yes}
+use Rattle.model.proofs.Store.{chains-count}
+use Rattle.model.proofs.Refusals.{everyNumber, first-number}
+use Rattle.chain.specs.Links.{Linked}
+use Rattle.edit.proofs.Built.{length-tuples}
+use Rattle.refusals.specs.Numbers.{stopNumber}
+
+-- ---- the first condition that applies, one after the other
+
+-- a condition that applies stops the call, whatever comes after it
+pub stops : (number : ℕ) (applies x : Bool) (xs : List Stop) → x ≡ applies → x ≡ true → number ≡ stopNumber (first (stop number applies ∷ xs))
+unfolding stopNumber first
+stops number applies x xs X e = ap (λ (b : Bool). stopNumber (cond b (some number) (first xs))) (sym e ∙ X)
+
+-- one that does not leaves it to the rest
+pub passes : (number : ℕ) (applies x : Bool) (xs : List Stop) (r : ℕ) → x ≡ applies → x ≡ false → r ≡ stopNumber (first xs)
+    → r ≡ stopNumber (first (stop number applies ∷ xs))
+unfolding stopNumber first
+passes number applies x xs r X e R = R ∙ ap (λ (b : Bool). stopNumber (cond b (some number) (first xs))) (sym e ∙ X)
+
+pub nothing-left : 0 ≡ stopNumber (first [])
+unfolding stopNumber first
+nothing-left = refl
+
+-- ---- what the number says
+
+abbrev pub notZero : ℕ → Bool
+notZero number = not (eqb number 0)
+
+numbered : (number : ℕ) → notZero number ≡ true → number ≢ 0
+numbered number e = eqb-false number 0 (not-yes (eqb number 0) e)
+
+-- 0 says that no condition applies, where no condition has number 0
+pub none-exactly : (xs : List Stop) → everyNumber notZero xs ≡ true → (stopNumber (first xs) ≡ 0) ↔ (first xs ≡ none)
+unfolding stopNumber
+none-exactly xs h = (λ e. go (first xs) refl e, λ e. ap stopNumber e)
+  where
+    go : (r : Option ℕ) → first xs ≡ r → stopNumber r ≡ 0 → r ≡ none
+    go none f e = refl
+    go (some number) f e = absurd (numbered number (first-number notZero xs number h f) e)
+
+-- any other number says which one stops the call
+pub some-exactly : (r : Option ℕ) (number : ℕ) → number ≢ 0 → (stopNumber r ≡ number) ↔ (r ≡ some number)
+unfolding stopNumber
+some-exactly r number h = (λ e. go r e, λ e. ap stopNumber e)
+  where
+    go : (r : Option ℕ) → stopNumber r ≡ number → r ≡ some number
+    go none e = absurd (h (sym e))
+    go (some k) e = ap some e
+
+-- a call that is let pass
+pub not-refused : (C : ℕ) (ts : Tuples) (c : Call) (room : ℕ) → stopNumber (refusalOf C ts c room) ≡ 0 → refusalOf C ts c room ≡ none
+unfolding refusalOf ofCall ofTuples earlier
+not-refused C ts c room e = none-exactly _ refl .0 e
+
+-- ---- 9
+
+pub would-list : (op known : Operator) (c : Call) (ts : Tuples) (x : ℕ) → op ≡ operatorOf (c .operator) → op ≡ known
+    → x ≡ length (wouldList known c ts) → x ≡ length (wouldList (operatorOf (c .operator)) c ts)
+would-list op known c ts x O K X = X ∙ ap (λ (o : Operator). length (wouldList o c ts)) (sym K ∙ O)
+
+pub short-told : (c : Call) (ts : Tuples) (room x : ℕ) → x ≡ length (wouldList (operatorOf (c .operator)) c ts) → ltb room x ≡ listShort c ts room
+unfolding listShort
+short-told c ts room x X = ap (ltb room) X
+
+-- ---- 10
+
+pub would-add : (op known : Operator) (c : Call) (ts : Tuples) (x : ℕ) → op ≡ operatorOf (c .operator) → op ≡ known
+    → x ≡ length (missing (wouldAdd known c) ts) → x ≡ length (missing (wouldAdd (operatorOf (c .operator)) c) ts)
+would-add op known c ts x O K X = X ∙ ap (λ (o : Operator). length (missing (wouldAdd o c) ts)) (sym K ∙ O)
+
+-- there are at most C tuples
+tuples-most : (b : List ℕ) → Linked b → length (tuplesOf b) ≤ capacityOf b
+tuples-most b L = omega (arith, length-tuples b, chains-count b _ _ (L .chains))
+
+pub used-fits : (b : List ℕ) (x y : ℕ) → Linked b → x ≡ word b 0 → y ≡ word b 3 → y ≤ x
+used-fits b x y L X Y = omega (arith, X, Y, L .chains .capacity, L .chains .counted, length-tuples b, tuples-most b L)
+
+pub free-told : (b : List ℕ) (x y : ℕ) → Linked b → x ≡ word b 0 → y ≡ word b 3 → x - y ≡ capacityOf b - length (tuplesOf b)
+free-told b x y L X Y = ap₂ _-_ (X ∙ L .chains .capacity) (Y ∙ L .chains .counted ∙ sym (length-tuples b))
+
+-- more to add than records left
+left-over : (C t a : ℕ) → t ≤ C → ltb (C - t) a ≡ ltb C (t + a)
+left-over C t a h =
+    equal (ltb (C - t) a) (ltb C (t + a)) (λ e. lt-ltb C (t + a) (omega (arith, h, ltb-true (C - t) a e)))
+    (λ e. lt-ltb (C - t) a (omega (arith, h, ltb-true C (t + a) e)))
+
+pub full-told : (b : List ℕ) (c : Call) (f a : ℕ) → Linked b → f ≡ capacityOf b - length (tuplesOf b)
+    → a ≡ length (missing (wouldAdd (operatorOf (c .operator)) c) (tuplesOf b)) → ltb f a ≡ full (capacityOf b) c (tuplesOf b)
+unfolding full
+full-told b c f a L F A = ap₂ ltb F A ∙ left-over (capacityOf b) (length (tuplesOf b)) _ (tuples-most b L)

@@ -1,0 +1,106 @@
+// Conditions 2 to 10 in their order: which one stops a call on a store.
+use model::Call;
+use model::Operator;
+ghost use mathlib.Core.Path.{_≡_};
+ghost use mathlib.Core.Bool.{true, false};
+ghost use Prim.Native.Nat.{_-_};
+ghost use lib.ListN.{length};
+ghost use Rattle.model.specs.Operators.{operatorOf};
+ghost use Rattle.model.specs.Tuples.{missing};
+ghost use Rattle.model.specs.Buffer.{capacityOf, tuplesOf, isStore};
+ghost use Rattle.model.specs.Steps.{wouldList, wouldAdd};
+ghost use Rattle.model.specs.Refusals.{noOperator, zeroName, listShort, full, refusalOf};
+ghost use Rattle.chain.specs.Links.{Linked};
+ghost use Rattle.refusals.specs.Numbers.{stopNumber};
+
+// How many entries the call would list; none but for S.
+fn count_asked(b: &[u32], c: Call) -> usize
+    requires { ⌜ (isStore (now b) ≡ true) × (noOperator c ≡ false) × (zeroName c ≡ false) ⌝ }
+    ensures { λ r. ⌜ r ≡ length (wouldList (operatorOf (c .operator)) c (tuplesOf (now (b .entry)))) ⌝ }
+{
+    let op = decode::operator_of(c.operator);
+    match op {
+        Operator::Create(o) => 0,
+        Operator::Bind(o) => 0,
+        Operator::Value(o) => 0,
+        Operator::Exists(o) => 0,
+        Operator::Destroy(r) => 0,
+        Operator::List(l) => listing::count_listed(b, l, c),
+    }
+}
+
+// Condition 9: the answer list is shorter than what the call would list.
+fn is_short(b: &[u32], c: Call, room: usize) -> bool
+    requires { ⌜ (isStore (now b) ≡ true) × (noOperator c ≡ false) × (zeroName c ≡ false) ⌝ }
+    ensures { λ r. ⌜ r ≡ listShort c (tuplesOf (now (b .entry))) room ⌝ }
+{
+    room < count_asked(b, c)
+}
+
+// How many tuples the call would add; none but for C.
+fn count_added(b: &[u32], c: Call) -> usize
+    requires { ⌜ Linked (now b) ⌝ }
+    ensures { λ r. ⌜ r ≡ length (missing (wouldAdd (operatorOf (c .operator)) c) (tuplesOf (now (b .entry)))) ⌝ }
+{
+    let op = decode::operator_of(c.operator);
+    match op {
+        Operator::Create(o) => operate::count_created(b, o, c),
+        Operator::Bind(o) => 0,
+        Operator::Value(o) => 0,
+        Operator::Exists(o) => 0,
+        Operator::Destroy(r) => 0,
+        Operator::List(l) => 0,
+    }
+}
+
+// How many records are free: word 0 is C, word 3 the number of tuples.
+fn free_records(b: &[u32]) -> usize
+    requires { ⌜ Linked (now b) ⌝ }
+    ensures { λ r. ⌜ r ≡ capacityOf (now (b .entry)) - length (tuplesOf (now (b .entry))) ⌝ }
+{
+    records::head_word(b, 0) - records::head_word(b, 3)
+}
+
+// Condition 10: fewer records are free than the call would add tuples.
+fn is_full(b: &[u32], c: Call) -> bool
+    requires { ⌜ Linked (now b) ⌝ }
+    ensures { λ r. ⌜ r ≡ full (capacityOf (now (b .entry))) c (tuplesOf (now (b .entry))) ⌝ }
+{
+    free_records(b) < count_added(b, c)
+}
+
+// The number of the first of the conditions 2 to 10 that stops a call on a store; 0 for none. `room` is the length of the call's answer list.
+// pub for the crate above, which has proved that the buffer is a store.
+pub fn refusal_of(b: &[u32], c: Call, room: usize) -> u32
+    requires { ⌜ isStore (now b) ≡ true ⌝ }
+    ensures { λ r. ⌜ r ≡ stopNumber (refusalOf (capacityOf (now (b .entry))) (tuplesOf (now (b .entry))) c room) ⌝ }
+{
+    if decode::no_operator(c) {
+        return 2;
+    }
+    if decode::zero_name(c) {
+        return 3;
+    }
+    if decode::destroys_universe(c) {
+        return 4;
+    }
+    if conditions::space_absent(b, c) {
+        return 5;
+    }
+    if conditions::node_absent(b, c) {
+        return 6;
+    }
+    if conditions::second_absent(b, c) {
+        return 7;
+    }
+    if conditions::edge_absent(b, c) {
+        return 8;
+    }
+    if is_short(b, c, room) {
+        return 9;
+    }
+    if is_full(b, c) {
+        return 10;
+    }
+    0
+}
