@@ -15,7 +15,9 @@ ghost use lib.Dec.{eqb};
 ghost use lib.ListN.{length};
 ghost use mathlib.Core.List.{[], _∷_};
 ghost use Rattle.model.specs.Pairs.{edgeOf, nodeOf};
-ghost use Rattle.model.specs.Keys.{edgeKey};
+ghost use Rattle.model.specs.Keys.{mostName, edgeKey};
+ghost use Rattle.model.specs.Machine.{FieldsFit};
+ghost use Prim.Native.Nat.{_≤_};
 ghost use Rattle.model.specs.Tuples.{anyPresent, addAll, missing, assignAll, remove};
 ghost use Rattle.model.specs.Buffer.{tuplesOf};
 ghost use Rattle.model.specs.Steps.{spaceNumber, nOf, gOf, mOf, vOf, sOf, objectKeys, created, firstValue, edgesTaken, nodeTaken, spaceTaken, destroyed};
@@ -36,6 +38,7 @@ pub struct Fields {
 // A name as a word.
 fn name_word(x: u16) -> u32
     ensures { λ r. ⌜ r ≡ x ⌝ }
+    ensures fit { λ _. ⌜ x ≤ mostName ⌝ }
 {
     x as u32
 }
@@ -43,6 +46,7 @@ fn name_word(x: u16) -> u32
 // The number of a space; 0 for UNIVERSE.
 pub fn space_number(s: Space) -> u32
     ensures { λ r. ⌜ r ≡ spaceNumber s ⌝ }
+    ensures fit { λ _. ⌜ spaceNumber s ≤ mostName ⌝ }
 {
     match s {
         Space::Universe => 0,
@@ -50,9 +54,10 @@ pub fn space_number(s: Space) -> u32
     }
 }
 
-// The fields of a call.
+// The fields of a call; their types keep every name to 16 bits.
 pub fn fields_of(c: Call) -> Fields
     ensures { λ r. ⌜ r ≡ fieldsOf c ⌝ }
+    ensures fit { λ _. ⌜ FieldsFit c ⌝ }
 {
     let s = c.s;
     Fields {

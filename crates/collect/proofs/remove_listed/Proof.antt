@@ -46,7 +46,7 @@ same-length c = search needs
 
 -- src/lib.rt:33:1
 returns : tie.Need-returns
-returns c = collected-removed _ _ _ _ (c .before .before .before .before .before .before .before .before .before .before .before .before .before .args .c) _ (c .before .before .before .before .before .before .before .write-listed .ensures) (c .before .before .before .before .before .before .before .before .before .before .count-listed .ensures) (c .before .before .before .before .before .before .before .before .before .before .before .before .before .pre .2) (c .before .before .before .before .before .fields-of .ensures)
+returns c = collected-removed _ _ _ _ (c .before .before .before .before .before .before .before .before .before .before .before .before .before .args .c) _ (c .before .before .before .before .before .before .before .write-listed .ensures) (c .before .before .before .before .before .before .before .before .before .before .count-listed .ensures) (c .before .before .before .before .before .before .before .before .before .before .before .before .before .pre .2) (c .before .before .before .before .before .fields-of .ensures .0)
     (c .before .before .remove-each .ensures)
 
 pub remove-listed-spec : {M : Type 1} → statement M

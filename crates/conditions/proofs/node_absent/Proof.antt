@@ -19,7 +19,7 @@ key-absent-requires c κs = search needs
 
 -- src/lib.rt:83:9
 returns : tie.Need-returns
-returns c = node-of-57 (c .before .before .before .before .before .args .c) _ _ _ (c .before .if1 .taken) (c .before .before .before .fields-of .ensures) (c .key-absent .ensures)
+returns c = node-of-57 (c .before .before .before .before .before .args .c) _ _ _ (c .before .if1 .taken) (c .before .before .before .fields-of .ensures .0) (c .key-absent .ensures)
 
 -- src/lib.rt:93:9
 node-asked-requires : tie.Need-node-asked-requires
@@ -35,7 +35,7 @@ key-absent-requires-2 c κs = search needs
 
 -- src/lib.rt:77:1
 returns-3 : tie.Need-returns-3
-returns-3 c = node-looked-up (c .before .before .before .before .before .before .before .args .c) _ _ _ _ (c .before .before .before .if1 .left) (c .before .before .node-asked .ensures) (not-no _ (c .before .if2 .left)) (c .before .before .before .before .before .fields-of .ensures) (c .key-absent2 .ensures)
+returns-3 c = node-looked-up (c .before .before .before .before .before .before .before .args .c) _ _ _ _ (c .before .before .before .if1 .left) (c .before .before .node-asked .ensures) (not-no _ (c .before .if2 .left)) (c .before .before .before .before .before .fields-of .ensures .0) (c .key-absent2 .ensures)
 
 pub node-absent-spec : {M : Type 1} → statement M
 node-absent-spec =

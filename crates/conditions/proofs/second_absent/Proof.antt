@@ -27,7 +27,7 @@ key-absent-requires c κs = search needs
 
 -- src/lib.rt:61:1
 returns-2 : tie.Need-returns-2
-returns-2 c = second-looked-up (c .before .before .before .before .before .before .args .c) _ _ _ _ (c .before .before .before .before .reads-of .ensures) (not-no _ (c .before .before .if1 .left)) (c .before .fields-of .ensures) (c .key-absent .ensures)
+returns-2 c = second-looked-up (c .before .before .before .before .before .before .args .c) _ _ _ _ (c .before .before .before .before .reads-of .ensures) (not-no _ (c .before .before .if1 .left)) (c .before .fields-of .ensures .0) (c .key-absent .ensures)
 
 pub second-absent-spec : {M : Type 1} → statement M
 second-absent-spec =

@@ -37,7 +37,7 @@ key-absent-requires c κs = search needs
 -- src/lib.rt:37:1
 returns-3 : tie.Need-returns-3
 returns-3 c = space-looked-up (c .before .before .before .before .before .before .before .before .args .c) _ _ _ _ _ (c .before .before .before .before .before .before .reads-of .ensures) (not-no _ (c .before .before .before .before .if1 .left)) (c .before .before .before .space-unasked .ensures) (c .before .before .if2 .left)
-    (c .before .fields-of .ensures) (c .key-absent .ensures)
+    (c .before .fields-of .ensures .0) (c .key-absent .ensures)
 
 pub space-absent-spec : {M : Type 1} → statement M
 space-absent-spec =

@@ -72,42 +72,42 @@ enum-told-3 c = search needs
 -- src/lib.rt:34:1
 returns : tie.Need-returns
 unfolding queryOf
-returns c = c .pair-query .ensures ∙ pairs-told _ (c .before .before .before .before .before .args .c) _ _ (λ (d : Direction) (x : Fields). Pairs (pairQuery d (x .s) (x .n) 0 0 Both)) (c .before .before .before .before .fields-of .ensures) (c .before .before .l .given .1) refl
+returns c = c .pair-query .ensures ∙ pairs-told _ (c .before .before .before .before .before .args .c) _ _ (λ (d : Direction) (x : Fields). Pairs (pairQuery d (x .s) (x .n) 0 0 Both)) (c .before .before .before .before .fields-of .ensures .0) (c .before .before .l .given .1) refl
 
 -- src/lib.rt:34:1
 returns-2 : tie.Need-returns-2
 unfolding queryOf
-returns-2 c = c .pair-query2 .ensures ∙ pairs-told _ (c .before .before .before .before .before .args .c) _ _ (λ (d : Direction) (x : Fields). Pairs (pairQuery d (x .s) (x .n) 0 0 Edge)) (c .before .before .before .before .fields-of .ensures) (c .before .before .l2 .given .1) refl
+returns-2 c = c .pair-query2 .ensures ∙ pairs-told _ (c .before .before .before .before .before .args .c) _ _ (λ (d : Direction) (x : Fields). Pairs (pairQuery d (x .s) (x .n) 0 0 Edge)) (c .before .before .before .before .fields-of .ensures .0) (c .before .before .l2 .given .1) refl
 
 -- src/lib.rt:34:1
 returns-3 : tie.Need-returns-3
 unfolding queryOf
-returns-3 c = c .pair-query3 .ensures ∙ pairs-told _ (c .before .before .before .before .before .args .c) _ _ (λ (d : Direction) (x : Fields). Pairs (pairQuery d (x .s) (x .n) 0 (x .m) Edge)) (c .before .before .before .before .fields-of .ensures) (c .before .before .l3 .given .1) refl
+returns-3 c = c .pair-query3 .ensures ∙ pairs-told _ (c .before .before .before .before .before .args .c) _ _ (λ (d : Direction) (x : Fields). Pairs (pairQuery d (x .s) (x .n) 0 (x .m) Edge)) (c .before .before .before .before .fields-of .ensures .0) (c .before .before .l3 .given .1) refl
 
 -- src/lib.rt:34:1
 returns-4 : tie.Need-returns-4
 unfolding queryOf
-returns-4 c = c .pair-query4 .ensures ∙ pairs-told _ (c .before .before .before .before .before .args .c) _ _ (λ (d : Direction) (x : Fields). Pairs (pairQuery d (x .s) (x .n) 0 0 Node)) (c .before .before .before .before .fields-of .ensures) (c .before .before .l4 .given .1) refl
+returns-4 c = c .pair-query4 .ensures ∙ pairs-told _ (c .before .before .before .before .before .args .c) _ _ (λ (d : Direction) (x : Fields). Pairs (pairQuery d (x .s) (x .n) 0 0 Node)) (c .before .before .before .before .fields-of .ensures .0) (c .before .before .l4 .given .1) refl
 
 -- src/lib.rt:34:1
 returns-5 : tie.Need-returns-5
 unfolding queryOf
-returns-5 c = c .pair-query5 .ensures ∙ pairs-told _ (c .before .before .before .before .before .args .c) _ _ (λ (d : Direction) (x : Fields). Pairs (pairQuery d (x .s) (x .n) (x .g) 0 Node)) (c .before .before .before .before .fields-of .ensures) (c .before .before .l5 .given .1) refl
+returns-5 c = c .pair-query5 .ensures ∙ pairs-told _ (c .before .before .before .before .before .args .c) _ _ (λ (d : Direction) (x : Fields). Pairs (pairQuery d (x .s) (x .n) (x .g) 0 Node)) (c .before .before .before .before .fields-of .ensures .0) (c .before .before .l5 .given .1) refl
 
 -- src/lib.rt:34:1
 returns-6 : tie.Need-returns-6
 unfolding queryOf
-returns-6 c = query-told _ (c .before .before .before .args .c) _ (λ (x : Fields). Nodes (x .s)) (c .before .before .fields-of .ensures) (c .enum-told .given .1) refl
+returns-6 c = query-told _ (c .before .before .before .args .c) _ (λ (x : Fields). Nodes (x .s)) (c .before .before .fields-of .ensures .0) (c .enum-told .given .1) refl
 
 -- src/lib.rt:34:1
 returns-7 : tie.Need-returns-7
 unfolding queryOf
-returns-7 c = query-told _ (c .before .before .before .args .c) _ (λ (x : Fields). Spaces) (c .before .before .fields-of .ensures) (c .enum-told2 .given .1) refl
+returns-7 c = query-told _ (c .before .before .before .args .c) _ (λ (x : Fields). Spaces) (c .before .before .fields-of .ensures .0) (c .enum-told2 .given .1) refl
 
 -- src/lib.rt:34:1
 returns-8 : tie.Need-returns-8
 unfolding queryOf
-returns-8 c = query-told _ (c .before .before .before .args .c) _ (λ (x : Fields). SpacesOf (x .n)) (c .before .before .fields-of .ensures) (c .enum-told3 .given .1) refl
+returns-8 c = query-told _ (c .before .before .before .args .c) _ (λ (x : Fields). SpacesOf (x .n)) (c .before .before .fields-of .ensures .0) (c .enum-told3 .given .1) refl
 
 pub query-of-spec : {M : Type 1} → statement M
 query-of-spec =

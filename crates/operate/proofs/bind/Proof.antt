@@ -33,7 +33,7 @@ same-length c = search needs
 
 -- src/lib.rt:175:9
 returns : tie.Need-returns
-returns c = bind-one _ (c .before .before .before .before .before .before .before .before .before .args .c) _ _ _ (c .before .before .before .before .before .before .before .fields-of .ensures) (c .before .before .before .before .before .main-key .ensures) (c .before .is-adjacent .ensures) (not-yes _ (c .if1 .taken))
+returns c = bind-one _ (c .before .before .before .before .before .before .before .before .before .args .c) _ _ _ (c .before .before .before .before .before .before .before .fields-of .ensures .0) (c .before .before .before .before .before .main-key .ensures) (c .before .is-adjacent .ensures) (not-yes _ (c .if1 .taken))
     (c .before .before .before .before .assign-value .ensures)
 
 -- src/lib.rt:177:27
@@ -50,7 +50,7 @@ same-length-2 c = search needs
 
 -- src/lib.rt:168:1
 returns-2 : tie.Need-returns-2
-returns-2 c = bind-two _ (c .before .before .before .before .before .before .before .before .before .before .before .before .before .before .args .c) _ _ _ _ (c .before .before .before .before .before .before .before .before .before .before .before .before .fields-of .ensures) (c .before .before .before .before .before .before .before .before .before .before .main-key .ensures) (c .before .before .before .before .before .before .is-adjacent .ensures) (not-no _ (c .before .before .before .before .before .if1 .left))
+returns-2 c = bind-two _ (c .before .before .before .before .before .before .before .before .before .before .before .before .before .before .args .c) _ _ _ _ (c .before .before .before .before .before .before .before .before .before .before .before .before .fields-of .ensures .0) (c .before .before .before .before .before .before .before .before .before .before .main-key .ensures) (c .before .before .before .before .before .before .is-adjacent .ensures) (not-no _ (c .before .before .before .before .before .if1 .left))
     (c .before .before .before .reversed-key .ensures) (c .before .before .before .before .before .before .before .before .before .assign-value .ensures) (c .before .before .assign-value2 .ensures)
 
 pub bind-spec : {M : Type 1} → statement M

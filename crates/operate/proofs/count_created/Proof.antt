@@ -21,7 +21,7 @@ missing-in-requires c κs = c .before .before .pre
 
 -- src/lib.rt:227:9
 returns : tie.Need-returns
-returns c = count-universe _ (c .before .before .before .before .before .args .c) _ _ _ (c .before .before .before .before .before .pre .ascends) (c .before .before .before .fields-of .ensures) (c .before .before .missing-in .ensures) (c .if1 .taken)
+returns c = count-universe _ (c .before .before .before .before .before .args .c) _ _ _ (c .before .before .before .before .before .pre .ascends) (c .before .before .before .fields-of .ensures .0) (c .before .before .missing-in .ensures) (c .if1 .taken)
 
 -- src/lib.rt:229:8
 is-space-requires : tie.Need-is-space-requires
@@ -29,7 +29,7 @@ is-space-requires c κs = search needs
 
 -- src/lib.rt:230:9
 returns-2 : tie.Need-returns-2
-returns-2 c = count-space _ (c .before .before .before .before .before .before .before .args .c) _ _ _ _ (c .before .before .before .before .before .fields-of .ensures) (c .before .before .before .before .missing-in .ensures) (c .before .is-space .ensures) (c .if2 .taken)
+returns-2 c = count-space _ (c .before .before .before .before .before .before .before .args .c) _ _ _ _ (c .before .before .before .before .before .fields-of .ensures .0) (c .before .before .before .before .missing-in .ensures) (c .before .is-space .ensures) (c .if2 .taken)
 
 -- src/lib.rt:232:12
 missing-in-requires-2 : tie.Need-missing-in-requires-2
@@ -41,7 +41,7 @@ add-result c = small-sum _ _ _ _ (c .before .before .before .before .before .mis
 
 -- src/lib.rt:220:1
 returns-3 : tie.Need-returns-3
-returns-3 c = count-both _ (c .before .before .before .before .before .before .before .before .args .c) _ _ _ _ _ (c .before .before .before .before .before .before .before .before .pre .ascends) (c .before .before .before .before .before .before .fields-of .ensures) (c .before .before .before .before .before .missing-in .ensures) (c .before .before .before .if1 .left) (c .before .before .is-space .ensures) (c .before .if2 .left)
+returns-3 c = count-both _ (c .before .before .before .before .before .before .before .before .args .c) _ _ _ _ _ (c .before .before .before .before .before .before .before .before .pre .ascends) (c .before .before .before .before .before .before .fields-of .ensures .0) (c .before .before .before .before .before .missing-in .ensures) (c .before .before .before .if1 .left) (c .before .before .is-space .ensures) (c .before .if2 .left)
     (c .missing-in2 .ensures)
 
 pub count-created-spec : {M : Type 1} → statement M

@@ -14,7 +14,7 @@ fields-of-requires c κs = search needs
 
 -- src/lib.rt:253:5
 add-in-requires : tie.Need-add-in-requires
-add-in-requires c κs = (c .before .before .before .pre .0, room-here _ (c .before .before .before .args .c) _ (c .before .before .before .pre .0) (c .before .before .before .pre .1) (c .before .fields-of .ensures))
+add-in-requires c κs = (c .before .before .before .pre .0, room-here _ (c .before .before .before .args .c) _ (c .before .before .before .pre .0) (c .before .before .before .pre .1) (c .before .fields-of .ensures .0))
 
 -- src/lib.rt:254:8
 is-space-requires : tie.Need-is-space-requires
@@ -26,13 +26,13 @@ same-length c = search needs
 
 -- src/lib.rt:255:9
 returns : tie.Need-returns
-returns c = created-here _ (c .before .before .before .before .before .before .before .before .args .c) _ _ (c .before .before .before .before .before .before .fields-of .ensures) (c .before .is-space .ensures) (c .if1 .taken) (c .before .before .before .before .add-in .ensures)
+returns c = created-here _ (c .before .before .before .before .before .before .before .before .args .c) _ _ (c .before .before .before .before .before .before .fields-of .ensures .0) (c .before .is-space .ensures) (c .if1 .taken) (c .before .before .before .before .add-in .ensures)
 
 -- src/lib.rt:257:5
 add-in-requires-2 : tie.Need-add-in-requires-2
 add-in-requires-2 c κs = (
   c .before .before .before .before .before .add-in .ensures .linked,
-  room-there _ (c .before .before .before .before .before .before .before .before .before .args .c) _ _ (c .before .before .before .before .before .before .before .before .before .pre .0) (c .before .before .before .before .before .before .before .before .before .pre .1) (c .before .before .before .before .before .before .before .fields-of .ensures) (c .before .before .is-space .ensures) (c .before .if1 .left)
+  room-there _ (c .before .before .before .before .before .before .before .before .before .args .c) _ _ (c .before .before .before .before .before .before .before .before .before .pre .0) (c .before .before .before .before .before .before .before .before .before .pre .1) (c .before .before .before .before .before .before .before .fields-of .ensures .0) (c .before .before .is-space .ensures) (c .before .if1 .left)
       (c .before .before .before .before .before .add-in .ensures),
 )
 
@@ -42,7 +42,7 @@ same-length-2 c = search needs
 
 -- src/lib.rt:248:1
 returns-2 : tie.Need-returns-2
-returns-2 c = created-both _ (c .before .before .before .before .before .before .before .before .before .before .before .before .args .c) _ _ (c .before .before .before .before .before .before .before .before .before .before .fields-of .ensures) (c .before .before .before .before .before .is-space .ensures) (c .before .before .before .before .if1 .left) (c .before .before .before .before .before .before .before .before .add-in .ensures) (c .before .before .add-in2 .ensures)
+returns-2 c = created-both _ (c .before .before .before .before .before .before .before .before .before .before .before .before .args .c) _ _ (c .before .before .before .before .before .before .before .before .before .before .fields-of .ensures .0) (c .before .before .before .before .before .is-space .ensures) (c .before .before .before .before .if1 .left) (c .before .before .before .before .before .before .before .before .add-in .ensures) (c .before .before .add-in2 .ensures)
 
 pub create-spec : {M : Type 1} → statement M
 create-spec =

@@ -16,7 +16,7 @@ fields-of-requires c κs = search needs
 
 -- src/lib.rt:282:5
 remove-node-requires : tie.Need-remove-node-requires
-remove-node-requires c κs = (c .before .before .before .pre .0, λ e. c .before .before .before .pre .1 (sym (ap (λ (x : Fields). x .n) (c .before .fields-of .ensures)) ∙ e))
+remove-node-requires c κs = (c .before .before .before .pre .0, λ e. c .before .before .before .pre .1 (sym (ap (λ (x : Fields). x .n) (c .before .fields-of .ensures .0)) ∙ e))
 
 -- src/lib.rt:277:1
 same-length : tie.Need-same-length
@@ -24,7 +24,7 @@ same-length c = search needs
 
 -- src/lib.rt:277:1
 returns : tie.Need-returns
-returns c = subst (Edited _ _) (node-removed (c .before .before .before .before .before .before .args .c) _ _ (c .before .before .before .before .fields-of .ensures)) (c .before .before .remove-node .ensures)
+returns c = subst (Edited _ _) (node-removed (c .before .before .before .before .before .before .args .c) _ _ (c .before .before .before .before .fields-of .ensures .0)) (c .before .before .remove-node .ensures)
 
 pub destroy-node-spec : {M : Type 1} → statement M
 destroy-node-spec =

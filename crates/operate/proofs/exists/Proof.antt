@@ -25,7 +25,7 @@ has-requires c κs = search needs
 
 -- src/lib.rt:159:9
 returns : tie.Need-returns
-returns c = exists-first _ (c .before .before .before .before .before .args .c) _ _ _ _ (c .before .before .before .fields-of .ensures) (c .before .before .main-key .ensures) (c .before .has .ensures) (c .if1 .taken)
+returns c = exists-first _ (c .before .before .before .before .before .args .c) _ _ _ _ (c .before .before .before .fields-of .ensures .0) (c .before .before .main-key .ensures) (c .before .has .ensures) (c .if1 .taken)
 
 -- src/lib.rt:161:8
 is-adjacent-requires : tie.Need-is-adjacent-requires
@@ -42,12 +42,12 @@ has-requires-2 c κs = search needs
 -- src/lib.rt:162:9
 returns-2 : tie.Need-returns-2
 returns-2 c = c .has2 .ensures
-    ∙ exists-second _ (c .before .before .before .before .before .before .before .before .before .args .c) _ _ _ _ _ _ (c .before .before .before .before .before .before .before .fields-of .ensures) (c .before .before .before .before .before .before .main-key .ensures) (c .before .before .before .before .before .has .ensures) (c .before .before .before .before .if1 .left)
+    ∙ exists-second _ (c .before .before .before .before .before .before .before .before .before .args .c) _ _ _ _ _ _ (c .before .before .before .before .before .before .before .fields-of .ensures .0) (c .before .before .before .before .before .before .main-key .ensures) (c .before .before .before .before .before .has .ensures) (c .before .before .before .before .if1 .left)
     (c .before .before .before .is-adjacent .ensures) (c .before .before .if2 .taken) (c .before .reversed-key .ensures)
 
 -- src/lib.rt:153:1
 returns-3 : tie.Need-returns-3
-returns-3 c = exists-none _ (c .before .before .before .before .before .before .before .args .c) _ _ _ _ _ (c .before .before .before .before .before .fields-of .ensures) (c .before .before .before .before .main-key .ensures) (c .before .before .before .has .ensures) (c .before .before .if1 .left)
+returns-3 c = exists-none _ (c .before .before .before .before .before .before .before .args .c) _ _ _ _ _ (c .before .before .before .before .before .fields-of .ensures .0) (c .before .before .before .before .main-key .ensures) (c .before .before .before .has .ensures) (c .before .before .if1 .left)
     (c .before .is-adjacent .ensures) (c .if2 .left)
 
 pub exists-spec : {M : Type 1} → statement M

@@ -24,13 +24,21 @@ space-number-requires c κs = search needs
 
 -- src/lib.rt:49:1
 returns : tie.Need-returns
-returns c = λ i. record {
-  n = c .before .before .before .name-word .ensures i;
-  g = c .before .before .name-word2 .ensures i;
-  m = c .before .name-word3 .ensures i;
-  v = c .before .before .before .before .args .c .v;
-  s = c .space-number .ensures i;
-}
+returns c = (
+  λ i. record {
+    n = c .before .before .before .name-word .ensures .0 i;
+    g = c .before .before .name-word2 .ensures .0 i;
+    m = c .before .name-word3 .ensures .0 i;
+    v = c .before .before .before .before .args .c .v;
+    s = c .space-number .ensures .0 i;
+  },
+  record {
+    n = c .before .before .before .name-word .ensures .1;
+    g = c .before .before .name-word2 .ensures .1;
+    m = c .before .name-word3 .ensures .1;
+    s = c .space-number .ensures .1;
+  },
+)
 
 pub fields-of-spec : {M : Type 1} → statement M
 fields-of-spec =

@@ -1,5 +1,8 @@
 use Rattle.model.specs.Steps.{spaceNumber}
-use mathlib.Core.Path.{_≡_, sym, ap, _∙_}
+use mathlib.Core.Path.{_≡_, sym, ap, _∙_, subst}
+use Prim.Native.Nat.{ℕ, _≤_}
+use native.Mathlib.Omega.{arith}
+use Rattle.model.specs.Keys.{mostName}
 use borrow.Author.Needs.{needs}
 use Rattle.operate.proofs.space_number.Statement.{statement}
 use Rattle.operate.proofs.space_number.Tie as tie
@@ -22,12 +25,12 @@ name-word-requires c κs = search needs
 -- src/lib.rt:39:1
 returns : tie.Need-returns
 unfolding spaceNumber
-returns c = sym (ap spaceNumber (c .enum-told .given .1))
+returns c = (sym (ap spaceNumber (c .enum-told .given .1)), subst (λ (x : ℕ). x ≤ mostName) (sym (ap spaceNumber (c .enum-told .given .1))) (omega arith))
 
 -- src/lib.rt:39:1
 returns-2 : tie.Need-returns-2
 unfolding spaceNumber
-returns-2 c = c .name-word .ensures ∙ sym (ap spaceNumber (c .before .before .s .given .1))
+returns-2 c = (c .name-word .ensures .0 ∙ sym (ap spaceNumber (c .before .before .s .given .1)), subst (λ (x : ℕ). x ≤ mostName) (sym (ap spaceNumber (c .before .before .s .given .1))) (c .name-word .ensures .1))
 
 pub space-number-spec : {M : Type 1} → statement M
 space-number-spec =

@@ -23,7 +23,7 @@ value-at-requires c κs = c .before .before .before .pre
 
 -- src/lib.rt:144:1
 returns : tie.Need-returns
-returns c = c .value-at .ensures ∙ value-named _ (c .before .before .before .before .args .c) _ _ _ (c .before .before .fields-of .ensures) (c .before .main-key .ensures)
+returns c = c .value-at .ensures ∙ value-named _ (c .before .before .before .before .args .c) _ _ _ (c .before .before .fields-of .ensures .0) (c .before .main-key .ensures)
 
 pub value-of-spec : {M : Type 1} → statement M
 value-of-spec = tie.close (tie.spec fields-of-requires main-key-requires value-at-requires returns)
