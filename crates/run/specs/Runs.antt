@@ -1,0 +1,89 @@
+-- All that a run of a whole list of calls does, on any buffer and with any words: the contract of run_calls.
+use mathlib.Core.Bool.{Bool, true, false, _&&_}
+use mathlib.Core.List.{List, [], _∷_, _++_}
+use mathlib.Core.Path.{_≡_}
+use Prim.Native.Nat.{ℕ, _+_, _*_}
+use lib.Dec.{leb}
+use lib.ListN.{length, take, drop}
+use Rattle.model.specs.Machine.{State, Request, machine}
+use Rattle.model.specs.Buffer.{capacityOf, tuplesOf, isStore, pastRecords}
+use Rattle.model.specs.OneCall.{answerOf, listAfter, OnStore}
+use Rattle.model.specs.CallLists.{CallMade, requests, WholeList}
+use Rattle.run.specs.Words.{answerWords, callsIn, kindOf, numberOf, putAnswer}
+
+-- ---- what the machine makes of a list of calls
+
+-- one call of the machine, with the list that is lent to it
+unfoldable pub callMade : ℕ → State → Request → List ℕ → CallMade
+callMade C ts r l =
+    record {
+      call = r .call;
+      lent = l;
+      answer = answerOf (machine C ts (r .call) (r .room) .answer);
+      left = listAfter (machine C ts (r .call) (r .room) .answer) l;
+    }
+
+-- the calls one after the other; their answer lists are parts of one list, one after the other
+unfoldable pub callsMade : ℕ → State → List Request → List ℕ → List CallMade
+callsMade C ts [] ls = []
+callsMade C ts (r ∷ rs) ls =
+    callMade C ts r (take (r .room) ls) ∷ callsMade C (machine C ts (r .call) (r .room) .state) rs (drop (r .room) ls)
+
+-- the slice of answers afterwards: two words for each answer, then what it held
+unfoldable pub answersAfter : List CallMade → List ℕ → List ℕ
+answersAfter [] ws = ws
+answersAfter (x ∷ xs) ws = kindOf (x .answer) ∷ numberOf (x .answer) ∷ answersAfter xs (drop answerWords ws)
+
+-- the slice of lists afterwards: each call's part as the call left it, then what it held
+unfoldable pub listsAfter : List CallMade → List ℕ → List ℕ
+listsAfter [] ls = ls
+listsAfter (x ∷ xs) ls = x .left ++ listsAfter xs (drop (length (x .lent)) ls)
+
+-- ---- is there room
+
+-- the sum of the lengths of the calls' answer lists
+unfoldable pub roomsOf : List Request → ℕ
+roomsOf [] = 0
+roomsOf (r ∷ rs) = r .room + roomsOf rs
+
+-- two words for each answer, and the answer lists
+unfoldable pub hasRoom : List Request → List ℕ → List ℕ → Bool
+hasRoom rs answers lists = leb (answerWords * length rs) (length answers) && leb (roomsOf rs) (length lists)
+
+-- ---- a run
+
+-- a run that is refused changes nothing
+pub record NotRun (number : ℕ) (b answers lists : List ℕ) (r : ℕ) (b′ answers′ lists′ : List ℕ) : Type 0 where
+  pub result : r ≡ number
+  pub sameStore : b′ ≡ b
+  pub sameAnswers : answers′ ≡ answers
+  pub sameLists : lists′ ≡ lists
+
+-- what a run leaves of a store, given what the machine makes of the calls
+pub record Left (xs : List CallMade) (b answers lists b′ answers′ lists′ : List ℕ) : Type 0 where
+  -- the machine's answers and tuples, and all else that demand 3 claims
+  pub whole : WholeList (capacityOf b) (tuplesOf b) xs b′
+  pub size : length b′ ≡ length b
+  pub past : pastRecords b′ ≡ pastRecords b
+  pub answered : answers′ ≡ answersAfter xs answers
+  pub listed : lists′ ≡ listsAfter xs lists
+
+-- every call was made, in its order and with its own part of the lists
+pub record AllRun (b calls answers lists : List ℕ) (r : ℕ) (b′ answers′ lists′ : List ℕ) : Type 0 where
+  pub result : r ≡ 0
+  pub asked : requests (callsMade (capacityOf b) (tuplesOf b) (callsIn calls) lists) ≡ callsIn calls
+  pub left : Left (callsMade (capacityOf b) (tuplesOf b) (callsIn calls) lists) b answers lists b′ answers′ lists′
+
+-- the run of the words `calls` on the buffer b gives r and leaves the buffer b′, the answers and the lists
+pub record Ran (b calls answers lists : List ℕ) (r : ℕ) (b′ answers′ lists′ : List ℕ) : Type 0 where
+  pub noStore : isStore b ≡ false → NotRun 1 b answers lists r b′ answers′ lists′
+  pub noRoom : isStore b ≡ true → hasRoom (callsIn calls) answers lists ≡ false → NotRun 9 b answers lists r b′ answers′ lists′
+  pub run : isStore b ≡ true → hasRoom (callsIn calls) answers lists ≡ true → AllRun b calls answers lists r b′ answers′ lists′
+
+-- ---- one call of a run
+
+-- what call number i leaves of a store, given what the machine makes of it
+pub record OneRun (x : CallMade) (i : ℕ) (b answers b′ answers′ l′ : List ℕ) : Type 0 where
+  pub call : OnStore b (x .lent) (x .call) (x .answer) b′ (x .left)
+  pub answered : answers′ ≡ putAnswer answers i (x .answer)
+  pub listed : l′ ≡ x .left
