@@ -4,7 +4,10 @@
 //! document 01 points to it), to be plainly right rather than fast.
 
 pub mod buffer;
+pub mod chained;
+pub mod load;
 pub mod machine;
 pub mod operators;
+pub mod random;
 pub mod raw;
 pub mod script;

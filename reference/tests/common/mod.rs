@@ -1,6 +1,8 @@
 //! What the tests of scripts share.
 #![allow(dead_code)]
 
+pub mod compared;
+
 use gaffdamson_reference::machine::Machine;
 use gaffdamson_reference::script;
 
