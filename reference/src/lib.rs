@@ -8,6 +8,9 @@ pub mod chained;
 pub mod load;
 pub mod machine;
 pub mod operators;
+pub mod packed;
+#[cfg(feature = "rattle")]
+pub mod proved;
 pub mod random;
 pub mod raw;
 pub mod script;

@@ -23,7 +23,7 @@ fn preparing_writes_the_same_words() {
 /// Small names, every C from 1, lists of every length around k.
 #[test]
 fn random_lists_of_calls_are_answered_alike() {
-    for place in 0..1_500 {
+    for place in 0..400 {
         let mut draws = Draws::new(11, 3, place);
         let capacity = match place % 3 {
             0 => 1 + draws.below(12),

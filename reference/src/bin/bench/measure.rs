@@ -1,0 +1,189 @@
+//! Runs a load on one side and takes the time.
+
+use std::time::{Duration, Instant};
+
+use gaffdamson_reference::machine::Call;
+use gaffdamson_reference::packed::{self, LIST, WORDS_IN_AN_ANSWER, WORDS_IN_A_CALL};
+
+use crate::sides::{Run, Side};
+
+/// As many calls as have 16 MB of answer lists.
+const CALLS_IN_A_RUN: usize = 2_048;
+
+/// Whether each call checks the store, or one check serves many calls.
+#[derive(Clone, Copy, PartialEq, Eq)]
+pub enum Mode {
+    Checked,
+    Known,
+}
+
+impl Mode {
+    pub fn name(self) -> &'static str {
+        match self {
+            Mode::Checked => "checked at each call",
+            Mode::Known => "known",
+        }
+    }
+}
+
+/// Calls that make the graph, and calls that are timed.
+pub struct Load {
+    pub name: &'static str,
+    before: Calls,
+    timed: Calls,
+}
+
+impl Load {
+    pub fn new(name: &'static str, before: Vec<Call>, timed: Vec<Call>) -> Load {
+        Load {
+            name,
+            before: Calls::new(before),
+            timed: Calls::new(timed),
+        }
+    }
+
+    /// How many calls are timed.
+    pub fn count(&self) -> usize {
+        self.timed.calls.len()
+    }
+}
+
+struct Calls {
+    calls: Vec<Call>,
+    packed: Vec<u32>,
+}
+
+impl Calls {
+    fn new(calls: Vec<Call>) -> Calls {
+        let packed = calls.iter().flat_map(packed::call).collect();
+        Calls { calls, packed }
+    }
+}
+
+pub struct Figure {
+    /// The least time of a call over all repetitions.
+    pub nanoseconds: f64,
+    /// Of all answers, lists and tuples.
+    pub hash: u64,
+}
+
+/// Takes the least of some repetitions. Where they differ in their answers,
+/// the hash agrees with no other.
+pub fn measure(side: &mut dyn Side, load: &Load, mode: Mode, repetitions: usize) -> Figure {
+    let mut output = Output::new(load);
+    let mut least = Duration::MAX;
+    let mut hashes = Vec::new();
+    for _ in 0..repetitions {
+        side.prepare();
+        let mut hash = Hash::new();
+        output.run(side, &load.before, Mode::Known, &mut hash);
+        least = least.min(output.run(side, &load.timed, mode, &mut hash));
+        hash.add_tuples(side);
+        hashes.push(hash.0);
+    }
+    let first = hashes[0];
+    let is_steady = hashes.iter().all(|&hash| hash == first);
+    Figure {
+        nanoseconds: least.as_nanos() as f64 / load.count() as f64,
+        hash: if is_steady { first } else { 0 },
+    }
+}
+
+/// Where a side writes: the answers and lists of the calls of one run.
+struct Output {
+    answers: Vec<u32>,
+    lists: Vec<u32>,
+}
+
+impl Output {
+    fn new(load: &Load) -> Output {
+        let runs = [&load.before, &load.timed].map(|calls| calls.calls.chunks(CALLS_IN_A_RUN));
+        let room = runs
+            .into_iter()
+            .flatten()
+            .map(|calls| calls.iter().map(|call| call.list_length).sum())
+            .max()
+            .unwrap_or(0);
+        Output {
+            answers: vec![0; WORDS_IN_AN_ANSWER * CALLS_IN_A_RUN],
+            // Written once, so that the first run finds the pages there.
+            lists: vec![1; room],
+        }
+    }
+
+    /// Makes all calls and gives the time that they took.
+    fn run(&mut self, side: &mut dyn Side, calls: &Calls, mode: Mode, hash: &mut Hash) -> Duration {
+        let mut time = Duration::ZERO;
+        let packed = calls.packed.chunks(CALLS_IN_A_RUN * WORDS_IN_A_CALL);
+        for (calls, packed) in calls.calls.chunks(CALLS_IN_A_RUN).zip(packed) {
+            // No kind of answer, so that one that is not written shows.
+            self.answers.fill(u32::MAX);
+            let run = Run {
+                calls,
+                packed,
+                answers: &mut self.answers,
+                lists: &mut self.lists,
+            };
+            let start = Instant::now();
+            match mode {
+                Mode::Known => side.run(run),
+                Mode::Checked => run_each(side, run),
+            }
+            time += start.elapsed();
+            hash.add_answers(calls, &self.answers, &self.lists);
+        }
+        time
+    }
+}
+
+/// Makes a run of each call.
+fn run_each(side: &mut dyn Side, run: Run) {
+    let mut lists = run.lists;
+    let answers = run.answers.chunks_mut(WORDS_IN_AN_ANSWER);
+    let packed = run.packed.chunks(WORDS_IN_A_CALL);
+    for ((calls, packed), answers) in run.calls.chunks(1).zip(packed).zip(answers) {
+        let (list, others) = lists.split_at_mut(calls[0].list_length);
+        lists = others;
+        side.run(Run {
+            calls,
+            packed,
+            answers,
+            lists: list,
+        });
+    }
+}
+
+/// FNV-1a over words.
+struct Hash(u64);
+
+impl Hash {
+    fn new() -> Hash {
+        Hash(0xcbf2_9ce4_8422_2325)
+    }
+
+    fn add(&mut self, word: u32) {
+        self.0 = (self.0 ^ u64::from(word)).wrapping_mul(0x100_0000_01b3);
+    }
+
+    fn add_answers(&mut self, calls: &[Call], answers: &[u32], lists: &[u32]) {
+        let mut lists = lists;
+        for (call, answer) in calls.iter().zip(answers.chunks(WORDS_IN_AN_ANSWER)) {
+            let (list, others) = lists.split_at(call.list_length);
+            lists = others;
+            answer.iter().for_each(|&word| self.add(word));
+            if answer[0] == LIST {
+                let count = list.len().min(answer[1] as usize);
+                list[..count].iter().for_each(|&entry| self.add(entry));
+            }
+        }
+    }
+
+    fn add_tuples(&mut self, side: &dyn Side) {
+        for (key, value) in side.tuples() {
+            for word in [key.s.0, key.n.0, key.g.0, key.m.0] {
+                self.add(word.into());
+            }
+            self.add(value);
+        }
+    }
+}
