@@ -8,14 +8,14 @@
 
 use super::chain::{Record, G, M, N, NEXT, S};
 use super::names::Names;
-use super::{LENGTHS, MOST_RECORDS};
+use super::{FEW_RECORDS, LENGTHS, MOST_RECORDS};
 
 const MOST_NAME: u32 = 65_535;
 
-/// A list of at most so many as there are records.
-struct List<T>([T; MOST_RECORDS], usize);
+/// A list of at most SIZE items.
+struct List<T, const SIZE: usize>([T; SIZE], usize);
 
-impl<T: Copy> List<T> {
+impl<T: Copy, const SIZE: usize> List<T, SIZE> {
     fn push(&mut self, item: T) {
         self.0[self.1] = item;
         self.1 += 1;
@@ -26,8 +26,8 @@ impl<T: Copy> List<T> {
     }
 }
 
-/// What the pass remembers.
-struct Pass {
+/// What the pass over at most SIZE records remembers.
+struct Pass<const SIZE: usize> {
     last_key: u64,
     /// The space of the records at hand.
     s: u32,
@@ -37,26 +37,26 @@ struct Pass {
     universe: Names,
     here: Names,
     /// The nodes of the numbered space at hand, to take them out again.
-    nodes: List<u16>,
+    nodes: List<u16, SIZE>,
     /// The second nodes of the edges of the space at hand.
-    ends: List<u16>,
+    ends: List<u16, SIZE>,
     /// The edges of UNIVERSE, ascending, and where the search for those of
     /// the space at hand goes on.
-    edges: List<u64>,
+    edges: List<u64, SIZE>,
     from: usize,
 }
 
-impl Pass {
-    fn new() -> Pass {
+impl<const SIZE: usize> Pass<SIZE> {
+    fn new() -> Pass<SIZE> {
         Pass {
             last_key: 0,
             s: 0,
             n: 0,
             universe: Names::none(),
             here: Names::none(),
-            nodes: List([0; MOST_RECORDS], 0),
-            ends: List([0; MOST_RECORDS], 0),
-            edges: List([0; MOST_RECORDS], 0),
+            nodes: List([0; SIZE], 0),
+            ends: List([0; SIZE], 0),
+            edges: List([0; SIZE], 0),
             from: 0,
         }
     }
@@ -170,15 +170,24 @@ impl FreeWalk {
 
 /// Whether a buffer is a store.
 pub fn is_store(buffer: &[u32]) -> bool {
-    LENGTHS.contains(&buffer.len()) && follows_the_rules(buffer).unwrap_or(false)
+    if !LENGTHS.contains(&buffer.len()) {
+        return false;
+    }
+    // The pass holds the chain to its count, so it needs no more room.
+    let follows_the_rules = if buffer[3] as usize <= FEW_RECORDS {
+        follows_the_rules::<FEW_RECORDS>(buffer)
+    } else {
+        follows_the_rules::<MOST_RECORDS>(buffer)
+    };
+    follows_the_rules.unwrap_or(false)
 }
 
-/// The rules of a buffer with a right length; none if a link is past C or a
-/// chain is too short.
-fn follows_the_rules(buffer: &[u32]) -> Option<bool> {
+/// The rules of a buffer with a right length and at most SIZE used records;
+/// none if a link is past C.
+fn follows_the_rules<const SIZE: usize>(buffer: &[u32]) -> Option<bool> {
     let (&[c, used_head, free_head, used_count], rest) = buffer.split_first_chunk()?;
     let (records, _) = rest.as_chunks();
-    if c as usize != records.len() || used_head == 0 {
+    if c as usize != records.len() || used_count > c || used_head == 0 {
         return Some(false);
     }
     let mut free = FreeWalk {
@@ -191,10 +200,10 @@ fn follows_the_rules(buffer: &[u32]) -> Option<bool> {
         return Some(false);
     }
     let (mut link, mut last, mut used) = (first[NEXT], used_head, 1);
-    let mut pass = Pass::new();
+    let mut pass = Pass::<SIZE>::new();
     while link != 0 {
         let record = records.get(link as usize - 1)?;
-        if !pass.takes(record) {
+        if used == used_count as usize || !pass.takes(record) {
             return Some(false);
         }
         (link, last, used) = (record[NEXT], link, used + 1);

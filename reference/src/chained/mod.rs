@@ -16,12 +16,15 @@ use std::ops::RangeInclusive;
 
 use crate::machine::{Call, Space};
 use crate::operators::Direction;
-use chain::{Record, Store, G, M, N};
+use chain::{Place, Record, Store, G, M, N, S};
 
 pub use check::is_store;
 
 const LENGTHS: RangeInclusive<usize> = 10..=12_297;
 const MOST_RECORDS: usize = 2_048;
+
+/// Up to so many used records, a local list is a short one.
+const FEW_RECORDS: usize = 128;
 
 /// The answer to a call. The pairs of a list stand in the first places of the
 /// lent list, each as edge × 65,536 + node.
@@ -172,6 +175,65 @@ impl Meant {
         let leaves = self.out && record[N] == self.n && record[G] != 0;
         let comes = self.into && record[M] == self.n;
         (leaves || comes) && (self.g == 0 || record[G] == self.g)
+    }
+
+    /// Whether one of them in s may stand at a record of s from n's place on
+    /// (where only edges from n are meant) or anywhere.
+    #[inline(always)]
+    fn may_follow(&self, record: &Record, s: u32) -> bool {
+        record[S] == s && (self.into || record[N] == self.n)
+    }
+
+    /// Conditions 5 and 6; the place of s, and that of the first of these
+    /// edges in s, if there is any. The edges from n stand right after n; for
+    /// those to n the walk of the space looks for n too.
+    fn first_in(&self, store: &Store, s: u32) -> Result<(Place, Option<Place>), u32> {
+        let start = store.space(store.first(), s);
+        if !start.is_there {
+            return Err(5);
+        }
+        let from = if self.into {
+            start.place
+        } else {
+            store.node(start.place, s, self.n).place
+        };
+        let mut has_n = false;
+        let first = store.pass(from, |record| {
+            has_n |= record[N] == self.n && record[S] == s;
+            self.may_follow(record, s) && !self.takes(record)
+        });
+        let is_there = store
+            .at(first)
+            .is_some_and(|record| self.may_follow(record, s));
+        if is_there || has_n {
+            Ok((start.place, is_there.then_some(first)))
+        } else {
+            Err(6)
+        }
+    }
+
+    /// Hands on each of these edges in s, from one of them on.
+    #[inline(always)]
+    fn each_from(&self, store: &Store, first: Place, s: u32, mut take: impl FnMut(&Record)) {
+        store.pass(first, |record| {
+            if !self.may_follow(record, s) {
+                return false;
+            }
+            if self.takes(record) {
+                take(record);
+            }
+            true
+        });
+    }
+
+    /// The node of a pair that n has by one of these edges.
+    #[inline(always)]
+    fn other(&self, record: &Record) -> u32 {
+        if record[N] == self.n {
+            record[M]
+        } else {
+            record[N]
+        }
     }
 }
 

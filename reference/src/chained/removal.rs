@@ -99,39 +99,16 @@ fn free_edges_after(store: &mut Store, index: u32, to: u32) {
 pub fn nodes_of_pairs(store: &mut Store, call: &Fields) -> Result<Answer, u32> {
     let meant = Meant::of(call);
     let s = call.s;
-    let start = store.space(store.first(), s);
-    if !start.is_there {
-        return Err(5);
-    }
-    let mut nodes = Names::none();
-    let (mut has_n, mut has_some) = (false, false);
-    let from = if meant.into {
-        start.place
-    } else {
-        store.node(start.place, s, call.n).place
+    let (start, Some(first)) = meant.first_in(store, s)? else {
+        return Ok(call.first_argument());
     };
-    store.pass(from, |r| {
-        if r[S] != s || !meant.into && r[N] != call.n {
-            return false;
-        }
-        has_n |= r[N] == call.n;
-        if meant.takes(r) {
-            has_some = true;
-            let other = if r[N] == call.n { r[M] } else { r[N] };
-            nodes.insert(other as u16);
-        }
-        true
-    });
-    if !has_n {
-        return Err(6);
-    }
-    if has_some {
-        store.sweep(
-            start.place,
-            |r| s == 0 || r[S] == s,
-            |r| nodes.has(r[N] as u16) || nodes.has(r[M] as u16),
-        );
-    }
+    let mut nodes = Names::none();
+    meant.each_from(store, first, s, |r| nodes.insert(meant.other(r) as u16));
+    store.sweep(
+        start,
+        |r| s == 0 || r[S] == s,
+        |r| nodes.has(r[N] as u16) || nodes.has(r[M] as u16),
+    );
     Ok(call.first_argument())
 }
 

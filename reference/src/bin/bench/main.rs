@@ -27,10 +27,7 @@ fn main() -> ExitCode {
     let mut all_agree = true;
     for load in loads() {
         for mode in [Mode::Checked, Mode::Known] {
-            let figures: Vec<Figure> = sides
-                .iter_mut()
-                .map(|side| measure::measure(side.as_mut(), &load, mode, repetitions))
-                .collect();
+            let figures = measure::measure(&mut sides, &load, mode, repetitions);
             print_row(&load, mode, &figures);
             all_agree &= agree(&load, &names, &figures);
         }
@@ -95,13 +92,13 @@ fn ratios(names: &[&str]) -> impl Iterator<Item = usize> {
 fn print_row(load: &Load, mode: Mode, figures: &[Figure]) {
     print!("| {} | {} | {} |", load.name, load.count(), mode.name());
     for figure in figures {
-        print!(" {:.0} ns |", figure.nanoseconds);
+        print!(" {:.0} ns |", figure.nanoseconds());
     }
     for (place, figure) in figures.iter().enumerate() {
         if place != HAND_WRITTEN {
             print!(
                 " {:.2} |",
-                figure.nanoseconds / figures[HAND_WRITTEN].nanoseconds
+                figure.nanoseconds() / figures[HAND_WRITTEN].nanoseconds()
             );
         }
     }
@@ -112,7 +109,7 @@ fn print_row(load: &Load, mode: Mode, figures: &[Figure]) {
 fn agree(load: &Load, names: &[&str], figures: &[Figure]) -> bool {
     let mut all_agree = true;
     for (name, figure) in names.iter().zip(figures) {
-        if figure.hash != figures[0].hash {
+        if !figure.agrees_with(&figures[0]) {
             eprintln!("{}: {name} differs from {}", load.name, names[0]);
             all_agree = false;
         }

@@ -60,33 +60,68 @@ impl Calls {
     }
 }
 
+/// What one side took for a load.
+#[derive(Clone)]
 pub struct Figure {
-    /// The least time of a call over all repetitions.
-    pub nanoseconds: f64,
-    /// Of all answers, lists and tuples.
-    pub hash: u64,
+    /// For each run of calls, the least time over all repetitions: what else
+    /// the machine does then weighs little.
+    least: Vec<Duration>,
+    calls: usize,
+    /// Of all answers, lists and tuples; none if the repetitions differ.
+    hash: Option<u64>,
 }
 
-/// Takes the least of some repetitions. Where they differ in their answers,
-/// the hash agrees with no other.
-pub fn measure(side: &mut dyn Side, load: &Load, mode: Mode, repetitions: usize) -> Figure {
-    let mut output = Output::new(load);
-    let mut least = Duration::MAX;
-    let mut hashes = Vec::new();
-    for _ in 0..repetitions {
+impl Figure {
+    fn new(load: &Load) -> Figure {
+        let calls = load.timed.calls.len();
+        Figure {
+            least: vec![Duration::MAX; calls.div_ceil(CALLS_IN_A_RUN)],
+            calls,
+            hash: None,
+        }
+    }
+
+    /// The time of a call.
+    pub fn nanoseconds(&self) -> f64 {
+        let time: Duration = self.least.iter().sum();
+        time.as_nanos() as f64 / self.calls as f64
+    }
+
+    pub fn agrees_with(&self, other: &Figure) -> bool {
+        self.hash.is_some() && self.hash == other.hash
+    }
+
+    /// Runs the load once more.
+    fn repeat(&mut self, side: &mut dyn Side, load: &Load, mode: Mode, output: &mut Output) {
         side.prepare();
         let mut hash = Hash::new();
         output.run(side, &load.before, Mode::Known, &mut hash);
-        least = least.min(output.run(side, &load.timed, mode, &mut hash));
+        let times = output.run(side, &load.timed, mode, &mut hash);
         hash.add_tuples(side);
-        hashes.push(hash.0);
+        let is_first = self.least.contains(&Duration::MAX);
+        for (least, time) in self.least.iter_mut().zip(times) {
+            *least = time.min(*least);
+        }
+        let is_steady = is_first || self.hash == Some(hash.0);
+        self.hash = is_steady.then_some(hash.0);
     }
-    let first = hashes[0];
-    let is_steady = hashes.iter().all(|&hash| hash == first);
-    Figure {
-        nanoseconds: least.as_nanos() as f64 / load.count() as f64,
-        hash: if is_steady { first } else { 0 },
+}
+
+/// Runs a load on all sides, one after the other in each repetition.
+pub fn measure(
+    sides: &mut [Box<dyn Side>],
+    load: &Load,
+    mode: Mode,
+    repetitions: usize,
+) -> Vec<Figure> {
+    let mut output = Output::new(load);
+    let mut figures = vec![Figure::new(load); sides.len()];
+    for _ in 0..repetitions {
+        for (side, figure) in sides.iter_mut().zip(&mut figures) {
+            figure.repeat(side.as_mut(), load, mode, &mut output);
+        }
     }
+    figures
 }
 
 /// Where a side writes: the answers and lists of the calls of one run.
@@ -111,9 +146,15 @@ impl Output {
         }
     }
 
-    /// Makes all calls and gives the time that they took.
-    fn run(&mut self, side: &mut dyn Side, calls: &Calls, mode: Mode, hash: &mut Hash) -> Duration {
-        let mut time = Duration::ZERO;
+    /// Makes all calls and gives the time of each run of them.
+    fn run(
+        &mut self,
+        side: &mut dyn Side,
+        calls: &Calls,
+        mode: Mode,
+        hash: &mut Hash,
+    ) -> Vec<Duration> {
+        let mut times = Vec::new();
         let packed = calls.packed.chunks(CALLS_IN_A_RUN * WORDS_IN_A_CALL);
         for (calls, packed) in calls.calls.chunks(CALLS_IN_A_RUN).zip(packed) {
             // No kind of answer, so that one that is not written shows.
@@ -129,10 +170,10 @@ impl Output {
                 Mode::Known => side.run(run),
                 Mode::Checked => run_each(side, run),
             }
-            time += start.elapsed();
+            times.push(start.elapsed());
             hash.add_answers(calls, &self.answers, &self.lists);
         }
-        time
+        times
     }
 }
 
