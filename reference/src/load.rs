@@ -95,7 +95,7 @@ fn knitted() -> Vec<u16> {
     let row = |row: u16| {
         let first = row * SIDE + 1;
         let loops: Vec<u16> = (first..first + SIDE).collect();
-        if row % 2 == 0 {
+        if row.is_multiple_of(2) {
             loops
         } else {
             loops.into_iter().rev().collect()

@@ -126,10 +126,11 @@ fn fields_of(call: &Call) -> Result<Fields, u32> {
         Space::Universe => (0, false),
         Space::Numbered(s) => (s.0, s.0 == 0),
     };
-    let zeros = u8::from(call.n.0 == 0) * READS_N
-        | u8::from(call.g.0 == 0) * READS_G
-        | u8::from(call.m.0 == 0) * READS_M
-        | u8::from(space_is_zero) * READS_S;
+    let mark = |name: u8, is_zero: bool| if is_zero { name } else { 0 };
+    let zeros = mark(READS_N, call.n.0 == 0)
+        | mark(READS_G, call.g.0 == 0)
+        | mark(READS_M, call.m.0 == 0)
+        | mark(READS_S, space_is_zero);
     if names & zeros != 0 {
         return Err(3);
     }

@@ -8,7 +8,7 @@ use gaffdamson_reference::packed::{self, LIST, WORDS_IN_AN_ANSWER, WORDS_IN_A_CA
 use crate::sides::{Run, Side};
 
 /// As many calls as have 16 MB of answer lists.
-const CALLS_IN_A_RUN: usize = 2_048;
+const MOST_CALLS: usize = 2_048;
 
 /// Whether each call checks the store, or one check serves many calls.
 #[derive(Clone, Copy, PartialEq, Eq)]
@@ -22,6 +22,15 @@ impl Mode {
         match self {
             Mode::Checked => "checked at each call",
             Mode::Known => "known",
+        }
+    }
+
+    /// How many calls are timed together. On a known store one check serves
+    /// them all; with a check for each, few take as long.
+    fn calls_together(self) -> usize {
+        match self {
+            Mode::Checked => MOST_CALLS / 32,
+            Mode::Known => MOST_CALLS,
         }
     }
 }
@@ -40,6 +49,12 @@ impl Load {
             before: Calls::new(before),
             timed: Calls::new(timed),
         }
+    }
+
+    /// How often the load is run for each repetition: a short one is sooner
+    /// disturbed throughout.
+    fn times(&self) -> usize {
+        (100_000 / self.count()).clamp(1, 8)
     }
 
     /// How many calls are timed.
@@ -63,8 +78,8 @@ impl Calls {
 /// What one side took for a load.
 #[derive(Clone)]
 pub struct Figure {
-    /// For each run of calls, the least time over all repetitions: what else
-    /// the machine does then weighs little.
+    /// For each part of the calls that is timed together, the least time over
+    /// all repetitions: what else the machine does then weighs little.
     least: Vec<Duration>,
     calls: usize,
     /// Of all answers, lists and tuples; none if the repetitions differ.
@@ -72,10 +87,10 @@ pub struct Figure {
 }
 
 impl Figure {
-    fn new(load: &Load) -> Figure {
+    fn new(load: &Load, mode: Mode) -> Figure {
         let calls = load.timed.calls.len();
         Figure {
-            least: vec![Duration::MAX; calls.div_ceil(CALLS_IN_A_RUN)],
+            least: vec![Duration::MAX; calls.div_ceil(mode.calls_together())],
             calls,
             hash: None,
         }
@@ -115,8 +130,8 @@ pub fn measure(
     repetitions: usize,
 ) -> Vec<Figure> {
     let mut output = Output::new(load);
-    let mut figures = vec![Figure::new(load); sides.len()];
-    for _ in 0..repetitions {
+    let mut figures = vec![Figure::new(load, mode); sides.len()];
+    for _ in 0..repetitions * load.times() {
         for (side, figure) in sides.iter_mut().zip(&mut figures) {
             figure.repeat(side.as_mut(), load, mode, &mut output);
         }
@@ -132,7 +147,7 @@ struct Output {
 
 impl Output {
     fn new(load: &Load) -> Output {
-        let runs = [&load.before, &load.timed].map(|calls| calls.calls.chunks(CALLS_IN_A_RUN));
+        let runs = [&load.before, &load.timed].map(|calls| calls.calls.chunks(MOST_CALLS));
         let room = runs
             .into_iter()
             .flatten()
@@ -140,13 +155,13 @@ impl Output {
             .max()
             .unwrap_or(0);
         Output {
-            answers: vec![0; WORDS_IN_AN_ANSWER * CALLS_IN_A_RUN],
+            answers: vec![0; WORDS_IN_AN_ANSWER * MOST_CALLS],
             // Written once, so that the first run finds the pages there.
             lists: vec![1; room],
         }
     }
 
-    /// Makes all calls and gives the time of each run of them.
+    /// Makes all calls and gives the time of each part of them.
     fn run(
         &mut self,
         side: &mut dyn Side,
@@ -155,8 +170,9 @@ impl Output {
         hash: &mut Hash,
     ) -> Vec<Duration> {
         let mut times = Vec::new();
-        let packed = calls.packed.chunks(CALLS_IN_A_RUN * WORDS_IN_A_CALL);
-        for (calls, packed) in calls.calls.chunks(CALLS_IN_A_RUN).zip(packed) {
+        let together = mode.calls_together();
+        let packed = calls.packed.chunks(together * WORDS_IN_A_CALL);
+        for (calls, packed) in calls.calls.chunks(together).zip(packed) {
             // No kind of answer, so that one that is not written shows.
             self.answers.fill(u32::MAX);
             let run = Run {
