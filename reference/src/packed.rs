@@ -1,6 +1,7 @@
 //! Calls and answers as plain words, as the C function of the proved store
 //! takes them.
 
+use crate::chained;
 use crate::machine::{Answer, Call, Space};
 
 /// operator, n + 65,536 × g, m + 65,536 × s, v, the form of the space (0 is
@@ -10,10 +11,10 @@ pub const WORDS_IN_A_CALL: usize = 6;
 /// The kind of the answer and its number.
 pub const WORDS_IN_AN_ANSWER: usize = 2;
 
-pub const REFUSAL: u32 = 0;
-pub const NAME: u32 = 1;
-pub const VALUE: u32 = 2;
-pub const YES_NO: u32 = 3;
+const REFUSAL: u32 = 0;
+const NAME: u32 = 1;
+const VALUE: u32 = 2;
+const YES_NO: u32 = 3;
 pub const LIST: u32 = 4;
 
 /// A call, with its own list length.
@@ -31,6 +32,33 @@ pub fn call(call: &Call) -> [u32; WORDS_IN_A_CALL] {
         form,
         call.list_length as u32,
     ]
+}
+
+/// An answer of the hand-written store, whose list stands elsewhere.
+pub fn words_of(answer: chained::Answer) -> [u32; WORDS_IN_AN_ANSWER] {
+    match answer {
+        chained::Answer::Refusal(number) => [REFUSAL, number],
+        chained::Answer::Name(name) => [NAME, name.into()],
+        chained::Answer::Value(value) => [VALUE, value],
+        chained::Answer::YesNo(is_so) => [YES_NO, is_so.into()],
+        chained::Answer::List(count) => [LIST, count as u32],
+    }
+}
+
+/// An answer of the tuple machine, whose entries go to a list.
+pub fn write(answer: &Answer, list: &mut [u32]) -> [u32; WORDS_IN_AN_ANSWER] {
+    match answer {
+        Answer::Refusal(number) => [REFUSAL, *number],
+        Answer::Name(name) => [NAME, u32::from(*name)],
+        Answer::Value(value) => [VALUE, *value],
+        Answer::YesNo(is_so) => [YES_NO, u32::from(*is_so)],
+        Answer::List(entries) => {
+            for (place, &(edge, node)) in list.iter_mut().zip(entries) {
+                *place = u32::from(edge) << 16 | u32::from(node);
+            }
+            [LIST, entries.len() as u32]
+        }
+    }
 }
 
 /// The answer that two words and the list beside them give; none if they give

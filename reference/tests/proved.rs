@@ -1,32 +1,23 @@
 //! The proved store, through its static library, beside the tuple machine.
 #![cfg(feature = "rattle")]
 
+mod common;
+
+use common::lent::{answer_of, LONGEST_LIST, UNWRITTEN};
 use gaffdamson_reference::machine::{Answer, Call};
 use gaffdamson_reference::packed::{self, WORDS_IN_AN_ANSWER};
 use gaffdamson_reference::proved::run_calls;
 use gaffdamson_reference::random::{buffers, lists, Draws};
 use gaffdamson_reference::{buffer, load};
 
-/// What every lent word holds before a run.
-const UNWRITTEN: u32 = 0xdead_beef;
-
-/// The longest list that is lent; no call lists more.
-const LONGEST_LIST: usize = 2_100;
-
-/// The lists of a run in their order; what no list gives must be unwritten.
+/// The answers of a run, whose lists stand one after the other.
 fn answers_of(calls: &[Call], answers: &[u32], lists: &[u32]) -> Vec<Answer> {
     let mut rest = lists;
     let mut all = Vec::new();
     for (call, words) in calls.iter().zip(answers.chunks(WORDS_IN_AN_ANSWER)) {
         let (list, others) = rest.split_at(call.list_length);
         rest = others;
-        let answer = packed::answer([words[0], words[1]], list).expect("an answer");
-        let count = match &answer {
-            Answer::List(entries) => entries.len(),
-            _ => 0,
-        };
-        assert!(list[count..].iter().all(|&word| word == UNWRITTEN));
-        all.push(answer);
+        all.push(answer_of([words[0], words[1]], list));
     }
     all
 }

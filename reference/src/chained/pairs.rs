@@ -209,13 +209,9 @@ pub fn destroy(store: &mut Store, call: &Fields) -> Result<Answer, u32> {
             },
         );
     } else {
-        let last = places.present().last();
-        for place in last
-            .into_iter()
-            .chain([first])
-            .take(places.present().count())
-        {
-            store.remove(place);
+        let found = [places.down, places.up].into_iter().flatten();
+        for found in found.filter(|found| found.is_there) {
+            store.remove(found.place);
         }
     }
     Ok(call.first_argument())

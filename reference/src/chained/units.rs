@@ -28,8 +28,7 @@ pub fn create_node(store: &mut Store, call: &Fields) -> Result<Answer, u32> {
     Ok(call.first_argument())
 }
 
-/// B, V and X 46 to 48. A node that is there has its space, which is looked
-/// at only where it is not.
+/// B, V and X 46 to 48. The walk to the node comes by the space.
 pub fn node(store: &mut Store, call: &Fields) -> Result<Answer, u32> {
     let space = store.space(store.first(), call.s);
     if !space.is_there {

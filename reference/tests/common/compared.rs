@@ -2,13 +2,9 @@
 
 use gaffdamson_reference::machine::{Answer, Call, Machine};
 use gaffdamson_reference::operators::{kind, Kind};
-use gaffdamson_reference::{buffer, chained};
+use gaffdamson_reference::{buffer, chained, packed};
 
-/// What every place of an answer list holds before a call.
-const UNWRITTEN: u32 = 0xdead_beef;
-
-/// The longest list that is lent; no call lists more.
-const LONGEST_LIST: usize = 2_100;
+use super::lent::{answer_of, LONGEST_LIST, UNWRITTEN};
 
 pub struct Compared {
     pub machine: Machine,
@@ -74,8 +70,7 @@ impl Compared {
     }
 }
 
-/// The answer of a call with the pairs of its list; the places past them, or
-/// all after another answer, must be unwritten.
+/// The answer of a call with the pairs of its list.
 fn run(
     execute: fn(&mut [u32], &Call, &mut [u32]) -> chained::Answer,
     words: &mut [u32],
@@ -83,20 +78,5 @@ fn run(
 ) -> Answer {
     let mut list = vec![UNWRITTEN; call.list_length.min(LONGEST_LIST)];
     let answer = execute(words, call, &mut list);
-    let count = match answer {
-        chained::Answer::List(count) => count,
-        _ => 0,
-    };
-    assert!(list[count..].iter().all(|&word| word == UNWRITTEN));
-    match answer {
-        chained::Answer::Refusal(number) => Answer::Refusal(number),
-        chained::Answer::Name(name) => Answer::Name(name),
-        chained::Answer::Value(value) => Answer::Value(value),
-        chained::Answer::YesNo(is_so) => Answer::YesNo(is_so),
-        chained::Answer::List(_) => Answer::List(list[..count].iter().map(unpacked).collect()),
-    }
-}
-
-fn unpacked(entry: &u32) -> (u16, u16) {
-    ((entry >> 16) as u16, *entry as u16)
+    answer_of(packed::words_of(answer), &list)
 }

@@ -1,6 +1,6 @@
 //! What is measured: each side makes the same calls and writes the same words.
 
-use gaffdamson_reference::machine::{self, Call, Key, Machine, Value};
+use gaffdamson_reference::machine::{Call, Key, Machine, Value};
 use gaffdamson_reference::packed::{self, WORDS_IN_AN_ANSWER};
 use gaffdamson_reference::{buffer, chained};
 
@@ -76,18 +76,7 @@ impl Side for OrderedMap {
 
     fn run(&mut self, run: Run) {
         for (call, answer, list) in parts(run.calls, run.answers, run.lists) {
-            let words = match self.0.step(call) {
-                machine::Answer::Refusal(number) => [packed::REFUSAL, number],
-                machine::Answer::Name(name) => [packed::NAME, name.into()],
-                machine::Answer::Value(value) => [packed::VALUE, value],
-                machine::Answer::YesNo(is_so) => [packed::YES_NO, is_so.into()],
-                machine::Answer::List(entries) => {
-                    for (place, &(edge, node)) in list.iter_mut().zip(&entries) {
-                        *place = u32::from(edge) << 16 | u32::from(node);
-                    }
-                    [packed::LIST, entries.len() as u32]
-                }
-            };
+            let words = packed::write(&self.0.step(call), list);
             answer.copy_from_slice(&words);
         }
     }
@@ -113,13 +102,7 @@ impl Side for HandWritten {
             return;
         }
         for (call, answer, list) in parts(run.calls, run.answers, run.lists) {
-            let words = match chained::execute_known(&mut self.0, call, list) {
-                chained::Answer::Refusal(number) => [packed::REFUSAL, number],
-                chained::Answer::Name(name) => [packed::NAME, name.into()],
-                chained::Answer::Value(value) => [packed::VALUE, value],
-                chained::Answer::YesNo(is_so) => [packed::YES_NO, is_so.into()],
-                chained::Answer::List(count) => [packed::LIST, count as u32],
-            };
+            let words = packed::words_of(chained::execute_known(&mut self.0, call, list));
             answer.copy_from_slice(&words);
         }
     }
