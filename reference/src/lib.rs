@@ -4,7 +4,13 @@
 //! document 01 points to it), to be plainly right rather than fast.
 
 pub mod buffer;
+pub mod chained;
+pub mod load;
 pub mod machine;
 pub mod operators;
+pub mod packed;
+#[cfg(feature = "rattle")]
+pub mod proved;
+pub mod random;
 pub mod raw;
 pub mod script;

@@ -1,5 +1,8 @@
-//! What the tests of scripts share.
+//! What tests share.
 #![allow(dead_code)]
+
+pub mod compared;
+pub mod lent;
 
 use gaffdamson_reference::machine::Machine;
 use gaffdamson_reference::script;

@@ -7,8 +7,7 @@ use std::path::Path;
 
 use gaffdamson_reference::buffer;
 use gaffdamson_reference::machine::{Answer, Call, Key, Space, Value};
-
-use crate::lists::Run;
+use gaffdamson_reference::random::lists::Run;
 
 /// The files of the definitions that compute.
 const MODULES: [&str; 9] = [

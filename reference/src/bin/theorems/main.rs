@@ -5,9 +5,6 @@
 //! the lengths at which something changes.
 
 mod antt;
-mod buffers;
-mod draws;
-mod lists;
 
 use std::collections::BTreeSet;
 use std::env;
@@ -17,9 +14,9 @@ use std::path::Path;
 use std::process::ExitCode;
 
 use antt::Definitions;
-use draws::Draws;
 use gaffdamson_reference::buffer;
 use gaffdamson_reference::machine::Answer;
+use gaffdamson_reference::random::{buffers, lists, Draws};
 
 /// How many lists or buffers stand in one file.
 const IN_A_FILE: usize = 20;

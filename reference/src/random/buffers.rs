@@ -1,9 +1,8 @@
 //! Random buffers: stores whose records stand in any order, and damaged ones.
 
-use gaffdamson_reference::machine::{Key, Value};
+use crate::machine::{Key, Value};
 
-use crate::draws::Draws;
-use crate::lists;
+use super::{lists, Draws};
 
 /// The words of a record after next: s, n, g, m, value.
 type Fields = [u32; 5];

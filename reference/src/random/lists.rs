@@ -1,11 +1,9 @@
 //! Random lists of calls, run on the tuple machine.
 
-use gaffdamson_reference::machine::{
-    Answer, Call, Edge, Key, Machine, Node, Space, SpaceName, UNIVERSE,
-};
-use gaffdamson_reference::operators::{kind, Kind};
+use crate::machine::{Answer, Call, Edge, Key, Machine, Node, Space, SpaceName, UNIVERSE};
+use crate::operators::{kind, Kind};
 
-use crate::draws::Draws;
+use super::Draws;
 
 /// A list of calls, its answers, and the machine after the last.
 pub struct Run {

@@ -1,5 +1,10 @@
-//! A small generator of numbers: equal seeds draw equal numbers everywhere.
+//! Random lists of calls and random buffers, for comparisons. Equal seeds draw
+//! equal ones everywhere.
 
+pub mod buffers;
+pub mod lists;
+
+/// A small generator of numbers.
 pub struct Draws(u64);
 
 impl Draws {

@@ -1,0 +1,22 @@
+//! Answer lists that are lent to a store.
+
+use gaffdamson_reference::machine::Answer;
+use gaffdamson_reference::packed::{self, WORDS_IN_AN_ANSWER};
+
+/// What every place of a list holds before a call.
+pub const UNWRITTEN: u32 = 0xdead_beef;
+
+/// The longest list that is lent; no call lists more.
+pub const LONGEST_LIST: usize = 2_100;
+
+/// The answer with the pairs of its list; the places past them, or all after
+/// another answer, must be unwritten.
+pub fn answer_of(words: [u32; WORDS_IN_AN_ANSWER], list: &[u32]) -> Answer {
+    let answer = packed::answer(words, list).expect("an answer");
+    let count = match &answer {
+        Answer::List(entries) => entries.len(),
+        _ => 0,
+    };
+    assert!(list[count..].iter().all(|&word| word == UNWRITTEN));
+    answer
+}

@@ -1,0 +1,71 @@
+//! The proved store, through its static library, beside the tuple machine.
+#![cfg(feature = "rattle")]
+
+mod common;
+
+use common::lent::{answer_of, LONGEST_LIST, UNWRITTEN};
+use gaffdamson_reference::machine::{Answer, Call};
+use gaffdamson_reference::packed::{self, WORDS_IN_AN_ANSWER};
+use gaffdamson_reference::proved::run_calls;
+use gaffdamson_reference::random::{buffers, lists, Draws};
+use gaffdamson_reference::{buffer, load};
+
+/// The answers of a run, whose lists stand one after the other.
+fn answers_of(calls: &[Call], answers: &[u32], lists: &[u32]) -> Vec<Answer> {
+    let mut rest = lists;
+    let mut all = Vec::new();
+    for (call, words) in calls.iter().zip(answers.chunks(WORDS_IN_AN_ANSWER)) {
+        let (list, others) = rest.split_at(call.list_length);
+        rest = others;
+        all.push(answer_of([words[0], words[1]], list));
+    }
+    all
+}
+
+/// Calls whose lists can be lent.
+fn lendable(calls: &[Call]) -> Vec<Call> {
+    let shorten = |call: &Call| Call {
+        list_length: call.list_length.min(LONGEST_LIST),
+        ..*call
+    };
+    calls.iter().map(shorten).collect()
+}
+
+#[test]
+fn runs_of_calls_are_answered_alike() {
+    for place in 0..500 {
+        let mut draws = Draws::new(11, 6, place);
+        let capacity = 1 + draws.below(if place % 5 == 0 { 2_048 } else { 40 });
+        let length = draws.below(80);
+        let run = lists::run(&mut draws, capacity, length);
+        let calls = lendable(&run.calls);
+        let room = calls.iter().map(|call| call.list_length).sum();
+        let packed: Vec<u32> = calls.iter().flat_map(packed::call).collect();
+        let mut words = vec![7; 4 + 6 * capacity + place as usize % 6];
+        assert_eq!(buffer::prepare(&mut words), Ok(capacity as u32));
+        let mut answers = vec![UNWRITTEN; WORDS_IN_AN_ANSWER * calls.len()];
+        let mut lists = vec![UNWRITTEN; room];
+        assert_eq!(run_calls(&mut words, &packed, &mut answers, &mut lists), 0);
+        assert_eq!(answers_of(&calls, &answers, &lists), run.answers);
+        let tuples: Vec<_> = run.machine.tuples().collect();
+        assert_eq!(buffer::tuples(&words), tuples);
+    }
+}
+
+/// One call that changes nothing: 0 from a store, else 1, and no word changes.
+#[test]
+fn buffers_are_judged_alike() {
+    let call = Call {
+        operator: 54,
+        ..load::lists_of_nodes(1)[0]
+    };
+    for place in 0..20_000 {
+        let mut words = buffers::draw(&mut Draws::new(11, 7, place));
+        let before = words.clone();
+        let mut lists = vec![UNWRITTEN; call.list_length];
+        let answer = run_calls(&mut words, &packed::call(&call), &mut [0; 2], &mut lists);
+        let expected = u32::from(!buffer::is_store(&words));
+        assert_eq!(answer, expected, "{words:?}");
+        assert_eq!(words, before);
+    }
+}
