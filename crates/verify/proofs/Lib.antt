@@ -6,5 +6,5 @@ pub mod Walks
 pub mod Rest
 pub mod KeyTests
 pub mod Support
-pub mod Ends
+pub mod Hints
 pub mod Parts

@@ -15,12 +15,13 @@ use Rattle.model.specs.Keys.{keyOf, spaceKey, compareKeys, sameKey}
 use Rattle.model.specs.Tuples.{Tuples, present}
 use Rattle.model.specs.Buffer.{word, capacityOf, next, keyAt, tupleAt, walk, orNothing, usedChain, usedOf, tuplesOf, ascendsFromUniverse, everyKey}
 use Rattle.model.specs.Rules.{Chain}
-use Rattle.model.proofs.Bools.{and-left, and-right, not-yes}
+use Rattle.model.proofs.Bools.{or-left, or-right, and-left, and-right, not-yes}
 use Rattle.model.proofs.Order.{keys, opposite}
 use Rattle.model.proofs.Ordered.{above-not-held, ascending-tail}
+use Rattle.model.proofs.Tuples.{own-key}
 use Rattle.model.proofs.Chains.{chain-walk}
 use Rattle.records.specs.Words.{Inside}
-use Rattle.verify.specs.Checks.{Walkable, UsedEnds, recordsFrom, tuplesFrom, OnChain, Seekable, isAt, isBefore}
+use Rattle.verify.specs.Checks.{Walkable, UsedEnds, recordsFrom, tuplesFrom, OnChain, Seekable, isAt, isBefore, Held}
 use Rattle.verify.proofs.Capacity.{room}
 use Rattle.verify.proofs.Walks.{met-by-walk}
 
@@ -89,12 +90,18 @@ tuples-none b at e =
     ap (λ (i : ℕ). map (tupleAt b) (orNothing (walk (next b) (capacityOf b) i))) e
     ∙ ap (λ (r : Option (List ℕ)). map (tupleAt b) (orNothing r)) (walk-none (next b) (capacityOf b))
 
+-- is a key there, at one tuple and after it
+present-cons : (k : Key) (b : List ℕ) (i : ℕ) (ts : Tuples) → present k (tupleAt b i ∷ ts) ≡ (sameKey k (keyAt b i) || present k ts)
+unfolding holds tupleAt
+present-cons k b i ts = refl
+
 -- ---- a test on every key
 
 -- what is left of it at a record
 pub record EveryLeft (p : Key → Bool) (b : List ℕ) (at : ℕ) : Type 0 where
   pub on : OnChain b at
   pub left : everyKey p (tuplesOf b) ≡ everyKey p (tuplesFrom b at)
+  pub among : (k : Key) → present k (tuplesFrom b at) ≡ true → present k (tuplesOf b) ≡ true
 
 every-cons : (p : Key → Bool) (b : List ℕ) (i : ℕ) (ts : Tuples) → everyKey p (tupleAt b i ∷ ts) ≡ (p (keyAt b i) && everyKey p ts)
 unfolding everyKey tupleAt
@@ -102,7 +109,12 @@ every-cons p b i ts = refl
 
 module _ (p : Key → Bool) (b : List ℕ) where
   pub every-start : (h : ℕ) → UsedEnds b → h ≡ word b 1 → EveryLeft p b h
-  every-start h U e = record { on = on-head b h U e; left = ap (everyKey p) (sym (used-from-head b h e)) }
+  every-start h U e =
+      record {
+        on = on-head b h U e;
+        left = ap (everyKey p) (sym (used-from-head b h e));
+        among = λ k t. ap (present k) (sym (used-from-head b h e)) ∙ t;
+      }
 
   pub every-end : (at : ℕ) → EveryLeft p b at → at ≡ 0 → true ≡ everyKey p (tuplesOf b)
   unfolding everyKey
@@ -113,7 +125,27 @@ module _ (p : Key → Bool) (b : List ℕ) where
     one-more = E .left ∙ ap (everyKey p) (tuples-next b at n w (E .on) at≢ e) ∙ every-cons p b at (tuplesFrom b n)
 
     pub every-next : p (keyAt b at) ≡ true → EveryLeft p b n
-    every-next t = record { on = on-next b at n w (E .on) at≢ e; left = one-more ∙ ap (λ (a : Bool). a && everyKey p (tuplesFrom b n)) t }
+    every-next t =
+        record {
+          on = on-next b at n w (E .on) at≢ e;
+          left = one-more ∙ ap (λ (a : Bool). a && everyKey p (tuplesFrom b n)) t;
+          among =
+              λ k h.
+              E .among k
+              (ap (present k) (tuples-next b at n w (E .on) at≢ e) ∙ present-cons k b at (tuplesFrom b n) ∙ or-right (sameKey k (keyAt b at)) _ h);
+        }
+
+  -- a record of the walk is held
+  pub every-held : (at : ℕ) → Walkable b → EveryLeft p b at → Held b at
+  every-held at w E =
+      record {
+        high = E .on .high;
+        has =
+            λ at≢.
+            E .among (keyAt b at)
+            (ap (present (keyAt b at)) (tuples-next b at (next b at) w (E .on) at≢ refl) ∙ present-cons (keyAt b at) b at (tuplesFrom b (next b at))
+            ∙ or-left (sameKey (keyAt b at) (keyAt b at)) _ (own-key (keyAt b at)));
+      }
 
   pub every-no : (at : ℕ) → Walkable b → EveryLeft p b at → at ≢ 0 → p (keyAt b at) ≡ false → false ≡ everyKey p (tuplesOf b)
   every-no at w E at≢ t =
@@ -227,10 +259,6 @@ less-lt Ordering·gt e = absurd (false≢true e)
 
 flip-key : (j k : Key) → compareKeys k j ≡ opposite (compareKeys j k)
 flip-key j k = keys .compares .flip j k
-
-pub present-cons : (k : Key) (b : List ℕ) (i : ℕ) (ts : Tuples) → present k (tupleAt b i ∷ ts) ≡ (sameKey k (keyAt b i) || present k ts)
-unfolding holds tupleAt
-present-cons k b i ts = refl
 
 not-present : (k : Key) (b : List ℕ) (i : ℕ) (ts : Tuples) → compareKeys k (keyAt b i) ≡ Ordering·lt → Ascending keyOf compareKeys (tupleAt b i ∷ ts)
     → present k (tupleAt b i ∷ ts) ≡ false

@@ -2,15 +2,16 @@
 -- proofs/Parts.antt proves that the parts together are the test.
 use mathlib.Core.Bool.{Bool, true, cond, not, _&&_, _||_}
 use mathlib.Core.List.{List, _++_, map}
+use mathlib.Core.Logic.{_≢_}
 use mathlib.Core.Path.{_≡_}
-use Prim.Native.Nat.{ℕ, zero, suc, _≤_}
+use Prim.Native.Nat.{ℕ, zero, suc, _+_, _*_, _/_, _%_, _≤_}
 use lib.Dec.{eqb, leb}
-use lib.ListN.{length}
+use lib.ListN.{length, getD, set}
 use Rattle.model.specs.declared.Key.{Key}
 use Rattle.model.specs.Ordered.{isLess, Ascending}
-use Rattle.model.specs.Keys.{keyOf, nodeKey, edgeKey, isEdge, compareKeys, sameKey}
+use Rattle.model.specs.Keys.{keyOf, compareKeys, sameKey}
 use Rattle.model.specs.Tuples.{Tuples, present}
-use Rattle.model.specs.Buffer.{word, leastLength, mostLength, fitsLength, capacityOf, sizeWord, next, keyAt, tupleAt, walk, ends, orNothing, usedChain, freeChain, usedOf, freeOf, tuplesOf, count, everyRecord, ascendsFromUniverse, smallKey, noEdgeWithoutNode, edgeHasEnd, nodeSupported}
+use Rattle.model.specs.Buffer.{word, leastLength, mostLength, fitsLength, capacityOf, sizeWord, next, keyAt, tupleAt, walk, ends, orNothing, usedChain, freeChain, usedOf, freeOf, tuplesOf, count, everyRecord, ascendsFromUniverse, smallKey, noEdgeWithoutNode, edgeHasEnd, nodeSupported, edgeSupported, everyKey}
 use Rattle.model.specs.Rules.{Chain}
 use Rattle.verify.specs.declared.chains.Walked.{Walked}
 
@@ -94,6 +95,10 @@ shapedKey k = noEdgeWithoutNode k && edgeHasEnd k
 unfoldable pub goodKey : Key → Bool
 goodKey k = smallKey k && shapedKey k
 
+-- the keys ascend from (0,0,0,0), and each is such a key
+unfoldable pub keysRight : Tuples → Bool
+keysRight ts = ascendsFromUniverse ts && everyKey goodKey ts
+
 -- ---- a key in a chain whose keys ascend
 
 -- a record from which the chain ends and its keys ascend
@@ -117,18 +122,38 @@ pub record Sorted (b : List ℕ) : Type 0 where
   pub used : UsedEnds b
   pub ascends : ascendsFromUniverse (tuplesOf b) ≡ true
 
--- "each edge tuple has .. its tuple in 0"
-unfoldable pub edgeInUniverse : Tuples → Key → Bool
-edgeInUniverse ts k = not (isEdge k) || present (edgeKey 0 (k .n) (k .g) (k .m)) ts
+-- all that a tuple names
+unfoldable pub supported : Tuples → Key → Bool
+supported ts k = nodeSupported ts k && edgeSupported ts k
 
--- all that a tuple names but the ends of an edge
-unfoldable pub namedPresent : Tuples → Key → Bool
-namedPresent ts k = nodeSupported ts k && edgeInUniverse ts k
+-- the record where a name is 0, else the last such record
+unfoldable pub orLast : ℕ → ℕ → ℕ → ℕ
+orLast name at last = cond (eqb name 0) at last
 
--- "each edge tuple has its two node tuples in s"
-unfoldable pub endsPresent : Tuples → Key → Bool
-endsPresent ts k = not (isEdge k) || (present (nodeKey (k .s) (k .n)) ts && present (nodeKey (k .s) (k .m)) ts)
+-- ---- marks: for a key that tuples may name, a record that has it
 
--- the first record of the space of record i, where `first` is that of the record before it
-unfoldable pub spaceStart : List ℕ → ℕ → ℕ → ℕ
-spaceStart b first i = cond (eqb (keyAt b first .s) (keyAt b i .s)) first i
+-- 0, or a record whose key is in the used chain
+pub record Held (b : List ℕ) (i : ℕ) : Type 0 where
+  pub high : i ≤ capacityOf b
+  pub has : i ≢ 0 → present (keyAt b i) (tuplesOf b) ≡ true
+
+abbrev pub markCount : ℕ
+markCount = 4096
+
+-- what is known of marks: each names no record or one that is held
+pub record Marks (b marks : List ℕ) : Type 0 where
+  pub size : length marks ≡ markCount
+  pub held : (j : ℕ) → Held b (getD marks j 0)
+
+-- the place where the mark of a key is sought first
+unfoldable pub slotOf : Key → ℕ
+slotOf k = (10475 * k .s + 18103 * k .n + 12499 * k .g + 931 * k .m) / 16 % markCount
+
+-- the marks with a record put at the first place without a mark, of so many from a place on
+unfoldable pub withMark : ℕ → List ℕ → ℕ → ℕ → List ℕ
+withMark zero marks at i = marks
+withMark (suc left) marks at i = cond (eqb (getD marks at 0) 0) (set marks at i) (withMark left marks ((at + 1) % markCount) i)
+
+-- the marks with a record put where tuples may name its key: a tuple of 0, a node, a space
+unfoldable pub withNamed : List ℕ → Key → ℕ → List ℕ
+withNamed marks k i = cond (eqb (k .s) 0 || eqb (k .g) 0) (withMark 64 marks (slotOf k) i) marks

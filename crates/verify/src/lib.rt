@@ -1,9 +1,9 @@
 // Preparing a buffer, and the exact check of a store.
 mod chains;
-mod edge_ends;
 mod fresh;
 mod keys;
 mod layout;
+mod marks;
 mod named;
 mod seek;
 
@@ -31,21 +31,16 @@ pub fn prepare(buffer: &mut [u32]) -> Preparation
     Preparation::Capacity(c as u32)
 }
 
-// Do the tuples of the used chain keep the rules.
+// Do the tuples of the used chain keep the rules; the marks are local to one check.
 fn tuples_sound(b: &[u32]) -> bool
     requires { ⌜ UsedEnds (now b) ⌝ }
     ensures { λ r. ⌜ r ≡ sound (tuplesOf (now (b .entry))) ⌝ }
 {
-    if !keys::keys_ascend(b) {
+    let mut marks: [u16; 4096] = [0; 4096];
+    if !keys::keys_right(b, &mut marks) {
         return false;
     }
-    if !keys::keys_good(b) {
-        return false;
-    }
-    if !named::all_named(b) {
-        return false;
-    }
-    edge_ends::edges_ended(b)
+    named::all_supported(b, &marks)
 }
 
 // Is the buffer, of any length and with any words, a store.

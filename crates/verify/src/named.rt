@@ -1,15 +1,29 @@
-// Is there what each tuple names, but the ends of edges.
-// Each requires that the used chain ends and its keys ascend from (0,0,0,0).
+// Is there what each tuple names.
+// Each requires that the used chain ends, that its keys ascend from (0,0,0,0), and that the marks name used records.
 use super::layout::node_key;
-use super::seek::holds_from;
+use super::marks::known;
+use super::marks::marked;
 use model::Key;
 ghost use mathlib.Core.Path.{_≡_};
-ghost use Rattle.model.specs.Buffer.{tuplesOf, nodeSupported, everyKey};
-ghost use Rattle.verify.specs.Checks.{Sorted, edgeInUniverse, namedPresent};
+ghost use Rattle.model.specs.Tuples.{present};
+ghost use Rattle.model.specs.Buffer.{tuplesOf, nodeSupported, edgeSupported, everyKey};
+ghost use Rattle.verify.specs.Checks.{Sorted, Held, Marks, supported, orLast};
 
-// Has a node tuple its space and its tuple in 0; other keys need neither.
-fn node_supported(b: &[u32], k: Key) -> bool
-    requires { ⌜ Sorted (now b) ⌝ }
+// Is a key of UNIVERSE there that a tuple of space s names: the tuple of record `at` names itself where s is UNIVERSE.
+fn in_universe(b: &[u32], marks: &[u16], at: usize, s: u32, k: Key) -> bool
+    requires { ⌜ Sorted (now b) × Marks (now b) (now marks) × Held (now b) at ⌝ }
+    ensures { λ r. ⌜ r ≡ present k (tuplesOf (now (b .entry))) ⌝ }
+{
+    if s == 0 {
+        return known(b, marks, at, k);
+    }
+    marked(b, marks, k)
+}
+
+// Has the node tuple of record `at` its space and its tuple in 0; other keys need neither.
+// `space` is where the space may be.
+fn node_supported(b: &[u32], marks: &[u16], space: usize, at: usize, k: Key) -> bool
+    requires { ⌜ Sorted (now b) × Marks (now b) (now marks) × Held (now b) space × Held (now b) at ⌝ }
     ensures { λ r. ⌜ r ≡ nodeSupported (tuplesOf (now (b .entry))) k ⌝ }
 {
     if k.n == 0 {
@@ -18,25 +32,32 @@ fn node_supported(b: &[u32], k: Key) -> bool
     if k.g != 0 {
         return true;
     }
-    let head = records::head_word(b, 1);
-    if !holds_from(b, head, node_key(k.s, 0)) {
+    if !known(b, marks, space, node_key(k.s, 0)) {
         return false;
     }
-    holds_from(b, head, node_key(0, k.n))
+    in_universe(b, marks, at, k.s, node_key(0, k.n))
 }
 
-// Has an edge tuple its tuple in 0; other keys need none.
-fn edge_in_universe(b: &[u32], k: Key) -> bool
-    requires { ⌜ Sorted (now b) ⌝ }
-    ensures { λ r. ⌜ r ≡ edgeInUniverse (tuplesOf (now (b .entry))) k ⌝ }
+// Has the edge tuple of record `at` its two ends and its tuple in 0; other keys need none.
+// `node` is where its first end may be.
+fn edge_supported(b: &[u32], marks: &[u16], node: usize, at: usize, k: Key) -> bool
+    requires { ⌜ Sorted (now b) × Marks (now b) (now marks) × Held (now b) node × Held (now b) at ⌝ }
+    ensures { λ r. ⌜ r ≡ edgeSupported (tuplesOf (now (b .entry))) k ⌝ }
 {
     if k.g == 0 {
         return true;
     }
-    let head = records::head_word(b, 1);
-    holds_from(
+    if !known(b, marks, node, node_key(k.s, k.n)) {
+        return false;
+    }
+    if !marked(b, marks, node_key(k.s, k.m)) {
+        return false;
+    }
+    in_universe(
         b,
-        head,
+        marks,
+        at,
+        k.s,
         Key {
             s: 0,
             n: k.n,
@@ -46,27 +67,34 @@ fn edge_in_universe(b: &[u32], k: Key) -> bool
     )
 }
 
-// Is all there that a tuple names but the ends of an edge.
-fn named_present(b: &[u32], k: Key) -> bool
-    requires { ⌜ Sorted (now b) ⌝ }
-    ensures { λ r. ⌜ r ≡ namedPresent (tuplesOf (now (b .entry))) k ⌝ }
+// The record where a name is 0, else the last such record.
+fn or_last(name: u32, at: usize, last: usize) -> usize
+    ensures { λ r. ⌜ r ≡ orLast name at last ⌝ }
 {
-    if !node_supported(b, k) {
-        return false;
+    if name == 0 {
+        return at;
     }
-    edge_in_universe(b, k)
+    last
 }
 
-// Is it there for every tuple.
-pub fn all_named(b: &[u32]) -> bool
-    requires { ⌜ Sorted (now b) ⌝ }
-    ensures { λ r. ⌜ r ≡ everyKey (namedPresent (tuplesOf (now (b .entry)))) (tuplesOf (now (b .entry))) ⌝ }
+// Is all there that the tuples name: keys ascend, so an edge's first end is the last node before it, and its space the last space.
+pub fn all_supported(b: &[u32], marks: &[u16]) -> bool
+    requires { ⌜ Sorted (now b) × Marks (now b) (now marks) ⌝ }
+    ensures { λ r. ⌜ r ≡ everyKey (supported (tuplesOf (now (b .entry)))) (tuplesOf (now (b .entry))) ⌝ }
 {
     let mut at = records::head_word(b, 1);
+    let mut space = at;
+    let mut node = at;
     while at != 0 {
-        if !named_present(b, records::key_of(b, at)) {
+        let k = records::key_of(b, at);
+        if !node_supported(b, marks, space, at, k) {
             return false;
         }
+        if !edge_supported(b, marks, node, at, k) {
+            return false;
+        }
+        space = or_last(k.n, at, space);
+        node = or_last(k.g, at, node);
         at = records::next_of(b, at);
     }
     true

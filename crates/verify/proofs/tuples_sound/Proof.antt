@@ -1,48 +1,39 @@
 use borrow.Author.Tests.{not-true, not-false}
-use Rattle.verify.proofs.Parts.{sound-no-order, sound-sorted, sound-no-good, sound-no-named, sound-ends}
+use Rattle.verify.proofs.Parts.{sound-no-keys, sound-sorted, sound-named}
+use Rattle.verify.proofs.Hints.{no-marks}
 use borrow.Author.Needs.{needs}
 use Rattle.verify.proofs.tuples_sound.Statement.{statement}
 use Rattle.verify.proofs.tuples_sound.Tie as tie
 use Rattle.verify.proofs.tuples_sound.Reads as reads
 use Rattle.verify.proofs.tuples_sound.Lts as lts
-use Rattle.verify.proofs.named.all_named.Reads as all-named-reads
-use Rattle.verify.proofs.edge_ends.edges_ended.Reads as edges-ended-reads
-use Rattle.verify.proofs.keys.keys_ascend.Reads as keys-ascend-reads
-use Rattle.verify.proofs.keys.keys_good.Reads as keys-good-reads
+use Rattle.verify.proofs.keys.keys_right.Reads as keys-right-reads
+use Rattle.verify.proofs.named.all_supported.Reads as all-supported-reads
 
-keys-ascend-requires : tie.Need-keys-ascend-requires
-keys-ascend-requires c κs = search needs
+slice-aggregate-keys-right : tie.Need-slice-aggregate-keys-right
+slice-aggregate-keys-right c = search needs
+
+keys-right-requires : tie.Need-keys-right-requires
+keys-right-requires c κs = (c .before .before .pre, no-marks (c .before .before .args .b .now))
 
 returns : tie.Need-returns
-returns c = sound-no-order (c .before .before .before .args .b .now) (c .before .before .before .pre) _ (c .before .keys-ascend .ensures) (not-true _ (c .if1 .taken))
+returns c = sound-no-keys (c .before .before .before .before .before .args .b .now) (c .before .before .before .before .before .pre) _ (c .before .before .keys-right .ensures .0) (not-true _ (c .if1 .taken))
 
-keys-good-requires : tie.Need-keys-good-requires
-keys-good-requires c κs = search needs
+slice-aggregate-all-supported : tie.Need-slice-aggregate-all-supported
+slice-aggregate-all-supported c = search needs
+
+all-supported-requires : tie.Need-all-supported-requires
+all-supported-requires c κs = (sound-sorted (c .before .before .before .before .before .before .args .b .now) (c .before .before .before .before .before .before .pre) _ (c .before .before .before .keys-right .ensures .0) (not-false _ (c .before .if1 .left)), c .before .before .before .keys-right .ensures .1)
 
 returns-2 : tie.Need-returns-2
-returns-2 c = sound-no-good (c .before .before .before .before .before .args .b .now) (c .before .before .before .before .before .pre) _ (c .before .before .before .keys-ascend .ensures) (not-false _ (c .before .before .if1 .left)) _ (c .before .keys-good .ensures) (not-true _ (c .if2 .taken))
-
-all-named-requires : tie.Need-all-named-requires
-all-named-requires c κs = sound-sorted (c .before .before .before .before .before .args .b .now) (c .before .before .before .before .before .pre) _ (c .before .before .before .keys-ascend .ensures) (not-false _ (c .before .before .if1 .left))
-
-returns-3 : tie.Need-returns-3
-returns-3 c = sound-no-named (c .before .before .before .before .before .before .before .args .b .now) (c .before .before .before .before .before .before .before .pre) _ (c .before .before .before .before .before .keys-ascend .ensures) (not-false _ (c .before .before .before .before .if1 .left)) _ (c .before .before .before .keys-good .ensures) (not-false _ (c .before .before .if2 .left)) _ (c .before .all-named .ensures) (not-true _ (c .if3 .taken))
-
-edges-ended-requires : tie.Need-edges-ended-requires
-edges-ended-requires c κs = sound-sorted (c .before .before .before .before .before .before .before .args .b .now) (c .before .before .before .before .before .before .before .pre) _ (c .before .before .before .before .before .keys-ascend .ensures) (not-false _ (c .before .before .before .before .if1 .left))
-
-returns-4 : tie.Need-returns-4
-returns-4 c = sound-ends (c .before .before .before .before .before .before .before .before .args .b .now) (c .before .before .before .before .before .before .before .before .pre) _ (c .before .before .before .before .before .before .keys-ascend .ensures) (not-false _ (c .before .before .before .before .before .if1 .left)) _ (c .before .before .before .before .keys-good .ensures) (not-false _ (c .before .before .before .if2 .left)) _ (c .before .before .all-named .ensures) (not-false _ (c .before .if3 .left)) _ (c .edges-ended .ensures)
+returns-2 c = sound-named (c .before .before .before .before .before .before .before .args .b .now) (c .before .before .before .before .before .before .before .pre) _ (c .before .before .before .before .keys-right .ensures .0) (not-false _ (c .before .before .if1 .left)) _ (c .all-supported .ensures)
 
 pub tuples-sound-spec : {M : Type 1} → statement M
 tuples-sound-spec =
     tie.close
     (tie.spec
-    keys-ascend-requires
+    slice-aggregate-keys-right
+    keys-right-requires
     returns
-    keys-good-requires
-    returns-2
-    all-named-requires
-    returns-3
-    edges-ended-requires
-    returns-4)
+    slice-aggregate-all-supported
+    all-supported-requires
+    returns-2)
