@@ -52,7 +52,7 @@ module _ (b : List ℕ) (k : Key) where
     pub stop : NotBelow post
     pub at-place : placeIn (keyAt b) k last is ≡ place (lastOf last pre) (headOf post)
 
-  is-less : (o : Ordering) → isLess o ≡ true → o ≡ Ordering·lt
+  pub is-less : (o : Ordering) → isLess o ≡ true → o ≡ Ordering·lt
   is-less Ordering·lt e = refl
   is-less Ordering·eq e = absurd (false≢true e)
   is-less Ordering·gt e = absurd (false≢true e)

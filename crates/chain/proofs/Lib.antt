@@ -4,3 +4,4 @@ pub mod Written
 pub mod Paths
 pub mod Relinked
 pub mod Found
+pub mod Hints

@@ -1,9 +1,11 @@
 -- The chains of a buffer: what the functions of this crate ask of it, where a key's place is, and the words after a tuple is linked or unlinked.
 use mathlib.Core.Bool.{cond}
-use mathlib.Core.List.{List, [], _∷_}
+use mathlib.Core.List.{List, [], _∷_, _++_}
+use mathlib.Core.Logic.{_≢_}
 use mathlib.Core.Option.{some}
 use mathlib.Core.Path.{_≡_}
 use Prim.Native.Nat.{ℕ, _+_, _-_, _≤_}
+use lib.Dec.{eqb}
 use lib.ListN.{length, set}
 use Rattle.model.specs.declared.Key.{Key}
 use Rattle.model.specs.Ordered.{isLess, Ascending}
@@ -20,6 +22,28 @@ pub record Linked (b : List ℕ) : Type 0 where
   pub chains : ChainRules b (usedOf b) (freeOf b)
   pub ascends : Ascending keyOf compareKeys (tuplesOf b)
   pub first : firstKey (tuplesOf b) ≡ some (spaceKey 0)
+
+-- record i of the used chain, with those before it and those after it
+pub record Reached (b : List ℕ) (i : ℕ) : Type 0 where
+  pub before : List ℕ
+  pub after : List ℕ
+  pub split : usedOf b ≡ before ++ (i ∷ after)
+
+-- where a search may start: a used record, or 0 for none
+abbrev pub Hint : List ℕ → ℕ → Type 0
+Hint b i = i ≢ 0 → Reached b i
+
+-- what was used is used still
+abbrev pub KeepsHints : List ℕ → List ℕ → Type 0
+KeepsHints b b′ = (i : ℕ) → Hint b i → Hint b′ i
+
+-- a hint is of use where its key is below the key that is sought
+unfoldable pub startOf : (ℕ → Key) → ℕ → Key → ℕ
+startOf key hint k = cond (eqb hint 0) 0 (cond (isLess (compareKeys (key hint) k)) hint 0)
+
+-- the record after a used record; the first one after 0
+unfoldable pub afterIn : List ℕ → ℕ → ℕ
+afterIn b before = cond (eqb before 0) (word b 1) (next b before)
 
 abbrev pub place : ℕ → ℕ → Place
 place before at = record { before = before; at = at }

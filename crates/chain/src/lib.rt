@@ -5,7 +5,7 @@ ghost use mathlib.Core.Path.{_≡_};
 ghost use Prim.Native.Nat.{_+_, _≤_, _<_};
 ghost use Rattle.model.specs.Tuples.{present, valueAt};
 ghost use Rattle.model.specs.Buffer.{usedOf, tuplesOf, keyAt};
-ghost use Rattle.chain.specs.Links.{Linked, placeIn, findIn, Linking, insertAfter, Unlinking, removeAfter};
+ghost use Rattle.chain.specs.Links.{Linked, Hint, startOf, afterIn, placeIn, findIn, Linking, insertAfter, Unlinking, removeAfter};
 
 // A place in the used chain: a record and the one after it; 0 for none.
 pub struct Place {
@@ -13,13 +13,39 @@ pub struct Place {
     pub at: usize,
 }
 
+// The record that a search for a key starts behind: the hint, where its key is below; else 0.
+fn start_of(b: &[u32], hint: usize, k: Key) -> usize
+    requires { ⌜ Linked (now b) × Hint (now b) hint ⌝ }
+    ensures { λ r. ⌜ r ≡ startOf (keyAt (now (b .entry))) hint k ⌝ }
+{
+    if hint == 0 {
+        return 0;
+    }
+    if records::key_below(records::key_of(b, hint), k) {
+        return hint;
+    }
+    0
+}
+
+// The record after a used record; the first one after 0.
+pub fn after(b: &[u32], before: usize) -> usize
+    requires { ⌜ Linked (now b) × Hint (now b) before ⌝ }
+    ensures { λ r. ⌜ r ≡ afterIn (now (b .entry)) before ⌝ }
+{
+    if before == 0 {
+        return records::head_word(b, 1);
+    }
+    records::next_of(b, before)
+}
+
 // The place of a key: the last record whose key is below it, and the record after that.
-pub fn seek(b: &[u32], k: Key) -> Place
-    requires { ⌜ Linked (now b) ⌝ }
+// The hint is a used record, or 0: where its key is below, the walk starts behind it and not at the first record.
+pub fn seek(b: &[u32], hint: usize, k: Key) -> Place
+    requires { ⌜ Linked (now b) × Hint (now b) hint ⌝ }
     ensures { λ r. ⌜ r ≡ placeIn (keyAt (now (b .entry))) k 0 (usedOf (now (b .entry))) ⌝ }
 {
-    let mut before = 0;
-    let mut at = records::head_word(b, 1);
+    let mut before = start_of(b, hint, k);
+    let mut at = after(b, before);
     while at != 0 {
         if !records::key_below(records::key_of(b, at), k) {
             break;
@@ -65,11 +91,11 @@ pub fn remove_after(b: &mut [u32], before: usize)
 }
 
 // The record that holds a key; 0 for none.
-pub fn find(b: &[u32], k: Key) -> usize
-    requires { ⌜ Linked (now b) ⌝ }
+pub fn find(b: &[u32], hint: usize, k: Key) -> usize
+    requires { ⌜ Linked (now b) × Hint (now b) hint ⌝ }
     ensures { λ r. ⌜ r ≡ findIn (keyAt (now (b .entry))) k (usedOf (now (b .entry))) ⌝ }
 {
-    let place = seek(b, k);
+    let place = seek(b, hint, k);
     let at = place.at;
     if at == 0 {
         return 0;
@@ -81,19 +107,19 @@ pub fn find(b: &[u32], k: Key) -> usize
 }
 
 // Is there a tuple with this key.
-pub fn has(b: &[u32], k: Key) -> bool
-    requires { ⌜ Linked (now b) ⌝ }
+pub fn has(b: &[u32], hint: usize, k: Key) -> bool
+    requires { ⌜ Linked (now b) × Hint (now b) hint ⌝ }
     ensures { λ r. ⌜ r ≡ present k (tuplesOf (now (b .entry))) ⌝ }
 {
-    find(b, k) != 0
+    find(b, hint, k) != 0
 }
 
 // The value at a key; NIL where the key is missing.
-pub fn value_at(b: &[u32], k: Key) -> u32
-    requires { ⌜ Linked (now b) ⌝ }
+pub fn value_at(b: &[u32], hint: usize, k: Key) -> u32
+    requires { ⌜ Linked (now b) × Hint (now b) hint ⌝ }
     ensures { λ r. ⌜ r ≡ valueAt k (tuplesOf (now (b .entry))) ⌝ }
 {
-    let at = find(b, k);
+    let at = find(b, hint, k);
     if at == 0 {
         return 0;
     }

@@ -20,11 +20,11 @@ use Rattle.model.proofs.Order.{keys, opposite}
 use Rattle.model.proofs.Ordered.{put-below, put-before, put-held, holds-append}
 use Rattle.model.proofs.Tuples.{present-add, add-ascending}
 use Rattle.model.proofs.Rules.{never-below-universe, universe-first, first-universe}
-use Rattle.model.proofs.Store.{chains-count, capacity-most}
+use Rattle.model.proofs.Store.{chains-count, capacity-most, used-of}
 use Rattle.records.specs.Words.{Inside}
 use Rattle.records.proofs.Words.{inside}
 use Rattle.chain.specs.declared.Place.{Place}
-use Rattle.chain.specs.Links.{Linked, placeIn, Edited, Linking, insertAfter}
+use Rattle.chain.specs.Links.{Linked, placeIn, Edited, Linking, insertAfter, KeepsHints}
 use Rattle.chain.proofs.Found.{lastOf, NotBelow, AtPlace, at-place, above-all, find-at, present-found, place-inside}
 use Rattle.chain.proofs.Paths.{map-append}
 use Rattle.chain.proofs.Relinked.{Inserted, insert-reads, Parts, inserting, apart, inserted-rules, inserted-tuples}
@@ -73,6 +73,19 @@ snoc (i ∷ j ∷ js) h last =
   where
     cons≢ : {x : ℕ} {xs : List ℕ} → x ∷ xs ≡ [] → ⊥
     cons≢ {x} {xs} e = let z : _≡_ {A = ℕ} 0 1 = cc in omega arith
+
+-- a record put into a list leaves the others in it
+still-there : (xs ys us vs : List ℕ) (before taken i : ℕ) → xs ++ (before ∷ ys) ≡ us ++ (i ∷ vs)
+    → (us′ : List ℕ) × (vs′ : List ℕ) × (xs ++ (before ∷ taken ∷ ys) ≡ us′ ++ (i ∷ vs′))
+still-there [] ys [] vs before taken i e = let h : before ≡ i = cc in ([], taken ∷ ys, ap (λ (x : ℕ). x ∷ taken ∷ ys) h)
+still-there [] ys (u ∷ us) vs before taken i e =
+    let t : ys ≡ us ++ (i ∷ vs) = cc in (before ∷ taken ∷ us, vs, ap (λ (zs : List ℕ). before ∷ taken ∷ zs) t)
+still-there (x ∷ xs) ys [] vs before taken i e =
+    let h : x ≡ i = cc in ([], xs ++ (before ∷ taken ∷ ys), ap (λ (y : ℕ). y ∷ (xs ++ (before ∷ taken ∷ ys))) h)
+still-there (x ∷ xs) ys (u ∷ us) vs before taken i e =
+    let t : xs ++ (before ∷ ys) ≡ us ++ (i ∷ vs) = cc in
+    let r = still-there xs ys us vs before taken i t in
+    (x ∷ r .0, r .1, ap (λ (zs : List ℕ). x ∷ zs) (r .2))
 
 module _ (b : List ℕ) (k : Key) (A : Adding b k) (absent : present k (tuplesOf b) ≡ false) where
   L : Linked b
@@ -203,8 +216,21 @@ module _ (b : List ℕ) (k : Key) (A : Adding b k) (absent : present k (tuplesOf
         ∙ or-right (sameKey (spaceKey 0) k) (present (spaceKey 0) (tuplesOf b)) (first-universe (tuplesOf b) (L .first))))
         (reads .size) (reads .past)
 
-    pub added : (b′ : List ℕ) → b′ ≡ insertAfter b (p .before) k NIL → Edited b b′ (add k (tuplesOf b))
-    added b′ same = subst (λ (x : List ℕ). Edited b x (add k (tuplesOf b))) (sym same) linked-in
+    hints-kept : KeepsHints b (insertAfter b (p .before) k NIL)
+    hints-kept i H h =
+        let R = H h in
+        let r = still-there (cut .0) (P .post) (R .before) (R .after) (p .before) (word b 2) i (sym (cut .1) ∙ R .split) in
+        record {
+          before = r .0;
+          after = r .1;
+          split =
+              used-of (insertAfter b (p .before) k NIL) (cut .0 ++ p .before ∷ word b 2 ∷ P .post) (free-one .0)
+              (inserted-rules b (insertAfter b (p .before) k NIL) (p .before) (word b 2) new (cut .0) (P .post) (free-one .0) rules reads)
+              ∙ r .2;
+        }
+
+    pub added : (b′ : List ℕ) → b′ ≡ insertAfter b (p .before) k NIL → Edited b b′ (add k (tuplesOf b)) × KeepsHints b b′
+    added b′ same = subst (λ (x : List ℕ). Edited b x (add k (tuplesOf b)) × KeepsHints b x) (sym same) (linked-in, hints-kept)
 
 -- ---- the key is there
 

@@ -21,7 +21,8 @@ use Rattle.model.proofs.Rules.{universe-first, first-universe}
 use Rattle.model.proofs.Chains.{Within, chain-within, chain-agree}
 use Rattle.records.specs.Words.{Inside, putValue}
 use Rattle.records.proofs.Words.{capacity-length, length-putValue, word-putValue, next-putValue, key-putValue, value-putValue, value-putValue-other, past-putValue}
-use Rattle.chain.specs.Links.{Linked, findIn, Edited}
+use Rattle.chain.specs.Links.{Linked, KeepsHints, findIn, Edited}
+use Rattle.model.proofs.Store.{used-of}
 use Rattle.chain.proofs.Found.{present-found, found-inside}
 use Rattle.chain.proofs.Paths.{counted-within}
 use Rattle.edit.proofs.Built.{edited, unedited}
@@ -130,10 +131,22 @@ module _ (b : List ℕ) (k : Key) (v : Value) (at : ℕ) (I : Inside b at) where
       (universe-first (assign k v ts) h (present-assign (spaceKey 0) k v ts ∙ first-universe ts (L .first)))
       (length-putValue b at v I) (past-putValue b at v I)
 
+-- nor do hints
+hints-kept : (b : List ℕ) (k : Key) (v : Value) (at : ℕ) (I : Inside b at) → Linked b → KeepsHints b (putValue b at v)
+unfolding b′
+hints-kept b k v at I L i H h =
+    let R = H h in
+    record {
+      before = R .before;
+      after = R .after;
+      split = used-of (putValue b at v) (usedOf b) (freeOf b) (value-rules b k v at I (usedOf b) (freeOf b) (L .chains)) ∙ R .split;
+    }
+
 pub value-set : (b : List ℕ) (k : Key) (v : Value) (at : ℕ) → Linked b → at ≡ findIn (keyAt b) k (usedOf b) → at ≢ 0
-    → (b′ : List ℕ) → b′ ≡ putValue b at v → Edited b b′ (assign k v (tuplesOf b))
+    → (b′ : List ℕ) → b′ ≡ putValue b at v → Edited b b′ (assign k v (tuplesOf b)) × KeepsHints b b′
 value-set b k v at L e d b′ same =
-    subst (λ (x : List ℕ). Edited b x (assign k v (tuplesOf b))) (sym same) (value-put b k v at (found-inside b k at L e d) L e d)
+    let I = found-inside b k at L e d in
+    subst (λ (x : List ℕ). Edited b x (assign k v (tuplesOf b)) × KeepsHints b x) (sym same) (value-put b k v at I L e d, hints-kept b k v at I L)
 
 -- nothing is set where the key is missing
 pub value-unset : (b : List ℕ) (k : Key) (v : Value) (at : ℕ) → Linked b → at ≡ findIn (keyAt b) k (usedOf b) → at ≡ 0

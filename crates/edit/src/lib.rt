@@ -1,4 +1,5 @@
 // Tuples added, set and removed.
+// A hint is a used record, or 0: the walk for a key starts behind it where its key is below.
 // Each function is pub for the crates above, which have proved what it requires.
 use model::Key;
 use select::Selection;
@@ -7,7 +8,7 @@ ghost use mathlib.Core.Bool.{false};
 ghost use Rattle.model.specs.Keys.{spaceKey};
 ghost use Rattle.model.specs.Tuples.{present, add, assign, remove};
 ghost use Rattle.model.specs.Buffer.{next, keyAt, usedOf, tuplesOf};
-ghost use Rattle.chain.specs.Links.{Linked, placeIn, Edited, Unlinking};
+ghost use Rattle.chain.specs.Links.{Linked, Hint, KeepsHints, placeIn, Edited, Unlinking};
 ghost use Rattle.select.specs.Selections.{takenBy};
 ghost use Rattle.edit.specs.Edits.{Adding, Turned};
 
@@ -23,11 +24,12 @@ fn held_at(b: &[u32], k: Key, at: usize) -> bool
 }
 
 // Adds a tuple, NIL, where its key is missing; a present one keeps its value.
-pub fn add_missing(b: &mut [u32], k: Key)
-    requires { ⌜ Adding (now b) k ⌝ }
+pub fn add_missing(b: &mut [u32], hint: usize, k: Key)
+    requires { ⌜ Adding (now b) k × Hint (now b) hint ⌝ }
     ensures { λ _. ⌜ Edited (now (b .entry)) (now (b .exit)) (add k (tuplesOf (now (b .entry)))) ⌝ }
+    ensures hints { λ _. ⌜ KeepsHints (now (b .entry)) (now (b .exit)) ⌝ }
 {
-    let place = chain::seek(b, k);
+    let place = chain::seek(b, hint, k);
     if held_at(b, k, place.at) {
         return;
     }
@@ -35,11 +37,12 @@ pub fn add_missing(b: &mut [u32], k: Key)
 }
 
 // Sets the value of a key; a key that is missing stays so.
-pub fn assign_value(b: &mut [u32], k: Key, v: u32)
-    requires { ⌜ Linked (now b) ⌝ }
+pub fn assign_value(b: &mut [u32], hint: usize, k: Key, v: u32)
+    requires { ⌜ Linked (now b) × Hint (now b) hint ⌝ }
     ensures { λ _. ⌜ Edited (now (b .entry)) (now (b .exit)) (assign k v (tuplesOf (now (b .entry)))) ⌝ }
+    ensures hints { λ _. ⌜ KeepsHints (now (b .entry)) (now (b .exit)) ⌝ }
 {
-    let at = chain::find(b, k);
+    let at = chain::find(b, hint, k);
     if at == 0 {
         return;
     }
@@ -59,8 +62,8 @@ fn keep_or_remove(b: &mut [u32], sel: Selection, before: usize, at: usize) -> us
 }
 
 // Removes in one walk every tuple that the selection takes; it may not take UNIVERSE.
-pub fn sweep(b: &mut [u32], sel: Selection)
-    requires { ⌜ Linked (now b) × (takenBy sel (spaceKey 0) ≡ false) ⌝ }
+pub fn sweep(b: &mut [u32], hint: usize, sel: Selection)
+    requires { ⌜ Linked (now b) × Hint (now b) hint × (takenBy sel (spaceKey 0) ≡ false) ⌝ }
     ensures { λ _. ⌜ Edited (now (b .entry)) (now (b .exit)) (remove (takenBy sel) (tuplesOf (now (b .entry)))) ⌝ }
 {
     let mut before = records::head_word(b, 1);

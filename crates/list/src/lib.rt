@@ -10,7 +10,7 @@ ghost use Rattle.model.specs.Pairs.{pair, outPair, inPair};
 ghost use lib.ListN.{length};
 ghost use Prim.Native.Nat.{_≤_};
 ghost use Rattle.model.specs.Buffer.{tuplesOf};
-ghost use Rattle.chain.specs.Links.{Linked};
+ghost use Rattle.chain.specs.Links.{Linked, Hint};
 ghost use Rattle.list.specs.Queries.{chosen, firstAt, secondAt, queried, code, headCode, codes, nearer, leastFrom, Readable, pairsInOrder, inOrder, written};
 
 // What is listed of a pair.
@@ -244,9 +244,10 @@ fn count_by_least(b: &[u32], q: Query) -> usize
 }
 
 // The entries written to the first places, each found as the least above the last.
-fn write_by_least(b: &[u32], q: Query, list: &mut [u32])
+fn write_by_least(b: &[u32], q: Query, list: &mut [u32]) -> usize
     requires { ⌜ Readable (now b) × (length (queried q (tuplesOf (now b))) ≤ length (now list)) ⌝ }
-    ensures { λ _. ⌜ now (list .exit) ≡ written (queried q (tuplesOf (now (b .entry)))) (now (list .entry)) ⌝ }
+    ensures { λ r. ⌜ r ≡ length (queried q (tuplesOf (now (b .entry)))) ⌝ }
+    ensures list { λ _. ⌜ now (list .exit) ≡ written (queried q (tuplesOf (now (b .entry)))) (now (list .entry)) ⌝ }
 {
     let mut done = 0;
     let mut seen: u64 = 0;
@@ -257,6 +258,7 @@ fn write_by_least(b: &[u32], q: Query, list: &mut [u32])
         seen = e;
         e = least_above(b, q, seen);
     }
+    done
 }
 
 // The number of entries that come in order, in one walk.
@@ -280,9 +282,10 @@ fn count_in_order(b: &[u32], q: Query) -> usize
 }
 
 // The entries that come in order, written to the first places in one walk.
-fn write_in_order(b: &[u32], q: Query, list: &mut [u32])
+fn write_in_order(b: &[u32], q: Query, list: &mut [u32]) -> usize
     requires { ⌜ Readable (now b) × (inOrder q ≡ true) × (length (queried q (tuplesOf (now b))) ≤ length (now list)) ⌝ }
-    ensures { λ _. ⌜ now (list .exit) ≡ written (queried q (tuplesOf (now (b .entry)))) (now (list .entry)) ⌝ }
+    ensures { λ r. ⌜ r ≡ length (queried q (tuplesOf (now (b .entry)))) ⌝ }
+    ensures list { λ _. ⌜ now (list .exit) ≡ written (queried q (tuplesOf (now (b .entry)))) (now (list .entry)) ⌝ }
 {
     let mut done = 0;
     let mut seen: u64 = 0;
@@ -297,6 +300,7 @@ fn write_in_order(b: &[u32], q: Query, list: &mut [u32])
         done += 1;
         seen = e;
     }
+    done
 }
 
 // Do the pairs come in the order of the list as the chain is walked.
@@ -332,9 +336,9 @@ fn in_order(q: Query) -> bool
     }
 }
 
-// The number of entries.
-pub fn count_entries(b: &[u32], q: Query) -> usize
-    requires { ⌜ Readable (now b) ⌝ }
+// The number of entries. The hint is a used record, or 0: a walk may start behind it.
+pub fn count_entries(b: &[u32], hint: usize, q: Query) -> usize
+    requires { ⌜ Readable (now b) × Hint (now b) hint ⌝ }
     ensures { λ r. ⌜ r ≡ length (queried q (tuplesOf (now (b .entry)))) ⌝ }
 {
     if in_order(q) {
@@ -343,14 +347,15 @@ pub fn count_entries(b: &[u32], q: Query) -> usize
     count_by_least(b, q)
 }
 
-// The entries written to the first places of a list that has room for them; the rest stays.
-pub fn write_entries(b: &[u32], q: Query, list: &mut [u32])
-    requires { ⌜ Readable (now b) × (length (queried q (tuplesOf (now b))) ≤ length (now list)) ⌝ }
-    ensures { λ _. ⌜ now (list .exit) ≡ written (queried q (tuplesOf (now (b .entry)))) (now (list .entry)) ⌝ }
+// The entries written to the first places of a list that has room for them, and their number; the rest stays.
+// The hint is a used record, or 0: a walk may start behind it.
+pub fn write_entries(b: &[u32], hint: usize, q: Query, list: &mut [u32]) -> usize
+    requires { ⌜ Readable (now b) × Hint (now b) hint × (length (queried q (tuplesOf (now b))) ≤ length (now list)) ⌝ }
+    ensures { λ r. ⌜ r ≡ length (queried q (tuplesOf (now (b .entry)))) ⌝ }
+    ensures list { λ _. ⌜ now (list .exit) ≡ written (queried q (tuplesOf (now (b .entry)))) (now (list .entry)) ⌝ }
 {
     if in_order(q) {
-        write_in_order(b, q, list);
-        return;
+        return write_in_order(b, q, list);
     }
-    write_by_least(b, q, list);
+    write_by_least(b, q, list)
 }

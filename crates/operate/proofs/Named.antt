@@ -13,9 +13,10 @@ use Rattle.model.specs.Tuples.{Tuples, present, anyPresent, valueAt, assign, as
 use Rattle.model.specs.Buffer.{tuplesOf}
 use Rattle.model.specs.Steps.{nOf, gOf, mOf, vOf, sOf, objectKeys, firstValue}
 use Rattle.model.proofs.Bools.{not-yes, not-no}
-use Rattle.chain.specs.Links.{Edited}
+use Rattle.chain.specs.Links.{Hint, KeepsHints, Edited}
 use Rattle.operate.specs.declared.Fields.{Fields}
-use Rattle.operate.specs.Operate.{fieldsOf, pairKey, mainKey, bothWays, isAdjacent}
+use Rattle.operate.specs.declared.Near.{Near}
+use Rattle.operate.specs.Operate.{NearIn, pairHint, mainHint, fieldsOf, pairKey, mainKey, bothWays, isAdjacent}
 
 -- the key of the edge from m to n
 abbrev secondKey : ℕ → Fields → Key
@@ -135,3 +136,23 @@ bind-two o c f k j a {b} {b′} {b″} F K A e same E D =
     ∙ ap₂ (λ (i : Key) (v : Value). assign i v one) (second-key c f j F same) (ap (λ (x : Fields). x .v) F)
     ∙ sym (assigned o (sOf c) c (vOf c) ts ∙ ap (λ (x : Bool). cond x two one) (sym A ∙ e)))
     (edited-twice (assign j (f .v)) E D)
+
+-- ---- hints
+
+pub pair-hint : (b : List ℕ) (d : Direction) (near : Near) → NearIn b near → Hint b (pairHint d near)
+unfolding pairHint
+pair-hint b Outpointing near N = N .node
+pair-hint b Inpointing near N = N .second
+pair-hint b Adjacent near N = N .node
+
+pub main-hint : (b : List ℕ) (o : Object) (near : Near) (h : ℕ) → NearIn b near → h ≡ mainHint o near → Hint b h
+unfolding mainHint
+main-hint b o near h N e = subst (Hint b) (sym e) (go o)
+  where
+    go : (o : Object) → Hint b (mainHint o near)
+    go (Object.P d) = pair-hint b d near N
+    go Object.UN = N .node
+    go Object.US = N .space
+
+pub near-kept : {b b′ : List ℕ} {near : Near} → KeepsHints b b′ → NearIn b near → NearIn b′ near
+near-kept K N = record { space = K _ (N .space); node = K _ (N .node); second = K _ (N .second) }

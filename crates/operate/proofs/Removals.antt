@@ -17,7 +17,8 @@ use Rattle.model.specs.Steps.{nOf, gOf, mOf, sOf, edgesTaken, nodeTaken, spaceT
 use Rattle.chain.specs.Links.{Edited}
 use Rattle.select.specs.Selections.{passes}
 use Rattle.operate.specs.declared.Fields.{Fields}
-use Rattle.operate.specs.Operate.{fieldsOf}
+use Rattle.select.specs.declared.EdgesOf.{EdgesOf}
+use Rattle.operate.specs.Operate.{fieldsOf, edgesOf}
 
 -- a name that is not 0 is asked for
 asked-name : (want name : ℕ) → want ≢ 0 → (eqb want 0 || eqb name want) ≡ eqb name want
@@ -44,33 +45,41 @@ same-test : (d : Direction) (s n : ℕ) (p q : Pair → Bool) (ts : Tuples) → 
     → remove (edgesTaken d s n p) ts ≡ remove (edgesTaken d s n q) ts
 same-test d s n p q ts h = λ i. remove (edgesTaken d s n (λ (x : Pair). h x i)) ts
 
+-- what is left when these edges are removed
+abbrev pub removedBy : EdgesOf → Tuples → Tuples
+removedBy e ts = remove (edgesTaken (e .d) (e .s) (e .n) (passes (e .g) (e .m))) ts
+
 -- the fields that a function learnt are the call's
-pub pair-removed : (d : Direction) (c : Call) (f : Fields) (ts : Tuples) → f ≡ fieldsOf c → gOf c ≢ 0 → mOf c ≢ 0
-    → remove (edgesTaken d (f .s) (f .n) (passes (f .g) (f .m))) ts ≡ destroyed (Removal.P d) c ts
+pub pair-removed : (d : Direction) (c : Call) (f : Fields) (e : EdgesOf) (ts : Tuples) → f ≡ fieldsOf c → e ≡ edgesOf d f (f .g) (f .m) → gOf c ≢ 0 → mOf c ≢ 0
+    → removedBy e ts ≡ destroyed (Removal.P d) c ts
 unfolding destroyed
-pair-removed d c f ts F g m =
-    ap (λ (x : Fields). remove (edgesTaken d (x .s) (x .n) (passes (x .g) (x .m))) ts) F
+pair-removed d c f e ts F E g m =
+    ap (λ (x : EdgesOf). removedBy x ts) E
+    ∙ ap (λ (x : Fields). remove (edgesTaken d (x .s) (x .n) (passes (x .g) (x .m))) ts) F
     ∙ same-test d (sOf c) (nOf c) (passes (gOf c) (mOf c)) _ ts (passes-both (gOf c) (mOf c) g m)
 
-pub edges-removed : (d : Direction) (c : Call) (f : Fields) (ts : Tuples) → f ≡ fieldsOf c
-    → remove (edgesTaken d (f .s) (f .n) (passes 0 0)) ts ≡ destroyed (Removal.G d) c ts
+pub edges-removed : (d : Direction) (c : Call) (f : Fields) (e : EdgesOf) (ts : Tuples) → f ≡ fieldsOf c → e ≡ edgesOf d f 0 0
+    → removedBy e ts ≡ destroyed (Removal.G d) c ts
 unfolding destroyed
-edges-removed d c f ts F =
-    ap (λ (x : Fields). remove (edgesTaken d (x .s) (x .n) (passes 0 0)) ts) F
+edges-removed d c f e ts F E =
+    ap (λ (x : EdgesOf). removedBy x ts) E
+    ∙ ap (λ (x : Fields). remove (edgesTaken d (x .s) (x .n) (passes 0 0)) ts) F
     ∙ same-test d (sOf c) (nOf c) (passes 0 0) _ ts passes-any
 
-pub named-removed : (d : Direction) (c : Call) (f : Fields) (ts : Tuples) → f ≡ fieldsOf c → gOf c ≢ 0
-    → remove (edgesTaken d (f .s) (f .n) (passes (f .g) 0)) ts ≡ destroyed (Removal.GG d) c ts
+pub named-removed : (d : Direction) (c : Call) (f : Fields) (e : EdgesOf) (ts : Tuples) → f ≡ fieldsOf c → e ≡ edgesOf d f (f .g) 0 → gOf c ≢ 0
+    → removedBy e ts ≡ destroyed (Removal.GG d) c ts
 unfolding destroyed
-named-removed d c f ts F g =
-    ap (λ (x : Fields). remove (edgesTaken d (x .s) (x .n) (passes (x .g) 0)) ts) F
+named-removed d c f e ts F E g =
+    ap (λ (x : EdgesOf). removedBy x ts) E
+    ∙ ap (λ (x : Fields). remove (edgesTaken d (x .s) (x .n) (passes (x .g) 0)) ts) F
     ∙ same-test d (sOf c) (nOf c) (passes (gOf c) 0) _ ts (passes-edge (gOf c) g)
 
-pub between-removed : (d : Direction) (c : Call) (f : Fields) (ts : Tuples) → f ≡ fieldsOf c → mOf c ≢ 0
-    → remove (edgesTaken d (f .s) (f .n) (passes 0 (f .m))) ts ≡ destroyed (Removal.GN d) c ts
+pub between-removed : (d : Direction) (c : Call) (f : Fields) (e : EdgesOf) (ts : Tuples) → f ≡ fieldsOf c → e ≡ edgesOf d f 0 (f .m) → mOf c ≢ 0
+    → removedBy e ts ≡ destroyed (Removal.GN d) c ts
 unfolding destroyed
-between-removed d c f ts F m =
-    ap (λ (x : Fields). remove (edgesTaken d (x .s) (x .n) (passes 0 (x .m))) ts) F
+between-removed d c f e ts F E m =
+    ap (λ (x : EdgesOf). removedBy x ts) E
+    ∙ ap (λ (x : Fields). remove (edgesTaken d (x .s) (x .n) (passes 0 (x .m))) ts) F
     ∙ same-test d (sOf c) (nOf c) (passes 0 (mOf c)) _ ts (passes-node (mOf c) m)
 
 pub node-removed : (c : Call) (f : Fields) (ts : Tuples) → f ≡ fieldsOf c → remove (nodeTaken (f .s) (f .n)) ts ≡ destroyed Removal.UN c ts

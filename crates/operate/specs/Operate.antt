@@ -13,10 +13,34 @@ use Rattle.model.specs.Tuples.{missing}
 use Rattle.model.specs.Buffer.{capacityOf, tuplesOf}
 use Rattle.model.specs.Steps.{nOf, gOf, mOf, vOf, sOf}
 use Rattle.operate.specs.declared.Fields.{Fields}
+use Rattle.operate.specs.declared.Near.{Near}
+use Rattle.select.specs.declared.EdgesOf.{EdgesOf}
+use Rattle.chain.specs.Links.{Hint}
 
 -- the fields of a call, UNIVERSE written 0
 abbrev pub fieldsOf : Call → Fields
 fieldsOf c = record { n = nOf c; g = gOf c; m = mOf c; v = vOf c; s = sOf c }
+
+-- ---- hints
+
+pub record NearIn (b : List ℕ) (near : Near) : Type 0 where
+  pub space : Hint b (near .space)
+  pub node : Hint b (near .node)
+  pub second : Hint b (near .second)
+
+-- the hint for the first of a pair's keys
+unfoldable pub pairHint : Direction → Near → ℕ
+pairHint Outpointing near = near .node
+pairHint Inpointing near = near .second
+pairHint Adjacent near = near .node
+
+-- the hint for the first of an object's keys
+unfoldable pub mainHint : Object → Near → ℕ
+mainHint (Object.P d) near = pairHint d near
+mainHint Object.UN near = near .node
+mainHint Object.US near = near .space
+
+-- ---- keys
 
 -- the first of a pair's keys in space s (`pairKeys`)
 unfoldable pub pairKey : Direction → ℕ → Fields → Key
@@ -50,6 +74,10 @@ unfoldable pub isSpace : Object → Bool
 isSpace (Object.P d) = false
 isSpace Object.UN = false
 isSpace Object.US = true
+
+-- the edges that a D operator means: those of the pairs of node n with edge g and node m (0: any)
+abbrev pub edgesOf : Direction → Fields → ℕ → ℕ → EdgesOf
+edgesOf d f g m = record { d = d; s = f .s; n = f .n; g = g; m = m }
 
 -- the records suffice for the tuples with these keys added: not "tuples present + tuples to add > C"
 abbrev pub Room : List ℕ → List Key → Type 0

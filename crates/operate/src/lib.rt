@@ -21,10 +21,10 @@ ghost use Prim.Native.Nat.{_≤_};
 ghost use Rattle.model.specs.Tuples.{anyPresent, addAll, missing, assignAll, remove};
 ghost use Rattle.model.specs.Buffer.{tuplesOf};
 ghost use Rattle.model.specs.Steps.{spaceNumber, nOf, gOf, mOf, vOf, sOf, objectKeys, created, firstValue, edgesTaken, nodeTaken, spaceTaken, destroyed};
-ghost use Rattle.chain.specs.Links.{Linked, Edited};
+ghost use Rattle.chain.specs.Links.{Linked, Hint, KeepsHints, Edited};
 ghost use Rattle.select.specs.Selections.{passes};
 ghost use Rattle.model.specs.declared.Removal.{Removal};
-ghost use Rattle.operate.specs.Operate.{fieldsOf, pairKey, mainKey, bothWays, isAdjacent, keysIn, isSpace, Room};
+ghost use Rattle.operate.specs.Operate.{NearIn, pairHint, mainHint, edgesOf, fieldsOf, pairKey, mainKey, bothWays, isAdjacent, keysIn, isSpace, Room};
 
 // The fields of a call as words; UNIVERSE is 0.
 pub struct Fields {
@@ -33,6 +33,14 @@ pub struct Fields {
     pub m: u32,
     pub v: u32,
     pub s: u32,
+}
+
+// Where to look in one space for what a call names: used records before the space, node n and node m, or 0.
+// They are hints: searches start behind them where that is right, and answers do not depend on them.
+pub struct Near {
+    pub space: usize,
+    pub node: usize,
+    pub second: usize,
 }
 
 // A name as a word.
@@ -125,6 +133,28 @@ fn main_key(o: Object, s: u32, f: Fields) -> Key
     }
 }
 
+// The hint for the first key of a pair.
+fn pair_hint(d: Direction, near: Near) -> usize
+    ensures { λ r. ⌜ r ≡ pairHint d near ⌝ }
+{
+    match d {
+        Direction::Outpointing => near.node,
+        Direction::Inpointing => near.second,
+        Direction::Adjacent => near.node,
+    }
+}
+
+// The hint for the first key of an object.
+fn main_hint(o: Object, near: Near) -> usize
+    ensures { λ r. ⌜ r ≡ mainHint o near ⌝ }
+{
+    match o {
+        Object::P(d) => pair_hint(d, near),
+        Object::UN => near.node,
+        Object::US => near.space,
+    }
+}
+
 // Are both edges of a pair meant.
 fn both_ways(d: Direction) -> bool
     ensures { λ r. ⌜ r ≡ bothWays d ⌝ }
@@ -148,66 +178,66 @@ fn is_adjacent(o: Object) -> bool
 }
 
 // V: the value of what the call names.
-pub fn value_of(b: &[u32], o: Object, c: Call) -> u32
-    requires { ⌜ Linked (now b) ⌝ }
+pub fn value_of(b: &[u32], near: Near, o: Object, c: Call) -> u32
+    requires { ⌜ Linked (now b) × NearIn (now b) near ⌝ }
     ensures { λ r. ⌜ r ≡ firstValue (objectKeys o (sOf c) c) (tuplesOf (now (b .entry))) ⌝ }
 {
     let f = fields_of(c);
-    chain::value_at(b, main_key(o, f.s, f))
+    chain::value_at(b, main_hint(o, near), main_key(o, f.s, f))
 }
 
 // X: is there what the call names.
-pub fn exists(b: &[u32], o: Object, c: Call) -> bool
-    requires { ⌜ Linked (now b) ⌝ }
+pub fn exists(b: &[u32], near: Near, o: Object, c: Call) -> bool
+    requires { ⌜ Linked (now b) × NearIn (now b) near ⌝ }
     ensures { λ r. ⌜ r ≡ anyPresent (objectKeys o (sOf c) c) (tuplesOf (now (b .entry))) ⌝ }
 {
     let f = fields_of(c);
-    if chain::has(b, main_key(o, f.s, f)) {
+    if chain::has(b, main_hint(o, near), main_key(o, f.s, f)) {
         return true;
     }
     if is_adjacent(o) {
-        return chain::has(b, reversed_key(f.s, f));
+        return chain::has(b, near.second, reversed_key(f.s, f));
     }
     false
 }
 
 // B: sets the value of what the call names; of two edges, whichever are present.
-pub fn bind(b: &mut [u32], o: Object, c: Call)
-    requires { ⌜ Linked (now b) ⌝ }
+pub fn bind(b: &mut [u32], near: Near, o: Object, c: Call)
+    requires { ⌜ Linked (now b) × NearIn (now b) near ⌝ }
     ensures { λ _. ⌜ Edited (now (b .entry)) (now (b .exit)) (assignAll (objectKeys o (sOf c) c) (vOf c) (tuplesOf (now (b .entry)))) ⌝ }
 {
     let f = fields_of(c);
-    edit::assign_value(b, main_key(o, f.s, f), f.v);
+    edit::assign_value(b, main_hint(o, near), main_key(o, f.s, f), f.v);
     if !is_adjacent(o) {
         return;
     }
-    edit::assign_value(b, reversed_key(f.s, f), f.v);
+    edit::assign_value(b, near.second, reversed_key(f.s, f), f.v);
 }
 
 // How many tuples a key would add.
-fn count_absent(b: &[u32], k: Key) -> usize
-    requires { ⌜ Linked (now b) ⌝ }
+fn count_absent(b: &[u32], hint: usize, k: Key) -> usize
+    requires { ⌜ Linked (now b) × Hint (now b) hint ⌝ }
     ensures { λ r. ⌜ r ≡ length (missing (k ∷ []) (tuplesOf (now (b .entry)))) ⌝ }
 {
-    if chain::has(b, k) {
+    if chain::has(b, hint, k) {
         return 0;
     }
     1
 }
 
 // How many tuples an object would add in space s; a loop has one edge.
-fn missing_in(b: &[u32], o: Object, s: u32, f: Fields) -> usize
-    requires { ⌜ Linked (now b) ⌝ }
+fn missing_in(b: &[u32], near: Near, o: Object, s: u32, f: Fields) -> usize
+    requires { ⌜ Linked (now b) × NearIn (now b) near ⌝ }
     ensures { λ r. ⌜ r ≡ length (missing (keysIn o s f) (tuplesOf (now (b .entry)))) ⌝ }
 {
-    let first = count_absent(b, main_key(o, s, f));
+    let first = count_absent(b, main_hint(o, near), main_key(o, s, f));
     if !is_adjacent(o) {
         return first;
     }
     if f.n == f.m {
         return first;
     }
-    first + count_absent(b, reversed_key(s, f))
+    first + count_absent(b, near.second, reversed_key(s, f))
 }
 
 // Is a space created, which has no second tuple in 0.
@@ -222,156 +252,134 @@ fn is_space(o: Object) -> bool
 }
 
 // C: how many tuples it would add.
-pub fn count_created(b: &[u32], o: Object, c: Call) -> usize
-    requires { ⌜ Linked (now b) ⌝ }
+pub fn count_created(b: &[u32], near: Near, universe: Near, o: Object, c: Call) -> usize
+    requires { ⌜ Linked (now b) × NearIn (now b) near × NearIn (now b) universe ⌝ }
     ensures { λ r. ⌜ r ≡ length (missing (created o c) (tuplesOf (now (b .entry)))) ⌝ }
 {
     let f = fields_of(c);
-    let here = missing_in(b, o, f.s, f);
+    let here = missing_in(b, near, o, f.s, f);
     if f.s == 0 {
         return here;
     }
     if is_space(o) {
         return here;
     }
-    here + missing_in(b, o, 0, f)
+    here + missing_in(b, universe, o, 0, f)
 }
 
 // Adds an object's tuples in space s, NIL where they are missing.
-fn add_in(b: &mut [u32], o: Object, s: u32, f: Fields)
-    requires { ⌜ Linked (now b) × Room (now b) (keysIn o s f) ⌝ }
+fn add_in(b: &mut [u32], near: Near, o: Object, s: u32, f: Fields)
+    requires { ⌜ Linked (now b) × NearIn (now b) near × Room (now b) (keysIn o s f) ⌝ }
     ensures { λ _. ⌜ Edited (now (b .entry)) (now (b .exit)) (addAll (keysIn o s f) (tuplesOf (now (b .entry)))) ⌝ }
+    ensures hints { λ _. ⌜ KeepsHints (now (b .entry)) (now (b .exit)) ⌝ }
 {
-    edit::add_missing(b, main_key(o, s, f));
+    edit::add_missing(b, main_hint(o, near), main_key(o, s, f));
     if !is_adjacent(o) {
         return;
     }
-    edit::add_missing(b, reversed_key(s, f));
+    edit::add_missing(b, near.second, reversed_key(s, f));
 }
 
 // C: adds what the call names in s and in 0, where there is room for all of it.
-pub fn create(b: &mut [u32], o: Object, c: Call)
-    requires { ⌜ Linked (now b) × Room (now b) (created o c) ⌝ }
+pub fn create(b: &mut [u32], near: Near, universe: Near, o: Object, c: Call)
+    requires { ⌜ Linked (now b) × NearIn (now b) near × NearIn (now b) universe × Room (now b) (created o c) ⌝ }
     ensures { λ _. ⌜ Edited (now (b .entry)) (now (b .exit)) (addAll (created o c) (tuplesOf (now (b .entry)))) ⌝ }
 {
     let f = fields_of(c);
-    add_in(b, o, f.s, f);
+    add_in(b, near, o, f.s, f);
     if is_space(o) {
         return;
     }
-    add_in(b, o, 0, f);
+    add_in(b, universe, o, 0, f);
 }
 
 // Removes the edges of the pairs of node n in space s with edge g and node m (0: any).
-fn remove_edges(b: &mut [u32], e: EdgesOf)
-    requires { ⌜ Linked (now b) ⌝ }
+fn remove_edges(b: &mut [u32], hint: usize, e: EdgesOf)
+    requires { ⌜ Linked (now b) × Hint (now b) hint ⌝ }
     ensures { λ _. ⌜ Edited (now (b .entry)) (now (b .exit)) (remove (edgesTaken (e .d) (e .s) (e .n) (passes (e .g) (e .m))) (tuplesOf (now (b .entry)))) ⌝ }
 {
-    edit::sweep(b, Selection::Edges(e));
+    edit::sweep(b, hint, Selection::Edges(e));
 }
 
 // Removes node n from space s (0: from all spaces), with its edges.
-pub fn remove_node(b: &mut [u32], x: NodeOf)
-    requires { ⌜ Linked (now b) × (x .n ≢ 0) ⌝ }
+pub fn remove_node(b: &mut [u32], hint: usize, x: NodeOf)
+    requires { ⌜ Linked (now b) × Hint (now b) hint × (x .n ≢ 0) ⌝ }
     ensures { λ _. ⌜ Edited (now (b .entry)) (now (b .exit)) (remove (nodeTaken (x .s) (x .n)) (tuplesOf (now (b .entry)))) ⌝ }
 {
-    edit::sweep(b, Selection::Node(x));
+    edit::sweep(b, hint, Selection::Node(x));
 }
 
 // Removes a numbered space and all in it.
-fn remove_space(b: &mut [u32], s: u32)
-    requires { ⌜ Linked (now b) × (s ≢ 0) ⌝ }
+fn remove_space(b: &mut [u32], hint: usize, s: u32)
+    requires { ⌜ Linked (now b) × Hint (now b) hint × (s ≢ 0) ⌝ }
     ensures { λ _. ⌜ Edited (now (b .entry)) (now (b .exit)) (remove (spaceTaken s) (tuplesOf (now (b .entry)))) ⌝ }
 {
-    edit::sweep(b, Selection::Space(s));
+    edit::sweep(b, hint, Selection::Space(s));
+}
+
+// The edges of the pairs of node n in the call's space with edge g and node m (0: any).
+fn edges_of(d: Direction, f: Fields, g: u32, m: u32) -> EdgesOf
+    ensures { λ r. ⌜ r ≡ edgesOf d f g m ⌝ }
+{
+    EdgesOf {
+        d,
+        s: f.s,
+        n: f.n,
+        g,
+        m,
+    }
 }
 
 // D 12–14: removes the edges of the call's pair.
-pub fn destroy_pair(b: &mut [u32], d: Direction, c: Call)
-    requires { ⌜ Linked (now b) × (gOf c ≢ 0) × (mOf c ≢ 0) ⌝ }
+pub fn destroy_pair(b: &mut [u32], near: Near, d: Direction, c: Call)
+    requires { ⌜ Linked (now b) × NearIn (now b) near × (gOf c ≢ 0) × (mOf c ≢ 0) ⌝ }
     ensures { λ _. ⌜ Edited (now (b .entry)) (now (b .exit)) (destroyed (Removal.P d) c (tuplesOf (now (b .entry)))) ⌝ }
 {
     let f = fields_of(c);
-    remove_edges(
-        b,
-        EdgesOf {
-            d,
-            s: f.s,
-            n: f.n,
-            g: f.g,
-            m: f.m,
-        },
-    );
+    remove_edges(b, near.space, edges_of(d, f, f.g, f.m));
 }
 
 // D 15–17: removes the edges of the pairs of node n.
-pub fn destroy_edges(b: &mut [u32], d: Direction, c: Call)
-    requires { ⌜ Linked (now b) ⌝ }
+pub fn destroy_edges(b: &mut [u32], near: Near, d: Direction, c: Call)
+    requires { ⌜ Linked (now b) × NearIn (now b) near ⌝ }
     ensures { λ _. ⌜ Edited (now (b .entry)) (now (b .exit)) (destroyed (Removal.G d) c (tuplesOf (now (b .entry)))) ⌝ }
 {
     let f = fields_of(c);
-    remove_edges(
-        b,
-        EdgesOf {
-            d,
-            s: f.s,
-            n: f.n,
-            g: 0,
-            m: 0,
-        },
-    );
+    remove_edges(b, near.space, edges_of(d, f, 0, 0));
 }
 
 // D 18–20: removes the edges of the pairs of node n with edge g.
-pub fn destroy_edges_named(b: &mut [u32], d: Direction, c: Call)
-    requires { ⌜ Linked (now b) × (gOf c ≢ 0) ⌝ }
+pub fn destroy_edges_named(b: &mut [u32], near: Near, d: Direction, c: Call)
+    requires { ⌜ Linked (now b) × NearIn (now b) near × (gOf c ≢ 0) ⌝ }
     ensures { λ _. ⌜ Edited (now (b .entry)) (now (b .exit)) (destroyed (Removal.GG d) c (tuplesOf (now (b .entry)))) ⌝ }
 {
     let f = fields_of(c);
-    remove_edges(
-        b,
-        EdgesOf {
-            d,
-            s: f.s,
-            n: f.n,
-            g: f.g,
-            m: 0,
-        },
-    );
+    remove_edges(b, near.space, edges_of(d, f, f.g, 0));
 }
 
 // D 21–23: removes the edges of the pairs of node n with node m.
-pub fn destroy_edges_between(b: &mut [u32], d: Direction, c: Call)
-    requires { ⌜ Linked (now b) × (mOf c ≢ 0) ⌝ }
+pub fn destroy_edges_between(b: &mut [u32], near: Near, d: Direction, c: Call)
+    requires { ⌜ Linked (now b) × NearIn (now b) near × (mOf c ≢ 0) ⌝ }
     ensures { λ _. ⌜ Edited (now (b .entry)) (now (b .exit)) (destroyed (Removal.GN d) c (tuplesOf (now (b .entry)))) ⌝ }
 {
     let f = fields_of(c);
-    remove_edges(
-        b,
-        EdgesOf {
-            d,
-            s: f.s,
-            n: f.n,
-            g: 0,
-            m: f.m,
-        },
-    );
+    remove_edges(b, near.space, edges_of(d, f, 0, f.m));
 }
 
 // D 49: removes node n, with its edges.
-pub fn destroy_node(b: &mut [u32], c: Call)
-    requires { ⌜ Linked (now b) × (nOf c ≢ 0) ⌝ }
+pub fn destroy_node(b: &mut [u32], near: Near, c: Call)
+    requires { ⌜ Linked (now b) × NearIn (now b) near × (nOf c ≢ 0) ⌝ }
     ensures { λ _. ⌜ Edited (now (b .entry)) (now (b .exit)) (destroyed Removal.UN c (tuplesOf (now (b .entry)))) ⌝ }
 {
     let f = fields_of(c);
-    remove_node(b, NodeOf { s: f.s, n: f.n });
+    remove_node(b, near.space, NodeOf { s: f.s, n: f.n });
 }
 
 // D 55: removes a space and all in it.
-pub fn destroy_space(b: &mut [u32], c: Call)
-    requires { ⌜ Linked (now b) × (sOf c ≢ 0) ⌝ }
+pub fn destroy_space(b: &mut [u32], near: Near, c: Call)
+    requires { ⌜ Linked (now b) × NearIn (now b) near × (sOf c ≢ 0) ⌝ }
     ensures { λ _. ⌜ Edited (now (b .entry)) (now (b .exit)) (destroyed Removal.US c (tuplesOf (now (b .entry)))) ⌝ }
 {
     let f = fields_of(c);
-    remove_space(b, f.s);
+    remove_space(b, near.space, f.s);
 }

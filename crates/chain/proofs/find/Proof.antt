@@ -14,11 +14,11 @@ seek-requires c κs = search needs
 
 -- src/lib.rt:76:9
 returns : tie.Need-returns
-returns c = find-none _ _ _ (c .before .before .before .pre) (c .before .seek .ensures) (c .if1 .taken)
+returns c = find-none _ _ _ (c .before .before .before .pre .0) (c .before .seek .ensures) (c .if1 .taken)
 
 -- src/lib.rt:78:29
 key-of-requires : tie.Need-key-of-requires
-key-of-requires c κs = place-inside _ _ _ (c .before .before .before .pre) (c .before .seek .ensures) (c .if1 .left)
+key-of-requires c κs = place-inside _ _ _ (c .before .before .before .pre .0) (c .before .seek .ensures) (c .if1 .left)
 
 -- src/lib.rt:78:8
 key-same-requires : tie.Need-key-same-requires
@@ -26,11 +26,11 @@ key-same-requires c κs = search needs
 
 -- src/lib.rt:79:9
 returns-2 : tie.Need-returns-2
-returns-2 c = find-yes _ _ _ (c .before .before .before .before .before .before .pre) (c .before .before .before .before .seek .ensures) (c .before .before .before .if1 .left) _ _ (c .before .before .key-of .ensures) (c .before .key-same .ensures) (c .if2 .taken)
+returns-2 c = find-yes _ _ _ (c .before .before .before .before .before .before .pre .0) (c .before .before .before .before .seek .ensures) (c .before .before .before .if1 .left) _ _ (c .before .before .key-of .ensures) (c .before .key-same .ensures) (c .if2 .taken)
 
 -- src/lib.rt:69:1
 returns-3 : tie.Need-returns-3
-returns-3 c = find-no _ _ _ (c .before .before .before .before .before .before .pre) (c .before .before .before .before .seek .ensures) (c .before .before .before .if1 .left) _ _ (c .before .before .key-of .ensures) (c .before .key-same .ensures) (c .if2 .left)
+returns-3 c = find-no _ _ _ (c .before .before .before .before .before .before .pre .0) (c .before .before .before .before .seek .ensures) (c .before .before .before .if1 .left) _ _ (c .before .before .key-of .ensures) (c .before .key-same .ensures) (c .if2 .left)
 
 pub find-spec : {M : Type 1} → statement M
 find-spec =

@@ -12,7 +12,7 @@ find-requires c κs = search needs
 
 -- src/lib.rt:85:1
 returns : tie.Need-returns
-returns c = has-found _ _ _ (c .before .before .pre) (c .find .ensures)
+returns c = has-found _ _ _ (c .before .before .pre .0) (c .find .ensures)
 
 pub has-spec : {M : Type 1} → statement M
 has-spec = tie.close (tie.spec find-requires returns)

@@ -18,11 +18,11 @@ same-length c = search needs
 
 -- src/lib.rt:41:9
 returns : tie.Need-returns
-returns c = value-unset _ _ _ _ (c .before .before .before .before .pre) (c .before .find .ensures) (c .if1 .taken)
+returns c = (value-unset _ _ _ _ (c .before .before .before .before .pre .0) (c .before .find .ensures) (c .if1 .taken), λ i H. H)
 
 -- src/lib.rt:43:5
 put-value-requires : tie.Need-put-value-requires
-put-value-requires c κs = found-inside _ _ _ (c .before .before .before .before .before .pre) (c .before .before .find .ensures) (c .before .if1 .left)
+put-value-requires c κs = found-inside _ _ _ (c .before .before .before .before .before .pre .0) (c .before .before .find .ensures) (c .before .if1 .left)
 
 -- src/lib.rt:35:1
 same-length-2 : tie.Need-same-length-2
@@ -30,7 +30,7 @@ same-length-2 c = search needs
 
 -- src/lib.rt:35:1
 returns-2 : tie.Need-returns-2
-returns-2 c = value-set _ _ _ _ (c .before .before .before .before .before .before .before .before .pre) (c .before .before .before .before .before .find .ensures) (c .before .before .before .before .if1 .left) _ (c .before .before .put-value .ensures)
+returns-2 c = value-set _ _ _ _ (c .before .before .before .before .before .before .before .before .pre .0) (c .before .before .before .before .before .find .ensures) (c .before .before .before .before .if1 .left) _ (c .before .before .put-value .ensures)
 
 pub assign-value-spec : {M : Type 1} → statement M
 assign-value-spec =

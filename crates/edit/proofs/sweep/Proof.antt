@@ -12,10 +12,10 @@ use Rattle.records.proofs.head_word.Reads as head-word-reads
 use Rattle.records.proofs.next_of.Reads as next-of-reads
 
 abbrev Inv-loop : tie.InvT-loop
-Inv-loop b₀ sel before₀ at₀ b before at = Sweeping b₀ sel b before at
+Inv-loop b₀ hint sel before₀ at₀ b before at = Sweeping b₀ sel b before at
 
 abbrev μ-loop : tie.MeasureT-loop
-μ-loop b₀ sel before₀ at₀ b before at = remaining b at
+μ-loop b₀ hint sel before₀ at₀ b before at = remaining b at
 
 -- src/lib.rt:66:9
 head-word-requires : tie.Need-head-word-requires Inv-loop μ-loop
@@ -23,11 +23,11 @@ head-word-requires c κs = omega (arith, c .before .before .pre .0 .chains .leas
 
 -- src/lib.rt:67:9
 next-of-requires : tie.Need-next-of-requires Inv-loop μ-loop
-next-of-requires c κs = sweep-start _ _ _ _ (c .before .before .before .before .pre .0) (c .before .before .before .before .pre .1) (c .before .head-word .ensures) refl .0
+next-of-requires c κs = sweep-start _ _ _ _ (c .before .before .before .before .pre .0) (c .before .before .before .before .pre .2) (c .before .head-word .ensures) refl .0
 
 -- src/lib.rt:68:5
 loop-holds : tie.Need-loop-holds Inv-loop μ-loop
-loop-holds c = sweep-start _ _ _ _ (c .before .before .before .before .before .pre .0) (c .before .before .before .before .before .pre .1) (c .before .before .head-word .ensures) (c .next-of .ensures) .1
+loop-holds c = sweep-start _ _ _ _ (c .before .before .before .before .before .pre .0) (c .before .before .before .before .before .pre .2) (c .before .before .head-word .ensures) (c .next-of .ensures) .1
 
 -- src/lib.rt:69:13
 next-of-requires-2 : tie.Need-next-of-requires-2 Inv-loop μ-loop
@@ -51,7 +51,7 @@ same-length c = search needs
 
 -- src/lib.rt:62:1
 returns : tie.Need-returns Inv-loop μ-loop
-returns c = sweep-end _ _ _ _ _ (c .before .loop .inv) (c .loop-test .left) (c .before .before .before .before .before .before .before .pre .0) (c .before .before .before .before .before .before .before .pre .1)
+returns c = sweep-end _ _ _ _ _ (c .before .loop .inv) (c .loop-test .left) (c .before .before .before .before .before .before .before .pre .0) (c .before .before .before .before .before .before .before .pre .2)
 
 pub sweep-spec : {M : Type 1} → statement M
 sweep-spec =

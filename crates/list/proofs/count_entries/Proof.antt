@@ -8,23 +8,23 @@ use Rattle.list.proofs.count_by_least.Reads as count-by-least-reads
 use Rattle.list.proofs.count_in_order.Reads as count-in-order-reads
 use Rattle.list.proofs.in_order.Reads as in-order-reads
 
--- src/lib.rt:340:8
+-- src/lib.rt:344:8
 in-order-requires : tie.Need-in-order-requires
 in-order-requires c κs = search needs
 
--- src/lib.rt:341:9
+-- src/lib.rt:345:9
 count-in-order-requires : tie.Need-count-in-order-requires
-count-in-order-requires c κs = (c .before .before .before .pre, sym (c .before .in-order .ensures) ∙ c .if1 .taken)
+count-in-order-requires c κs = (c .before .before .before .pre .0, sym (c .before .in-order .ensures) ∙ c .if1 .taken)
 
--- src/lib.rt:341:9
+-- src/lib.rt:345:9
 returns : tie.Need-returns
 returns c = search needs
 
--- src/lib.rt:343:5
+-- src/lib.rt:347:5
 count-by-least-requires : tie.Need-count-by-least-requires
 count-by-least-requires c κs = search needs
 
--- src/lib.rt:336:1
+-- src/lib.rt:340:1
 returns-2 : tie.Need-returns-2
 returns-2 c = search needs
 

@@ -1,4 +1,4 @@
-use Rattle.list.proofs.Counted.{listCodes, list-less, done-most, code-fits, Writing, write-start, write-length, write-index, write-on, write-end}
+use Rattle.list.proofs.Counted.{listCodes, list-less, done-most, code-fits, count-end, Writing, write-start, write-length, write-index, write-on, write-end}
 use Rattle.list.proofs.Leasts.{above}
 use lib.ListN.{length}
 use mathlib.Core.Path.{refl}
@@ -61,7 +61,10 @@ same-length c = write-length _ _ (c .before .before .before .before .before .pre
 
 -- src/lib.rt:246:1
 returns : tie.Need-returns Inv-loop μ-loop
-returns c = write-end _ _ (c .before .before .before .before .before .pre .0) _ (c .before .before .before .before .before .pre .1) _ _ _ _ (c .before .loop .inv) (c .loop-test .left)
+returns c = (
+  count-end _ _ (c .before .before .before .before .before .pre .0) _ _ _ (c .before .loop .inv .listing) (c .loop-test .left),
+  write-end _ _ (c .before .before .before .before .before .pre .0) _ (c .before .before .before .before .before .pre .1) _ _ _ _ (c .before .loop .inv) (c .loop-test .left),
+)
 
 pub write-by-least-spec : {M : Type 1} → statement M
 write-by-least-spec =

@@ -8,31 +8,31 @@ use Rattle.list.proofs.in_order.Reads as in-order-reads
 use Rattle.list.proofs.write_by_least.Reads as write-by-least-reads
 use Rattle.list.proofs.write_in_order.Reads as write-in-order-reads
 
--- src/lib.rt:351:8
+-- src/lib.rt:357:8
 in-order-requires : tie.Need-in-order-requires
 in-order-requires c κs = search needs
 
--- src/lib.rt:352:9
+-- src/lib.rt:358:9
 write-in-order-requires : tie.Need-write-in-order-requires
-write-in-order-requires c κs = (c .before .before .before .before .before .pre .0, sym (c .before .before .in-order .ensures) ∙ c .before .if1 .taken, c .before .before .before .before .before .pre .1)
+write-in-order-requires c κs = (c .before .before .before .before .before .pre .0, sym (c .before .before .in-order .ensures) ∙ c .before .if1 .taken, c .before .before .before .before .before .pre .2)
 
--- src/lib.rt:353:9
+-- src/lib.rt:358:9
 same-length : tie.Need-same-length
 same-length c = search needs
 
--- src/lib.rt:353:9
+-- src/lib.rt:358:9
 returns : tie.Need-returns
 returns c = search needs
 
--- src/lib.rt:355:5
+-- src/lib.rt:360:5
 write-by-least-requires : tie.Need-write-by-least-requires
 write-by-least-requires c κs = search needs
 
--- src/lib.rt:347:1
+-- src/lib.rt:352:1
 same-length-2 : tie.Need-same-length-2
 same-length-2 c = search needs
 
--- src/lib.rt:347:1
+-- src/lib.rt:352:1
 returns-2 : tie.Need-returns-2
 returns-2 c = search needs
 

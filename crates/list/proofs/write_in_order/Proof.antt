@@ -1,4 +1,4 @@
-use Rattle.list.proofs.Ascents.{rise-inside, rise-less, rise-fits, rise-most, Filling, fill-start, fill-length, fill-skip, fill-index, fill-on, fill-end}
+use Rattle.list.proofs.Ascents.{rise-inside, rise-less, rise-fits, rise-most, rise-end, Filling, fill-start, fill-length, fill-skip, fill-index, fill-on, fill-end}
 use Rattle.chain.proofs.Walks.{remaining}
 use mathlib.Core.Path.{refl}
 use native.Mathlib.Omega.{arith}
@@ -79,7 +79,10 @@ same-length c = fill-length _ _ (c .before .before .before .before .before .pre 
 
 -- src/lib.rt:283:1
 returns : tie.Need-returns Inv-loop μ-loop
-returns c = fill-end _ _ (c .before .before .before .before .before .pre .0) (c .before .before .before .before .before .pre .1) _ (c .before .before .before .before .before .pre .2) _ _ _ _ (c .before .loop .inv) (c .loop-test .left)
+returns c = (
+  rise-end _ _ (c .before .before .before .before .before .pre .0) (c .before .before .before .before .before .pre .1) _ _ _ (c .before .loop .inv .rises) (c .loop-test .left),
+  fill-end _ _ (c .before .before .before .before .before .pre .0) (c .before .before .before .before .before .pre .1) _ (c .before .before .before .before .before .pre .2) _ _ _ _ (c .before .loop .inv) (c .loop-test .left),
+)
 
 pub write-in-order-spec : {M : Type 1} → statement M
 write-in-order-spec =

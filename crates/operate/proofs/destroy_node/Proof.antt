@@ -1,7 +1,7 @@
 use Rattle.operate.proofs.Removals.{node-removed}
 use Rattle.operate.specs.declared.Fields.{Fields}
 use Rattle.chain.specs.Links.{Edited}
-use mathlib.Core.Path.{_≡_, sym, ap, _∙_, subst}
+use mathlib.Core.Path.{sym, ap, _∙_, subst}
 use borrow.Author.Needs.{needs}
 use Rattle.operate.proofs.destroy_node.Statement.{statement}
 use Rattle.operate.proofs.destroy_node.Tie as tie
@@ -10,19 +10,19 @@ use Rattle.operate.proofs.destroy_node.Lts as lts
 use Rattle.operate.proofs.fields_of.Reads as fields-of-reads
 use Rattle.operate.proofs.remove_node.Reads as remove-node-reads
 
--- src/lib.rt:281:9
+-- src/lib.rt:374:9
 fields-of-requires : tie.Need-fields-of-requires
 fields-of-requires c κs = search needs
 
--- src/lib.rt:282:5
+-- src/lib.rt:375:5
 remove-node-requires : tie.Need-remove-node-requires
-remove-node-requires c κs = (c .before .before .before .pre .0, λ e. c .before .before .before .pre .1 (sym (ap (λ (x : Fields). x .n) (c .before .fields-of .ensures .0)) ∙ e))
+remove-node-requires c κs = (c .before .before .before .pre .0, c .before .before .before .pre .1 .space, λ e. c .before .before .before .pre .2 (sym (ap (λ (x : Fields). x .n) (c .before .fields-of .ensures .0)) ∙ e))
 
--- src/lib.rt:277:1
+-- src/lib.rt:370:1
 same-length : tie.Need-same-length
 same-length c = search needs
 
--- src/lib.rt:277:1
+-- src/lib.rt:370:1
 returns : tie.Need-returns
 returns c = subst (Edited _ _) (node-removed (c .before .before .before .before .before .before .args .c) _ _ (c .before .before .before .before .fields-of .ensures .0)) (c .before .before .remove-node .ensures)
 

@@ -1,6 +1,5 @@
-use Rattle.select.specs.Selections.{passes, takenBy}
-use Rattle.model.proofs.Taken.{edges-fair, node-fair, space-fair}
-use mathlib.Core.Path.{_≡_, sym, ap, _∙_}
+use Rattle.select.specs.Selections.{takenBy}
+use Rattle.model.proofs.Taken.{edges-fair}
 use borrow.Author.Needs.{needs}
 use Rattle.operate.proofs.remove_edges.Statement.{statement}
 use Rattle.operate.proofs.remove_edges.Tie as tie
@@ -8,16 +7,16 @@ use Rattle.operate.proofs.remove_edges.Reads as reads
 use Rattle.operate.proofs.remove_edges.Lts as lts
 use Rattle.edit.proofs.sweep.Reads as sweep-reads
 
--- src/lib.rt:67:5
+-- src/lib.rt:301:5
 sweep-requires : tie.Need-sweep-requires
 unfolding takenBy
-sweep-requires c κs = (c .before .before .pre, edges-fair _ _ _ _ .universe)
+sweep-requires c κs = (c .before .before .pre .0, c .before .before .pre .1, edges-fair _ _ _ _ .universe)
 
--- src/lib.rt:63:1
+-- src/lib.rt:297:1
 same-length : tie.Need-same-length
 same-length c = search needs
 
--- src/lib.rt:63:1
+-- src/lib.rt:297:1
 returns : tie.Need-returns
 unfolding takenBy
 returns c = c .before .before .sweep .ensures

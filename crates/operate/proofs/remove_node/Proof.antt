@@ -1,6 +1,5 @@
-use Rattle.select.specs.Selections.{passes, takenBy}
-use Rattle.model.proofs.Taken.{edges-fair, node-fair, space-fair}
-use mathlib.Core.Path.{_≡_, sym, ap, _∙_}
+use Rattle.select.specs.Selections.{takenBy}
+use Rattle.model.proofs.Taken.{node-fair}
 use borrow.Author.Needs.{needs}
 use Rattle.operate.proofs.remove_node.Statement.{statement}
 use Rattle.operate.proofs.remove_node.Tie as tie
@@ -8,16 +7,16 @@ use Rattle.operate.proofs.remove_node.Reads as reads
 use Rattle.operate.proofs.remove_node.Lts as lts
 use Rattle.edit.proofs.sweep.Reads as sweep-reads
 
--- src/lib.rt:75:5
+-- src/lib.rt:309:5
 sweep-requires : tie.Need-sweep-requires
 unfolding takenBy
-sweep-requires c κs = (c .before .before .pre .0, node-fair _ _ (c .before .before .pre .1) .universe)
+sweep-requires c κs = (c .before .before .pre .0, c .before .before .pre .1, node-fair _ _ (c .before .before .pre .2) .universe)
 
--- src/lib.rt:71:1
+-- src/lib.rt:305:1
 same-length : tie.Need-same-length
 same-length c = search needs
 
--- src/lib.rt:71:1
+-- src/lib.rt:305:1
 returns : tie.Need-returns
 unfolding takenBy
 returns c = c .before .before .sweep .ensures

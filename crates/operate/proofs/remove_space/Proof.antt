@@ -1,6 +1,5 @@
-use Rattle.select.specs.Selections.{passes, takenBy}
-use Rattle.model.proofs.Taken.{edges-fair, node-fair, space-fair}
-use mathlib.Core.Path.{_≡_, sym, ap, _∙_}
+use Rattle.select.specs.Selections.{takenBy}
+use Rattle.model.proofs.Taken.{space-fair}
 use borrow.Author.Needs.{needs}
 use Rattle.operate.proofs.remove_space.Statement.{statement}
 use Rattle.operate.proofs.remove_space.Tie as tie
@@ -8,16 +7,16 @@ use Rattle.operate.proofs.remove_space.Reads as reads
 use Rattle.operate.proofs.remove_space.Lts as lts
 use Rattle.edit.proofs.sweep.Reads as sweep-reads
 
--- src/lib.rt:83:5
+-- src/lib.rt:317:5
 sweep-requires : tie.Need-sweep-requires
 unfolding takenBy
-sweep-requires c κs = (c .before .before .pre .0, space-fair _ (c .before .before .pre .1) .universe)
+sweep-requires c κs = (c .before .before .pre .0, c .before .before .pre .1, space-fair _ (c .before .before .pre .2) .universe)
 
--- src/lib.rt:79:1
+-- src/lib.rt:313:1
 same-length : tie.Need-same-length
 same-length c = search needs
 
--- src/lib.rt:79:1
+-- src/lib.rt:313:1
 returns : tie.Need-returns
 unfolding takenBy
 returns c = c .before .before .sweep .ensures
