@@ -11,12 +11,21 @@ pub fn execute_known(store: &mut [u32], call: Call, list: &mut [u32]) -> Answer
     requires { ⌜ isStore (now store) ≡ true ⌝ }
     ensures { λ r. ⌜ OnStore (now (store .entry)) (now (list .entry)) call r (now (store .exit)) (now (list .exit)) ⌝ }
 {
-    let stop = refusals::refusal_of(store, call, list.len());
+    let above = conditions::locate_universe(store, call);
+    let near = conditions::locate(store, above, call);
+    let universe = conditions::also_in_universe(near, above, call);
+    let stop = refusals::refusal_of(store, near, universe, call, list.len());
     if stop != 0 {
         return Answer::Refusal(stop);
     }
-    let f = operate::fields_of(call);
-    perform::perform(store, decode::operator_of(call.operator), call, list)
+    perform::perform(
+        store,
+        near,
+        universe,
+        decode::operator_of(call.operator),
+        call,
+        list,
+    )
 }
 
 // One call on any buffer, with any numbers as operator and names and any answer list.

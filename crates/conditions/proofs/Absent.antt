@@ -34,9 +34,6 @@ asked-below o d h = sym (ap₂ (λ (a b : Bool). a || (b && leb o 55)) (ne-eqb o
 pub asked-above : (o : ℕ) → o ≢ 51 → 54 ≤ o → leb o 55 ≡ unasked o
 asked-above o d h = sym (ap₂ (λ (a b : Bool). a || (b && leb o 55)) (ne-eqb o 51 d) (le-leb 54 o h))
 
-abbrev spaceTest : Call → Reads → Bool → Bool → Bool
-spaceTest c r a p = (r .s) && not a && not p
-
 pub space-unread : (c : Call) (ts : Tuples) (r : Reads) → r ≡ readsOf (c .operator) → r .s ≡ false → false ≡ spaceAbsent c ts
 unfolding spaceAbsent
 space-unread c ts r R e =
@@ -150,3 +147,7 @@ pub works-on-none : (op known : Operator) (c : Call) (ts : Tuples) → op ≡ kn
 unfolding anyPresent
 works-on-none op known c ts e none =
     ap (λ (ks : List Key). not (anyPresent ks ts)) (sym none ∙ ap (λ (o : Operator). workedOn o c) (sym e))
+
+-- a key that was made of a call's fields is absent
+pub absent-as : (k j : Key) (ts : Tuples) (x : Bool) → k ≡ j → x ≡ not (present k ts) → x ≡ not (present j ts)
+absent-as k j ts x e X = X ∙ ap (λ (i : Key). not (present i ts)) e

@@ -1,8 +1,10 @@
-// Conditions 5 to 8: does what is present stop a call.
+// Where what a call names is to be sought, and conditions 5 to 8: does what is present stop a call.
 // Each function is pub for the crate above, which has proved what it requires.
 use model::Call;
 use model::Key;
 use model::Operator;
+use operate::Fields;
+use operate::Near;
 ghost use mathlib.Core.Bool.{not, _||_};
 ghost use mathlib.Core.Path.{_≡_};
 ghost use lib.Dec.{eqb};
@@ -10,14 +12,145 @@ ghost use Rattle.model.specs.Operators.{within};
 ghost use Rattle.model.specs.Tuples.{present, anyPresent};
 ghost use Rattle.model.specs.Buffer.{tuplesOf};
 ghost use Rattle.model.specs.Refusals.{spaceAbsent, nodeAbsent, secondAbsent, workedOn, edgeAbsent};
-ghost use Rattle.chain.specs.Links.{Linked};
+ghost use Rattle.chain.specs.Links.{Linked, Hint};
+ghost use Rattle.model.specs.Keys.{nodeKey};
+ghost use Rattle.model.specs.Machine.{FieldsFit};
+ghost use Rattle.operate.specs.Operate.{NearIn};
+ghost use Rattle.conditions.specs.Located.{beforeKey, near, nearNodes, nearUniverse, alsoIn, fartherOf, nearHere};
+ghost use Rattle.model.specs.Steps.{sOf};
+
+// The key of node n in space s; n = 0: that of the space.
+fn node_key(s: u32, n: u32) -> Key
+    ensures { λ r. ⌜ r ≡ nodeKey s n ⌝ }
+{
+    Key { s, n, g: 0, m: 0 }
+}
+
+// The last used record whose key is below that of node n in space s.
+fn before_node(b: &[u32], hint: usize, s: u32, n: u32) -> usize
+    requires { ⌜ Linked (now b) × Hint (now b) hint ⌝ }
+    ensures { λ r. ⌜ r ≡ beforeKey (now (b .entry)) (nodeKey s n) ⌝ }
+{
+    let place = chain::seek(b, hint, node_key(s, n));
+    place.before
+}
+
+// Where nodes n and m of space s are to be sought, found in one walk from `space` on: the lesser first.
+fn near_nodes(b: &[u32], space: usize, s: u32, n: u32, m: u32) -> Near
+    requires { ⌜ Linked (now b) × Hint (now b) space ⌝ }
+    ensures { λ r. ⌜ r ≡ nearNodes (now (b .entry)) space s n m ⌝ }
+{
+    if n <= m {
+        let node = before_node(b, space, s, n);
+        let second = before_node(b, node, s, m);
+        return Near {
+            space,
+            node,
+            second,
+        };
+    }
+    let second = before_node(b, space, s, m);
+    let node = before_node(b, second, s, n);
+    Near {
+        space,
+        node,
+        second,
+    }
+}
+
+// Operators that add tuples in UNIVERSE besides those in their space: 1–3 and 45.
+fn adds_in_universe(o: u32) -> bool
+    ensures { λ r. ⌜ r ≡ (within 1 3 o || eqb o 45) ⌝ }
+{
+    if o == 45 {
+        return true;
+    }
+    if o < 1 {
+        return false;
+    }
+    o <= 3
+}
+
+// No hints: every search starts at the first record.
+fn nowhere() -> Near
+    ensures { λ r. ⌜ r ≡ near 0 0 0 ⌝ }
+{
+    Near {
+        space: 0,
+        node: 0,
+        second: 0,
+    }
+}
+
+// Where a C in a numbered space is to look in UNIVERSE; nowhere in particular for other calls.
+pub fn locate_universe(b: &[u32], c: Call) -> Near
+    requires { ⌜ Linked (now b) ⌝ }
+    ensures { λ r. ⌜ r ≡ nearUniverse (now (b .entry)) c ⌝ }
+{
+    let f = operate::fields_of(c);
+    if f.s == 0 {
+        return nowhere();
+    }
+    if !adds_in_universe(c.operator) {
+        return nowhere();
+    }
+    near_nodes(b, 0, 0, f.n, f.m)
+}
+
+// Where a C is to look in UNIVERSE, once its space is known: on UNIVERSE, as in its space.
+pub fn also_in_universe(near: Near, universe: Near, c: Call) -> Near
+    ensures { λ r. ⌜ r ≡ alsoIn near universe (sOf c) ⌝ }
+{
+    let f = operate::fields_of(c);
+    if f.s == 0 {
+        return near;
+    }
+    universe
+}
+
+// The farther of two places in UNIVERSE: a walk to a numbered space goes on from there.
+fn farther(universe: Near, f: Fields) -> usize
+    ensures { λ r. ⌜ r ≡ fartherOf universe f ⌝ }
+{
+    if f.n <= f.m {
+        return universe.second;
+    }
+    universe.node
+}
+
+// Where a call is to look in its space.
+pub fn locate(b: &[u32], universe: Near, c: Call) -> Near
+    requires { ⌜ Linked (now b) × NearIn (now b) universe ⌝ }
+    ensures { λ r. ⌜ r ≡ nearHere (now (b .entry)) c ⌝ }
+    ensures fit { λ _. ⌜ FieldsFit c ⌝ }
+{
+    let f = operate::fields_of(c);
+    let r = decode::reads_of(c.operator);
+    let space = before_node(b, farther(universe, f), f.s, 0);
+    if r.m {
+        return near_nodes(b, space, f.s, f.n, f.m);
+    }
+    if !r.n {
+        return Near {
+            space,
+            node: 0,
+            second: 0,
+        };
+    }
+    let node = before_node(b, space, f.s, f.n);
+    Near {
+        space,
+        node,
+        second: 0,
+    }
+}
 
 // Is there no tuple with this key.
-fn key_absent(b: &[u32], k: Key) -> bool
-    requires { ⌜ Linked (now b) ⌝ }
+fn key_absent(b: &[u32], hint: usize, k: Key) -> bool
+    requires { ⌜ Linked (now b) × Hint (now b) hint ⌝ }
     ensures { λ r. ⌜ r ≡ not (present k (tuplesOf (now (b .entry)))) ⌝ }
 {
-    !chain::has(b, k)
+    !chain::has(b, hint, k)
 }
 
 // Operators that do not ask for their space: 51, 54, 55.
@@ -34,8 +167,8 @@ fn space_unasked(o: u32) -> bool
 }
 
 // Condition 5: s is absent.
-pub fn space_absent(b: &[u32], c: Call) -> bool
-    requires { ⌜ Linked (now b) ⌝ }
+pub fn space_absent(b: &[u32], near: Near, c: Call) -> bool
+    requires { ⌜ Linked (now b) × NearIn (now b) near ⌝ }
     ensures { λ r. ⌜ r ≡ spaceAbsent c (tuplesOf (now (b .entry))) ⌝ }
 {
     let r = decode::reads_of(c.operator);
@@ -46,15 +179,7 @@ pub fn space_absent(b: &[u32], c: Call) -> bool
         return false;
     }
     let f = operate::fields_of(c);
-    key_absent(
-        b,
-        Key {
-            s: f.s,
-            n: 0,
-            g: 0,
-            m: 0,
-        },
-    )
+    key_absent(b, near.space, node_key(f.s, 0))
 }
 
 // Operators that ask for node n in s: 1–44, 46, 47.
@@ -74,39 +199,23 @@ fn node_asked(o: u32) -> bool
 }
 
 // Condition 6: n is absent from s, or, for 57, from 0.
-pub fn node_absent(b: &[u32], c: Call) -> bool
-    requires { ⌜ Linked (now b) ⌝ }
+pub fn node_absent(b: &[u32], near: Near, c: Call) -> bool
+    requires { ⌜ Linked (now b) × NearIn (now b) near ⌝ }
     ensures { λ r. ⌜ r ≡ nodeAbsent c (tuplesOf (now (b .entry))) ⌝ }
 {
     let f = operate::fields_of(c);
     if c.operator == 57 {
-        return key_absent(
-            b,
-            Key {
-                s: 0,
-                n: f.n,
-                g: 0,
-                m: 0,
-            },
-        );
+        return key_absent(b, near.node, node_key(0, f.n));
     }
     if !node_asked(c.operator) {
         return false;
     }
-    key_absent(
-        b,
-        Key {
-            s: f.s,
-            n: f.n,
-            g: 0,
-            m: 0,
-        },
-    )
+    key_absent(b, near.node, node_key(f.s, f.n))
 }
 
 // Condition 7: m, where it is read, is absent from s.
-pub fn second_absent(b: &[u32], c: Call) -> bool
-    requires { ⌜ Linked (now b) ⌝ }
+pub fn second_absent(b: &[u32], near: Near, c: Call) -> bool
+    requires { ⌜ Linked (now b) × NearIn (now b) near ⌝ }
     ensures { λ r. ⌜ r ≡ secondAbsent c (tuplesOf (now (b .entry))) ⌝ }
 {
     let r = decode::reads_of(c.operator);
@@ -114,35 +223,27 @@ pub fn second_absent(b: &[u32], c: Call) -> bool
         return false;
     }
     let f = operate::fields_of(c);
-    key_absent(
-        b,
-        Key {
-            s: f.s,
-            n: f.m,
-            g: 0,
-            m: 0,
-        },
-    )
+    key_absent(b, near.second, node_key(f.s, f.m))
 }
 
 // Is nothing present of what C, B, V and X work on.
-fn object_absent(b: &[u32], op: Operator, c: Call) -> bool
-    requires { ⌜ Linked (now b) ⌝ }
+fn object_absent(b: &[u32], near: Near, op: Operator, c: Call) -> bool
+    requires { ⌜ Linked (now b) × NearIn (now b) near ⌝ }
     ensures { λ r. ⌜ r ≡ not (anyPresent (workedOn op c) (tuplesOf (now (b .entry)))) ⌝ }
 {
     match op {
-        Operator::Create(o) => !operate::exists(b, o, c),
-        Operator::Bind(o) => !operate::exists(b, o, c),
-        Operator::Value(o) => !operate::exists(b, o, c),
-        Operator::Exists(o) => !operate::exists(b, o, c),
+        Operator::Create(o) => !operate::exists(b, near, o, c),
+        Operator::Bind(o) => !operate::exists(b, near, o, c),
+        Operator::Value(o) => !operate::exists(b, near, o, c),
+        Operator::Exists(o) => !operate::exists(b, near, o, c),
         Operator::Destroy(r) => true,
         Operator::List(l) => true,
     }
 }
 
 // Condition 8: no such edge (4–8).
-pub fn edge_absent(b: &[u32], c: Call) -> bool
-    requires { ⌜ Linked (now b) ⌝ }
+pub fn edge_absent(b: &[u32], near: Near, c: Call) -> bool
+    requires { ⌜ Linked (now b) × NearIn (now b) near ⌝ }
     ensures { λ r. ⌜ r ≡ edgeAbsent c (tuplesOf (now (b .entry))) ⌝ }
 {
     if c.operator < 4 {
@@ -151,5 +252,5 @@ pub fn edge_absent(b: &[u32], c: Call) -> bool
     if c.operator > 8 {
         return false;
     }
-    object_absent(b, decode::operator_of(c.operator), c)
+    object_absent(b, near, decode::operator_of(c.operator), c)
 }

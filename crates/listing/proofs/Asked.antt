@@ -26,9 +26,12 @@ use Rattle.list.specs.declared.Query.the-variants.{Pairs, Nodes, Spaces, Spaces
 use Rattle.list.specs.Queries.{partOf, chosen, firstPairs, secondPairs, firstAt, secondAt, queried, written}
 use Rattle.select.specs.Selections.{passes}
 use Rattle.operate.specs.declared.Fields.{Fields}
-use Rattle.operate.specs.Operate.{fieldsOf}
+use Rattle.operate.specs.declared.Near.{Near}
+use Rattle.operate.specs.Operate.{NearIn, fieldsOf}
+use Rattle.chain.specs.Links.{Hint}
+use Rattle.chain.proofs.Hints.{no-hint}
 use Rattle.operate.proofs.Removals.{passes-any, passes-edge, passes-node}
-use Rattle.listing.specs.Lists.{pairQuery, queryOf, NamesAsked}
+use Rattle.listing.specs.Lists.{pairsHint, listHint, pairQuery, queryOf, NamesAsked}
 
 -- ---- sorting again
 
@@ -206,3 +209,24 @@ told-room l c q ts room h e = subst (λ (k : ℕ). k ≤ room) (sym (told-count 
 pub told-written : (l : Listing) (c : Call) (q : Query) (ts : Tuples) (list : List ℕ) → NamesAsked l c → q ≡ queryOf l c
     → written (queried q ts) list ≡ written (listed l c ts) list
 told-written l c q ts list h e = ap (λ (ps : List Pair). written ps list) (told-listed l c q ts h e)
+
+-- ---- hints
+
+pub list-hint : (b : List ℕ) (l : Listing) (near : Near) (h : ℕ) → NearIn b near → h ≡ listHint l near → Hint b h
+unfolding listHint pairsHint
+list-hint b l near h N e = subst (Hint b) (sym e) (go l)
+  where
+    pairs : (d : Direction) → Hint b (pairsHint d near)
+    pairs Outpointing = N .node
+    pairs Inpointing = N .space
+    pairs Adjacent = N .space
+
+    go : (l : Listing) → Hint b (listHint l near)
+    go (Listing.P d) = pairs d
+    go (Listing.G d) = pairs d
+    go (Listing.GN d) = pairs d
+    go (Listing.N d) = pairs d
+    go (Listing.NG d) = pairs d
+    go Listing.UN = N .space
+    go Listing.US = no-hint b
+    go Listing.USn = no-hint b

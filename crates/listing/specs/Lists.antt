@@ -10,6 +10,8 @@ use Rattle.list.specs.declared.Part.the-variants.{Both, Edge, Node}
 use Rattle.list.specs.declared.PairQuery.{PairQuery}
 use Rattle.list.specs.declared.Query.{Query}
 use Rattle.list.specs.declared.Query.the-variants.{Pairs, Nodes, Spaces, SpacesOf}
+use Rattle.model.specs.declared.Direction.the-variants.{Outpointing, Inpointing, Adjacent}
+use Rattle.operate.specs.declared.Near.{Near}
 
 -- the pairs of n in s with edge g and node m (0: any), of each the part that is listed
 abbrev pub pairQuery : Direction → ℕ → ℕ → ℕ → ℕ → Part → PairQuery
@@ -36,3 +38,19 @@ NamesAsked (Listing.NG d) c = gOf c ≢ 0
 NamesAsked Listing.UN c = Unit {0}
 NamesAsked Listing.US c = Unit {0}
 NamesAsked Listing.USn c = Unit {0}
+
+-- where the walk of an S operator starts: behind node n where its edges from n are asked for, behind the space's place, or at the first record
+unfoldable pub pairsHint : Direction → Near → ℕ
+pairsHint Outpointing near = near .node
+pairsHint Inpointing near = near .space
+pairsHint Adjacent near = near .space
+
+unfoldable pub listHint : Listing → Near → ℕ
+listHint (Listing.P d) near = pairsHint d near
+listHint (Listing.G d) near = pairsHint d near
+listHint (Listing.GN d) near = pairsHint d near
+listHint (Listing.N d) near = pairsHint d near
+listHint (Listing.NG d) near = pairsHint d near
+listHint Listing.UN near = near .space
+listHint Listing.US near = 0
+listHint Listing.USn near = 0

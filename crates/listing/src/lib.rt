@@ -7,6 +7,7 @@ use model::Call;
 use model::Direction;
 use model::Listing;
 use operate::Fields;
+use operate::Near;
 ghost use mathlib.Core.Path.{_≡_};
 ghost use lib.ListN.{length};
 ghost use Prim.Native.Nat.{_≤_};
@@ -14,7 +15,8 @@ ghost use Rattle.model.specs.Buffer.{tuplesOf};
 ghost use Rattle.model.specs.Steps.{listed};
 ghost use Rattle.list.specs.Queries.{Readable, written};
 ghost use Rattle.list.specs.declared.Query.the-variants.{Pairs};
-ghost use Rattle.listing.specs.Lists.{pairQuery, queryOf, NamesAsked};
+ghost use Rattle.listing.specs.Lists.{pairsHint, listHint, pairQuery, queryOf, NamesAsked};
+ghost use Rattle.operate.specs.Operate.{NearIn};
 
 // The query for the pairs of the call's node in its space, with edge g and node m (0: any).
 fn pair_query(d: Direction, f: Fields, g: u32, m: u32, part: Part) -> Query
@@ -47,18 +49,46 @@ pub fn query_of(l: Listing, c: Call) -> Query
     }
 }
 
-// The number of entries that an S operator lists.
-pub fn count_listed(b: &[u32], l: Listing, c: Call) -> usize
-    requires { ⌜ Readable (now b) × NamesAsked l c ⌝ }
-    ensures { λ r. ⌜ r ≡ length (listed l c (tuplesOf (now (b .entry)))) ⌝ }
+// Where the walk for pairs starts: edges from n stand behind n, edges to n anywhere in the space.
+fn pairs_hint(d: Direction, near: Near) -> usize
+    ensures { λ r. ⌜ r ≡ pairsHint d near ⌝ }
 {
-    list::count_entries(b, query_of(l, c))
+    match d {
+        Direction::Outpointing => near.node,
+        Direction::Inpointing => near.space,
+        Direction::Adjacent => near.space,
+    }
 }
 
-// The entries written to the first places of a list that has room for them; the rest stays.
-pub fn write_listed(b: &[u32], l: Listing, c: Call, list: &mut [u32])
-    requires { ⌜ Readable (now b) × NamesAsked l c × (length (listed l c (tuplesOf (now b))) ≤ length (now list)) ⌝ }
-    ensures { λ _. ⌜ now (list .exit) ≡ written (listed l c (tuplesOf (now (b .entry)))) (now (list .entry)) ⌝ }
+// Where the walk of an S operator starts.
+fn list_hint(l: Listing, near: Near) -> usize
+    ensures { λ r. ⌜ r ≡ listHint l near ⌝ }
 {
-    list::write_entries(b, query_of(l, c), list);
+    match l {
+        Listing::P(d) => pairs_hint(d, near),
+        Listing::G(d) => pairs_hint(d, near),
+        Listing::GN(d) => pairs_hint(d, near),
+        Listing::N(d) => pairs_hint(d, near),
+        Listing::NG(d) => pairs_hint(d, near),
+        Listing::UN => near.space,
+        Listing::US => 0,
+        Listing::USn => 0,
+    }
+}
+
+// The number of entries that an S operator lists.
+pub fn count_listed(b: &[u32], near: Near, l: Listing, c: Call) -> usize
+    requires { ⌜ Readable (now b) × NearIn (now b) near × NamesAsked l c ⌝ }
+    ensures { λ r. ⌜ r ≡ length (listed l c (tuplesOf (now (b .entry)))) ⌝ }
+{
+    list::count_entries(b, list_hint(l, near), query_of(l, c))
+}
+
+// The entries written to the first places of a list that has room for them, and their number; the rest stays.
+pub fn write_listed(b: &[u32], near: Near, l: Listing, c: Call, list: &mut [u32]) -> usize
+    requires { ⌜ Readable (now b) × NearIn (now b) near × NamesAsked l c × (length (listed l c (tuplesOf (now b))) ≤ length (now list)) ⌝ }
+    ensures { λ r. ⌜ r ≡ length (listed l c (tuplesOf (now (b .entry)))) ⌝ }
+    ensures list { λ _. ⌜ now (list .exit) ≡ written (listed l c (tuplesOf (now (b .entry)))) (now (list .entry)) ⌝ }
+{
+    list::write_entries(b, list_hint(l, near), query_of(l, c), list)
 }

@@ -5,6 +5,7 @@ use model::Call;
 use model::Operator;
 use model::Removal;
 use model::Space;
+use operate::Near;
 ghost use mathlib.Core.Bool.{true, _||_};
 ghost use mathlib.Core.Path.{_≡_};
 ghost use lib.Dec.{eqb};
@@ -13,6 +14,7 @@ ghost use Rattle.model.specs.Operators.{within};
 ghost use Rattle.model.specs.Buffer.{tuplesOf, isStore};
 ghost use Rattle.model.specs.Steps.{spaceNumber, firstArgument, destroyed};
 ghost use Rattle.chain.specs.Links.{Edited};
+ghost use Rattle.operate.specs.Operate.{NearIn};
 ghost use Rattle.perform.specs.Perform.{NamesRead, Ready, Performed};
 
 // Operators whose first argument is the space: 51, 52, 55.
@@ -50,46 +52,49 @@ fn first_argument(c: Call) -> u16
 }
 
 // D: removes what the operator names.
-fn destroy(b: &mut [u32], r: Removal, c: Call)
-    requires { ⌜ (isStore (now b) ≡ true) × NamesRead r c ⌝ }
+fn destroy(b: &mut [u32], near: Near, r: Removal, c: Call)
+    requires { ⌜ (isStore (now b) ≡ true) × NearIn (now b) near × NamesRead r c ⌝ }
     ensures { λ _. ⌜ Edited (now (b .entry)) (now (b .exit)) (destroyed r c (tuplesOf (now (b .entry)))) ⌝ }
 {
     match r {
-        Removal::P(d) => operate::destroy_pair(b, d, c),
-        Removal::G(d) => operate::destroy_edges(b, d, c),
-        Removal::GG(d) => operate::destroy_edges_named(b, d, c),
-        Removal::GN(d) => operate::destroy_edges_between(b, d, c),
-        Removal::N(d) => collect::destroy_nodes(b, d, c),
-        Removal::NG(d) => collect::destroy_nodes_by_edge(b, d, c),
-        Removal::UN => operate::destroy_node(b, c),
-        Removal::US => operate::destroy_space(b, c),
+        Removal::P(d) => operate::destroy_pair(b, near, d, c),
+        Removal::G(d) => operate::destroy_edges(b, near, d, c),
+        Removal::GG(d) => operate::destroy_edges_named(b, near, d, c),
+        Removal::GN(d) => operate::destroy_edges_between(b, near, d, c),
+        Removal::N(d) => collect::destroy_nodes(b, near, d, c),
+        Removal::NG(d) => collect::destroy_nodes_by_edge(b, near, d, c),
+        Removal::UN => operate::destroy_node(b, near, c),
+        Removal::US => operate::destroy_space(b, near, c),
     }
 }
 
-// The step of an operator, and its answer.
-pub fn perform(store: &mut [u32], op: Operator, c: Call, list: &mut [u32]) -> Answer
-    requires { ⌜ (isStore (now store) ≡ true) × Ready op c (now store) (length (now list)) ⌝ }
+// The step of an operator, and its answer; `near` and `universe` are hints in the call's space and in UNIVERSE.
+pub fn perform(
+    store: &mut [u32],
+    near: Near,
+    universe: Near,
+    op: Operator,
+    c: Call,
+    list: &mut [u32],
+) -> Answer
+    requires { ⌜ (isStore (now store) ≡ true) × NearIn (now store) near × NearIn (now store) universe × Ready op c (now store) (length (now list)) ⌝ }
     ensures { λ r. ⌜ Performed op c (now (store .entry)) (now (list .entry)) r (now (store .exit)) (now (list .exit)) ⌝ }
 {
     match op {
         Operator::Create(o) => {
-            operate::create(store, o, c);
+            operate::create(store, near, universe, o, c);
             Answer::Name(first_argument(c))
         }
         Operator::Bind(o) => {
-            operate::bind(store, o, c);
+            operate::bind(store, near, o, c);
             Answer::Name(first_argument(c))
         }
-        Operator::Value(o) => Answer::Value(operate::value_of(store, o, c)),
-        Operator::Exists(o) => Answer::YesNo(operate::exists(store, o, c)),
+        Operator::Value(o) => Answer::Value(operate::value_of(store, near, o, c)),
+        Operator::Exists(o) => Answer::YesNo(operate::exists(store, near, o, c)),
         Operator::Destroy(r) => {
-            destroy(store, r, c);
+            destroy(store, near, r, c);
             Answer::Name(first_argument(c))
         }
-        Operator::List(l) => {
-            let k = listing::count_listed(store, l, c);
-            listing::write_listed(store, l, c, list);
-            Answer::List(k)
-        }
+        Operator::List(l) => Answer::List(listing::write_listed(store, near, l, c, list)),
     }
 }

@@ -1,6 +1,7 @@
 // Conditions 2 to 10 in their order: which one stops a call on a store.
 use model::Call;
 use model::Operator;
+use operate::Near;
 ghost use mathlib.Core.Path.{_≡_};
 ghost use mathlib.Core.Bool.{true, false};
 ghost use Prim.Native.Nat.{_-_};
@@ -11,11 +12,12 @@ ghost use Rattle.model.specs.Buffer.{capacityOf, tuplesOf, isStore};
 ghost use Rattle.model.specs.Steps.{wouldList, wouldAdd};
 ghost use Rattle.model.specs.Refusals.{noOperator, zeroName, listShort, full, refusalOf};
 ghost use Rattle.chain.specs.Links.{Linked};
+ghost use Rattle.operate.specs.Operate.{NearIn};
 ghost use Rattle.refusals.specs.Numbers.{stopNumber};
 
 // How many entries the call would list; none but for S.
-fn count_asked(b: &[u32], c: Call) -> usize
-    requires { ⌜ (isStore (now b) ≡ true) × (noOperator c ≡ false) × (zeroName c ≡ false) ⌝ }
+fn count_asked(b: &[u32], near: Near, c: Call) -> usize
+    requires { ⌜ (isStore (now b) ≡ true) × NearIn (now b) near × (noOperator c ≡ false) × (zeroName c ≡ false) ⌝ }
     ensures { λ r. ⌜ r ≡ length (wouldList (operatorOf (c .operator)) c (tuplesOf (now (b .entry)))) ⌝ }
 {
     let op = decode::operator_of(c.operator);
@@ -25,26 +27,26 @@ fn count_asked(b: &[u32], c: Call) -> usize
         Operator::Value(o) => 0,
         Operator::Exists(o) => 0,
         Operator::Destroy(r) => 0,
-        Operator::List(l) => listing::count_listed(b, l, c),
+        Operator::List(l) => listing::count_listed(b, near, l, c),
     }
 }
 
 // Condition 9: the answer list is shorter than what the call would list.
-fn is_short(b: &[u32], c: Call, room: usize) -> bool
-    requires { ⌜ (isStore (now b) ≡ true) × (noOperator c ≡ false) × (zeroName c ≡ false) ⌝ }
+fn is_short(b: &[u32], near: Near, c: Call, room: usize) -> bool
+    requires { ⌜ (isStore (now b) ≡ true) × NearIn (now b) near × (noOperator c ≡ false) × (zeroName c ≡ false) ⌝ }
     ensures { λ r. ⌜ r ≡ listShort c (tuplesOf (now (b .entry))) room ⌝ }
 {
-    room < count_asked(b, c)
+    room < count_asked(b, near, c)
 }
 
 // How many tuples the call would add; none but for C.
-fn count_added(b: &[u32], c: Call) -> usize
-    requires { ⌜ Linked (now b) ⌝ }
+fn count_added(b: &[u32], near: Near, universe: Near, c: Call) -> usize
+    requires { ⌜ Linked (now b) × NearIn (now b) near × NearIn (now b) universe ⌝ }
     ensures { λ r. ⌜ r ≡ length (missing (wouldAdd (operatorOf (c .operator)) c) (tuplesOf (now (b .entry)))) ⌝ }
 {
     let op = decode::operator_of(c.operator);
     match op {
-        Operator::Create(o) => operate::count_created(b, o, c),
+        Operator::Create(o) => operate::count_created(b, near, universe, o, c),
         Operator::Bind(o) => 0,
         Operator::Value(o) => 0,
         Operator::Exists(o) => 0,
@@ -62,17 +64,18 @@ fn free_records(b: &[u32]) -> usize
 }
 
 // Condition 10: fewer records are free than the call would add tuples.
-fn is_full(b: &[u32], c: Call) -> bool
-    requires { ⌜ Linked (now b) ⌝ }
+fn is_full(b: &[u32], near: Near, universe: Near, c: Call) -> bool
+    requires { ⌜ Linked (now b) × NearIn (now b) near × NearIn (now b) universe ⌝ }
     ensures { λ r. ⌜ r ≡ full (capacityOf (now (b .entry))) c (tuplesOf (now (b .entry))) ⌝ }
 {
-    free_records(b) < count_added(b, c)
+    free_records(b) < count_added(b, near, universe, c)
 }
 
 // The number of the first of the conditions 2 to 10 that stops a call on a store; 0 for none. `room` is the length of the call's answer list.
 // pub for the crate above, which has proved that the buffer is a store.
-pub fn refusal_of(b: &[u32], c: Call, room: usize) -> u32
-    requires { ⌜ isStore (now b) ≡ true ⌝ }
+// `near` and `universe` are hints in the call's space and in UNIVERSE.
+pub fn refusal_of(b: &[u32], near: Near, universe: Near, c: Call, room: usize) -> u32
+    requires { ⌜ (isStore (now b) ≡ true) × NearIn (now b) near × NearIn (now b) universe ⌝ }
     ensures { λ r. ⌜ r ≡ stopNumber (refusalOf (capacityOf (now (b .entry))) (tuplesOf (now (b .entry))) c room) ⌝ }
 {
     if decode::no_operator(c) {
@@ -84,22 +87,22 @@ pub fn refusal_of(b: &[u32], c: Call, room: usize) -> u32
     if decode::destroys_universe(c) {
         return 4;
     }
-    if conditions::space_absent(b, c) {
+    if conditions::space_absent(b, near, c) {
         return 5;
     }
-    if conditions::node_absent(b, c) {
+    if conditions::node_absent(b, near, c) {
         return 6;
     }
-    if conditions::second_absent(b, c) {
+    if conditions::second_absent(b, near, c) {
         return 7;
     }
-    if conditions::edge_absent(b, c) {
+    if conditions::edge_absent(b, near, c) {
         return 8;
     }
-    if is_short(b, c, room) {
+    if is_short(b, near, c, room) {
         return 9;
     }
-    if is_full(b, c) {
+    if is_full(b, near, universe, c) {
         return 10;
     }
     0

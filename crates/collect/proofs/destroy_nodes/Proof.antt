@@ -9,15 +9,15 @@ use Rattle.collect.proofs.destroy_nodes.Reads as reads
 use Rattle.collect.proofs.destroy_nodes.Lts as lts
 use Rattle.collect.proofs.remove_listed.Reads as remove-listed-reads
 
--- src/lib.rt:49:5
+-- src/lib.rt:50:5
 remove-listed-requires : tie.Need-remove-listed-requires
-remove-listed-requires c κs = (store-readable _ (c .before .before .pre), tt, neighbours-listed _ _ _ (store-tuples _ (c .before .before .pre)))
+remove-listed-requires c κs = (store-readable _ (c .before .before .pre .0), c .before .before .pre .1, tt, neighbours-listed _ _ _ (store-tuples _ (c .before .before .pre .0)))
 
--- src/lib.rt:45:1
+-- src/lib.rt:46:1
 same-length : tie.Need-same-length
 same-length c = search needs
 
--- src/lib.rt:45:1
+-- src/lib.rt:46:1
 returns : tie.Need-returns
 unfolding destroyed listed
 returns c = c .before .before .remove-listed .ensures

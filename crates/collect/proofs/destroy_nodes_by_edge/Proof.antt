@@ -9,15 +9,15 @@ use Rattle.collect.proofs.destroy_nodes_by_edge.Reads as reads
 use Rattle.collect.proofs.destroy_nodes_by_edge.Lts as lts
 use Rattle.collect.proofs.remove_listed.Reads as remove-listed-reads
 
--- src/lib.rt:57:5
+-- src/lib.rt:58:5
 remove-listed-requires : tie.Need-remove-listed-requires
-remove-listed-requires c κs = (store-readable _ (c .before .before .pre .0), c .before .before .pre .1, neighbours-by-edge _ _ _ (store-tuples _ (c .before .before .pre .0)))
+remove-listed-requires c κs = (store-readable _ (c .before .before .pre .0), c .before .before .pre .1, c .before .before .pre .2, neighbours-by-edge _ _ _ (store-tuples _ (c .before .before .pre .0)))
 
--- src/lib.rt:53:1
+-- src/lib.rt:54:1
 same-length : tie.Need-same-length
 same-length c = search needs
 
--- src/lib.rt:53:1
+-- src/lib.rt:54:1
 returns : tie.Need-returns
 unfolding destroyed listed
 returns c = c .before .before .remove-listed .ensures

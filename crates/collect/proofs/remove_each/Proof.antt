@@ -1,3 +1,4 @@
+use Rattle.chain.proofs.Hints.{no-hint}
 use Rattle.collect.proofs.Collects.{Removing, removing-none, removing-next, removing-all}
 use Prim.Native.Nat.{_-_}
 use native.Mathlib.Omega.{arith}
@@ -28,7 +29,7 @@ shared-slice-read-t12 c = omega (arith, c .before .before .loop-test .taken, c .
 
 -- src/lib.rt:27:9
 remove-node-requires : tie.Need-remove-node-requires Inv-loop μ-loop
-remove-node-requires c κs = (c .before .before .before .loop .inv .done .linked, c .before .before .before .before .before .before .pre .2 _ (c .before .before .loop-test .taken))
+remove-node-requires c κs = (c .before .before .before .loop .inv .done .linked, no-hint _, c .before .before .before .before .before .before .pre .2 _ (c .before .before .loop-test .taken))
 
 -- src/lib.rt:28:9
 add-i : tie.Need-add-i Inv-loop μ-loop

@@ -7,11 +7,11 @@ use Rattle.conditions.proofs.key_absent.Reads as reads
 use Rattle.conditions.proofs.key_absent.Lts as lts
 use Rattle.chain.proofs.has.Reads as has-reads
 
--- src/lib.rt:20:6
+-- src/lib.rt:153:6
 has-requires : tie.Need-has-requires
 has-requires c κs = search needs
 
--- src/lib.rt:16:1
+-- src/lib.rt:149:1
 returns : tie.Need-returns
 returns c = ap not (c .has .ensures)
 
