@@ -40,7 +40,7 @@ enum-known-op-6 c = search needs
 
 -- src/lib.rt:28:30
 count-listed-requires : tie.Need-count-listed-requires
-count-listed-requires c κs = (store-readable _ (c .before .before .before .before .before .pre .0), names-asked _ (c .before .before .before .before .before .args .c) (c .before .before .before .before .before .pre .1) (c .before .before .before .before .before .pre .2) (sym (c .before .before .before .operator-of .ensures) ∙ c .before .op6 .given .1))
+count-listed-requires c κs = (store-readable _ (c .before .before .before .before .before .pre .0), c .before .before .before .before .before .pre .1, names-asked _ (c .before .before .before .before .before .args .c) (c .before .before .before .before .before .pre .2) (c .before .before .before .before .before .pre .3) (sym (c .before .before .before .operator-of .ensures) ∙ c .before .op6 .given .1))
 
 -- src/lib.rt:17:1
 returns : tie.Need-returns

@@ -17,7 +17,7 @@ count-added-requires c κs = search needs
 
 -- src/lib.rt:65:1
 returns : tie.Need-returns
-returns c = full-told _ (c .before .before .before .args .c) _ _ (c .before .before .before .pre) (c .before .free-records .ensures) (c .count-added .ensures)
+returns c = full-told _ (c .before .before .before .args .c) _ _ (c .before .before .before .pre .0) (c .before .free-records .ensures) (c .count-added .ensures)
 
 pub is-full-spec : {M : Type 1} → statement M
 is-full-spec = tie.close (tie.spec free-records-requires count-added-requires returns)
