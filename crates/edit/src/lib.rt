@@ -90,11 +90,11 @@ pub fn sweep(b: &mut [u32], hint: usize, sel: Selection)
     let mut before = start_behind(b, hint, span);
     let mut at = records::next_of(b, before);
     while at != 0 {
+        let after = records::next_of(b, at);
         let k = records::key_of(b, at);
         if select::is_beyond(span, k) {
             return;
         }
-        let after = records::next_of(b, at);
         before = keep_or_remove(b, sel, before, at, k);
         at = after;
     }

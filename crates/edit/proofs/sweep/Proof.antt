@@ -36,36 +36,36 @@ loop-holds : tie.Need-loop-holds Inv-loop μ-loop
 loop-holds c = sweep-start _ _ _ _ _ (c .before .before .before .before .before .before .pre .0) (c .before .before .before .before .before .before .pre .2) (c .before .before .before .before .span-of .ensures) (c .before .before .start-behind .ensures) (c .next-of .ensures) .1
 
 -- src/lib.rt:93:13
-key-of-requires : tie.Need-key-of-requires Inv-loop μ-loop
-key-of-requires c κs = sweep-inside _ _ _ _ _ (c .before .before .loop .inv) (c .before .loop-test .taken)
+next-of-requires-2 : tie.Need-next-of-requires-2 Inv-loop μ-loop
+next-of-requires-2 c κs = sweep-inside _ _ _ _ _ (c .before .before .loop .inv) (c .before .loop-test .taken)
 
--- src/lib.rt:94:12
+-- src/lib.rt:94:13
+key-of-requires : tie.Need-key-of-requires Inv-loop μ-loop
+key-of-requires c κs = sweep-inside _ _ _ _ _ (c .before .before .before .before .loop .inv) (c .before .before .before .loop-test .taken)
+
+-- src/lib.rt:95:12
 is-beyond-requires : tie.Need-is-beyond-requires Inv-loop μ-loop
 is-beyond-requires c κs = search needs
 
--- src/lib.rt:95:13
+-- src/lib.rt:96:13
 same-length : tie.Need-same-length Inv-loop μ-loop
 same-length c = search needs
 
--- src/lib.rt:95:13
+-- src/lib.rt:96:13
 returns : tie.Need-returns Inv-loop μ-loop
-returns c = sweep-beyond _ _ _ _ _ (c .before .before .before .before .before .loop .inv) (c .before .before .before .before .loop-test .taken) _ _ _ (c .before .before .before .before .before .before .before .before .before .before .span-of .ensures) (c .before .before .key-of .ensures) (c .before .is-beyond .ensures) (c .if1 .taken) (c .before .before .before .before .before .before .before .before .before .before .before .before .pre .0) (c .before .before .before .before .before .before .before .before .before .before .before .before .pre .2)
-
--- src/lib.rt:97:13
-next-of-requires-2 : tie.Need-next-of-requires-2 Inv-loop μ-loop
-next-of-requires-2 c κs = sweep-inside _ _ _ _ _ (c .before .before .before .before .before .before .loop .inv) (c .before .before .before .before .before .loop-test .taken)
+returns c = sweep-beyond _ _ _ _ _ (c .before .before .before .before .before .before .before .loop .inv) (c .before .before .before .before .before .before .loop-test .taken) _ _ _ (c .before .before .before .before .before .before .before .before .before .before .before .before .span-of .ensures) (c .before .before .key-of .ensures) (c .before .is-beyond .ensures) (c .if1 .taken) (c .before .before .before .before .before .before .before .before .before .before .before .before .before .before .pre .0) (c .before .before .before .before .before .before .before .before .before .before .before .before .before .before .pre .2)
 
 -- src/lib.rt:98:9
 keep-or-remove-requires : tie.Need-keep-or-remove-requires Inv-loop μ-loop
-keep-or-remove-requires c κs = (sweep-unlinking _ _ _ _ _ (c .before .before .before .before .before .before .before .before .loop .inv) (c .before .before .before .before .before .before .before .loop-test .taken), c .before .before .before .before .before .before .before .before .loop .inv .here, c .before .before .before .before .before .key-of .ensures)
+keep-or-remove-requires c κs = (sweep-unlinking _ _ _ _ _ (c .before .before .before .before .before .before .before .before .loop .inv) (c .before .before .before .before .before .before .before .loop-test .taken), c .before .before .before .before .before .before .before .before .loop .inv .here, c .before .before .before .key-of .ensures)
 
 -- src/lib.rt:92:5
 loop-less : tie.Need-loop-less Inv-loop μ-loop
-loop-less c = sweep-less _ _ _ _ _ (c .before .before .before .before .before .before .before .before .before .before .before .loop .inv) (c .before .before .before .before .before .before .before .before .before .before .loop-test .taken) _ _ _ (c .before .before .before .before .next-of2 .ensures) (c .before .before .keep-or-remove .ensures)
+loop-less c = sweep-less _ _ _ _ _ (c .before .before .before .before .before .before .before .before .before .before .before .loop .inv) (c .before .before .before .before .before .before .before .before .before .before .loop-test .taken) _ _ _ (c .before .before .before .before .before .before .before .before .next-of2 .ensures) (c .before .before .keep-or-remove .ensures)
 
 -- src/lib.rt:92:5
 loop-again : tie.Need-loop-again Inv-loop μ-loop
-loop-again c = sweep-on _ _ _ _ _ (c .before .before .before .before .before .before .before .before .before .before .before .loop .inv) (c .before .before .before .before .before .before .before .before .before .before .loop-test .taken) _ _ _ (c .before .before .before .before .next-of2 .ensures) (c .before .before .keep-or-remove .ensures)
+loop-again c = sweep-on _ _ _ _ _ (c .before .before .before .before .before .before .before .before .before .before .before .loop .inv) (c .before .before .before .before .before .before .before .before .before .before .loop-test .taken) _ _ _ (c .before .before .before .before .before .before .before .before .next-of2 .ensures) (c .before .before .keep-or-remove .ensures)
 
 -- src/lib.rt:85:1
 same-length-2 : tie.Need-same-length-2 Inv-loop μ-loop
@@ -85,11 +85,11 @@ sweep-spec =
     start-behind-requires
     next-of-requires
     loop-holds
+    next-of-requires-2
     key-of-requires
     is-beyond-requires
     same-length
     returns
-    next-of-requires-2
     keep-or-remove-requires
     loop-less
     loop-again
