@@ -26,7 +26,7 @@ use Rattle.records.specs.Words.{Inside}
 use Rattle.records.proofs.Words.{inside}
 use Rattle.chain.specs.declared.Place.{Place}
 use Rattle.chain.specs.Links.{Linked, placeIn, Edited, Unlinking, removeAfter}
-use Rattle.chain.proofs.Found.{lastOf, AtPlace, at-place}
+use Rattle.chain.proofs.Found.{lastOf, at-place}
 use Rattle.chain.proofs.Walks.{Rest, remaining, remaining-is, at-end}
 use Rattle.chain.proofs.Paths.{chain-split, within-right, map-append}
 use Rattle.chain.proofs.Relinked.{Removed, remove-reads, Parts, removing, apart, removed-rules}

@@ -1,7 +1,7 @@
 -- The span of a selection: no key below its start and none from a key beyond it on is taken.
-use mathlib.Core.Bool.{Bool, true, false, cond, _&&_, _||_, false≢true}
+use mathlib.Core.Bool.{Bool, true, false, cond, _||_, false≢true}
 use mathlib.Core.Logic.{_⊎_, inl, inr, ⊎-elim}
-use mathlib.Core.Path.{_≡_, refl, sym, ap, _∙_, subst}
+use mathlib.Core.Path.{_≡_, refl, sym, ap, _∙_}
 use Prim.Native.Nat.{ℕ, _<_, _≤_, compare, Ordering, Ordering·lt, Ordering·eq, Ordering·gt}
 use native.Mathlib.Omega.{arith}
 use lib.Dec.{eqb, ltb}
@@ -14,7 +14,7 @@ use Rattle.model.specs.Ordered.{thenBy}
 use Rattle.model.specs.Keys.{nodeKey, compareKeys}
 use Rattle.model.specs.Pairs.{outPair, pairsAt, anyPair}
 use Rattle.model.specs.Steps.{reaches, edgesTaken, nodeTaken, spaceTaken}
-use Rattle.model.proofs.Bools.{or-cases, or-left, or-right, and-left, and-right, and-both, failed, clash}
+use Rattle.model.proofs.Bools.{or-cases, or-right, and-left, and-right, and-both, failed, clash}
 use Rattle.model.proofs.Order.{lt≢gt, compare-lt, compare-eq}
 use Rattle.select.specs.declared.EdgesOf.{EdgesOf}
 use Rattle.select.specs.declared.NodeOf.{NodeOf}
