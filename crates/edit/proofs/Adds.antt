@@ -65,7 +65,7 @@ module _ (b : List ℕ) (k : Key) (L : Linked b) (at : ℕ) (e : at ≡ placeIn 
 -- ---- the key is missing
 
 -- a list that is not empty ends with its last
-snoc : (is : List ℕ) → is ≢ [] → (last : ℕ) → (init : List ℕ) × (is ≡ init ++ (lastOf last is ∷ []))
+pub snoc : (is : List ℕ) → is ≢ [] → (last : ℕ) → (init : List ℕ) × (is ≡ init ++ (lastOf last is ∷ []))
 snoc [] h last = absurd (h refl)
 snoc (i ∷ []) h last = ([], refl)
 snoc (i ∷ j ∷ js) h last =

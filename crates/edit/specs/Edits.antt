@@ -3,13 +3,15 @@ use mathlib.Core.Bool.{Bool, true, false, cond}
 use mathlib.Core.List.{List}
 use mathlib.Core.Path.{_≡_}
 use Prim.Native.Nat.{ℕ, _<_}
+use lib.Dec.{eqb}
 use lib.ListN.{length}
 use Rattle.model.specs.declared.Key.{Key}
 use Rattle.model.specs.Tuples.{present}
-use Rattle.model.specs.Buffer.{capacityOf, keyAt, tuplesOf}
-use Rattle.chain.specs.Links.{Linked, removeAfter}
+use Rattle.model.specs.Buffer.{word, capacityOf, keyAt, usedOf, tuplesOf}
+use Rattle.chain.specs.Links.{Linked, placeIn, removeAfter}
 use Rattle.select.specs.declared.Selection.{Selection}
-use Rattle.select.specs.Selections.{takenBy}
+use Rattle.select.specs.declared.Span.{Span}
+use Rattle.select.specs.Selections.{takenBy, spanStart}
 
 -- room for a key that is missing
 pub record Adding (b : List ℕ) (k : Key) : Type 0 where
@@ -20,3 +22,11 @@ pub record Adding (b : List ℕ) (k : Key) : Type 0 where
 pub record Turned (b : List ℕ) (sel : Selection) (before at left : ℕ) (b′ : List ℕ) : Type 0 where
   pub answer : left ≡ cond (takenBy sel (keyAt b at)) before at
   pub buffer : b′ ≡ cond (takenBy sel (keyAt b at)) (removeAfter b before) b
+
+-- the record before a place, and the first record where none is before it
+abbrev pub orFirst : List ℕ → ℕ → ℕ
+orFirst b before = cond (eqb before 0) (word b 1) before
+
+-- the record that a sweep of a span starts behind
+unfoldable pub sweepStart : List ℕ → Span → ℕ
+sweepStart b span = orFirst b (placeIn (keyAt b) (spanStart span) 0 (usedOf b) .before)

@@ -3,6 +3,7 @@
 // Each function is pub for the crates above, which have proved what it requires.
 use model::Key;
 use select::Selection;
+use select::Span;
 ghost use mathlib.Core.Path.{_≡_};
 ghost use mathlib.Core.Bool.{false};
 ghost use Rattle.model.specs.Keys.{spaceKey};
@@ -10,7 +11,7 @@ ghost use Rattle.model.specs.Tuples.{present, add, assign, remove};
 ghost use Rattle.model.specs.Buffer.{next, keyAt, usedOf, tuplesOf};
 ghost use Rattle.chain.specs.Links.{Linked, Hint, KeepsHints, placeIn, Edited, Unlinking};
 ghost use Rattle.select.specs.Selections.{takenBy};
-ghost use Rattle.edit.specs.Edits.{Adding, Turned};
+ghost use Rattle.edit.specs.Edits.{Adding, Turned, sweepStart};
 
 // Is a key present, by the record at its place.
 fn held_at(b: &[u32], k: Key, at: usize) -> bool
@@ -49,28 +50,52 @@ pub fn assign_value(b: &mut [u32], hint: usize, k: Key, v: u32)
     records::put_value(b, at, v);
 }
 
-// The tuple of record `at` is removed where the selection takes it; the answer is the record that then stands before the next.
-fn keep_or_remove(b: &mut [u32], sel: Selection, before: usize, at: usize) -> usize
-    requires { ⌜ Unlinking (now b) before × (at ≡ next (now b) before) ⌝ }
+// The tuple of record `at`, whose key is k, is removed where the selection takes it; the answer is the record that then stands before the next.
+fn keep_or_remove(b: &mut [u32], sel: Selection, before: usize, at: usize, k: Key) -> usize
+    requires { ⌜ Unlinking (now b) before × (at ≡ next (now b) before) × (k ≡ keyAt (now b) at) ⌝ }
     ensures { λ r. ⌜ Turned (now (b .entry)) sel before at r (now (b .exit)) ⌝ }
 {
-    if select::takes(sel, records::key_of(b, at)) {
+    if select::takes(sel, k) {
         chain::remove_after(b, before);
         return before;
     }
     at
 }
 
+// The record that a sweep of a span starts behind: the last one below it; the first one where none is below.
+fn start_behind(b: &[u32], hint: usize, span: Span) -> usize
+    requires { ⌜ Linked (now b) × Hint (now b) hint ⌝ }
+    ensures { λ r. ⌜ r ≡ sweepStart (now (b .entry)) span ⌝ }
+{
+    let first = Key {
+        s: span.s,
+        n: span.n,
+        g: 0,
+        m: 0,
+    };
+    let place = chain::seek(b, hint, first);
+    if place.before == 0 {
+        return records::head_word(b, 1);
+    }
+    place.before
+}
+
 // Removes in one walk every tuple that the selection takes; it may not take UNIVERSE.
+// The walk goes over the selection's span and no further.
 pub fn sweep(b: &mut [u32], hint: usize, sel: Selection)
     requires { ⌜ Linked (now b) × Hint (now b) hint × (takenBy sel (spaceKey 0) ≡ false) ⌝ }
     ensures { λ _. ⌜ Edited (now (b .entry)) (now (b .exit)) (remove (takenBy sel) (tuplesOf (now (b .entry)))) ⌝ }
 {
-    let mut before = records::head_word(b, 1);
+    let span = select::span_of(sel);
+    let mut before = start_behind(b, hint, span);
     let mut at = records::next_of(b, before);
     while at != 0 {
         let after = records::next_of(b, at);
-        before = keep_or_remove(b, sel, before, at);
+        let k = records::key_of(b, at);
+        if select::is_beyond(span, k) {
+            return;
+        }
+        before = keep_or_remove(b, sel, before, at, k);
         at = after;
     }
 }

@@ -6,7 +6,7 @@ ghost use mathlib.Core.Path.{_≡_};
 ghost use lib.Dec.{eqb};
 ghost use Rattle.model.specs.Pairs.{pair, outPair, inPair, pairsAt, anyPair};
 ghost use Rattle.model.specs.Steps.{reaches, edgesTaken, nodeTaken};
-ghost use Rattle.select.specs.Selections.{passes, takenBy};
+ghost use Rattle.select.specs.Selections.{passes, takenBy, fromNode, spanOf, beyond};
 
 // The edges of pairs of node n in space s (0: in all spaces), with edge g and node m (0: any).
 pub struct EdgesOf {
@@ -28,6 +28,12 @@ pub enum Selection {
     Node(NodeOf),
     // A space and all in it.
     Space(u32),
+}
+
+// The keys of space s (0: of all spaces) and, in it, of node n (0: of all nodes).
+pub struct Span {
+    pub s: u32,
+    pub n: u32,
 }
 
 // Does removing from space s reach the key's space.
@@ -135,4 +141,48 @@ pub fn takes(sel: Selection, k: Key) -> bool
         Selection::Node(x) => node_taken(x, k),
         Selection::Space(s) => k.s == s,
     }
+}
+
+// The node that all edges of this direction start at; 0 for none in particular.
+fn from_node(d: Direction, n: u32) -> u32
+    ensures { λ r. ⌜ r ≡ fromNode d n ⌝ }
+{
+    match d {
+        Direction::Outpointing => n,
+        Direction::Inpointing => 0,
+        Direction::Adjacent => 0,
+    }
+}
+
+// The span in which all keys lie that the selection takes.
+pub fn span_of(sel: Selection) -> Span
+    ensures { λ r. ⌜ r ≡ spanOf sel ⌝ }
+{
+    match sel {
+        Selection::Edges(e) => {
+            let d = e.d;
+            Span {
+                s: e.s,
+                n: from_node(d, e.n),
+            }
+        }
+        Selection::Node(x) => Span { s: x.s, n: 0 },
+        Selection::Space(s) => Span { s: s, n: 0 },
+    }
+}
+
+// Does neither this key nor any above it lie in the span.
+pub fn is_beyond(span: Span, k: Key) -> bool
+    ensures { λ r. ⌜ r ≡ beyond span k ⌝ }
+{
+    if span.s == 0 {
+        return false;
+    }
+    if k.s != span.s {
+        return span.s < k.s;
+    }
+    if span.n == 0 {
+        return false;
+    }
+    span.n < k.n
 }
