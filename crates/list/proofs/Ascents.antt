@@ -12,38 +12,56 @@ use lib.Seq.{drop-cons, set-at}
 use borrow.Author.Tests.{lt-ltb, le-ltb}
 use Rattle.model.specs.declared.Key.{Key}
 use Rattle.model.specs.Ordered.{holds}
-use Rattle.model.specs.Buffer.{word, next, keyAt, tupleAt, tuplesOf}
+use Rattle.model.specs.Buffer.{next, keyAt, tupleAt, tuplesOf}
 use Rattle.model.specs.OneCall.{pack}
 use Rattle.model.proofs.Bools.{or-left, or-right}
+use Rattle.model.specs.Tuples.{Tuples}
 use Rattle.records.specs.Words.{Inside}
-use Rattle.chain.proofs.Walks.{Rest, remaining, Step, step, falls, at-end, used-rest}
+use Rattle.chain.proofs.Walks.{Rest, remaining, Step, step, falls}
 use Rattle.list.specs.declared.Query.{Query}
-use Rattle.list.specs.Queries.{firstAt, secondAt, queried, code, headCode, codes, rising, Readable, inOrder, written}
+use Rattle.list.specs.Queries.{firstAt, secondAt, queried, code, headCode, codes, rising, Readable, startIn, inOrder, written}
+use Rattle.list.proofs.Bounds.{Silent, Onward, onward-next, started}
 use Rattle.list.proofs.Members.{among, sameNumber, own-number, decoded}
 use Rattle.list.proofs.Sorted.{small-member, queried-small, rising-is}
 use Rattle.list.proofs.Orders.{no-second, in-order}
 use Rattle.list.proofs.Counted.{listCodes, entries-most, strip, strip-codes, map-snoc}
 
+-- tuples without entries change nothing in front of others, and alone they give none
+pub rising-silent : (q : Query) (seen : ℕ) (ts us : Tuples) → Silent q ts → rising seen (codes q (ts ++ us)) ≡ rising seen (codes q us)
+unfolding codes rising
+rising-silent q seen [] us h = refl
+rising-silent q seen (t ∷ ts) us h =
+    let rest : List ℕ = codes q (ts ++ us) in
+    ap₂ (λ (x y : ℕ). rising seen (x ∷ y ∷ rest)) (h .0) (h .1)
+    ∙ ap (λ (u : Bool). cond u (0 ∷ rising 0 (0 ∷ rest)) (cond u (0 ∷ rising 0 rest) (rising seen rest))) (le-ltb seen 0 (omega arith))
+    ∙ rising-silent q seen ts us (h .2)
+
+pub rising-none : (q : Query) (seen : ℕ) (ts : Tuples) → Silent q ts → rising seen (codes q ts) ≡ []
+unfolding codes rising
+rising-none q seen ts h = ap (λ (us : Tuples). rising seen (codes q us)) (sym (append-nil ts)) ∙ rising-silent q seen ts [] h
+
 -- the codes of the walked records are done, those that rise above `seen` are to come
 pub record Rising (b : List ℕ) (q : Query) (done seen at : ℕ) : Type 0 where
   pub walked : Rest b at
+  pub onward : Onward b q (walked .rest)
   pub front : List ℕ
   pub split : listCodes b q ≡ front ++ rising seen (codes q (map (tupleAt b) (walked .rest)))
   pub count : done ≡ length front
 
 module _ (b : List ℕ) (q : Query) (R : Readable b) (o : inOrder q ≡ true) where
-  from-head : Rising b q 0 0 (word b 1)
-  unfolding used-rest tuplesOf
-  from-head =
+  pub rise-start : (at : ℕ) → at ≡ startIn b q → Rising b q 0 0 at
+  rise-start at e =
+      let S = started b q (R .linked) at e in
       record {
-        walked = used-rest b (R .linked .chains);
+        walked = S .walked;
+        onward = S .onward;
         front = [];
-        split = sym (rising-is q (tuplesOf b) (R .small) (in-order q o (tuplesOf b) (R .small) (R .linked .ascends)));
+        split =
+            sym (rising-is q (tuplesOf b) (R .small) (in-order q o (tuplesOf b) (R .small) (R .linked .ascends)))
+            ∙ ap (λ (ts : Tuples). rising 0 (codes q ts)) (S .split)
+            ∙ rising-silent q 0 (S .before) (map (tupleAt b) (S .walked .rest)) (S .silent);
         count = refl;
       }
-
-  pub rise-start : (at : ℕ) → at ≡ word b 1 → Rising b q 0 0 at
-  rise-start at e = subst (Rising b q 0 0) (sym e) from-head
 
   module _ (done seen at : ℕ) (W : Rising b q done seen at) where
     pub rise-inside : at ≢ 0 → Inside b at
@@ -73,6 +91,7 @@ module _ (b : List ℕ) (q : Query) (R : Readable b) (o : inOrder q ≡ true) wh
         let T = step b at (W .walked) h in
         record {
           walked = T .after;
+          onward = onward-next b q at (W .walked .rest) T (W .onward);
           front = W .front;
           split =
               turn h k e ek ee T
@@ -99,6 +118,7 @@ module _ (b : List ℕ) (q : Query) (R : Readable b) (o : inOrder q ≡ true) wh
       take-one more em =
           record {
             walked = T .after;
+            onward = onward-next b q at (W .walked .rest) T (W .onward);
             front = W .front ++ (e ∷ []);
             split = risen ∙ sym (append-assoc (W .front) (e ∷ []) (rising e (codes q (map (tupleAt b) (T .after .rest)))));
             count = omega (arith, em, W .count, length-append (W .front) (e ∷ []));
@@ -139,15 +159,15 @@ module _ (b : List ℕ) (q : Query) (R : Readable b) (o : inOrder q ≡ true) wh
           entries-most b q R,
         )
 
-    all-done : at ≡ 0 → listCodes b q ≡ W .front
-    unfolding codes rising
-    all-done z =
-        W .split
-        ∙ ap (λ (is : List ℕ). W .front ++ rising seen (codes q (map (tupleAt b) is))) (at-end b at (W .walked) z)
-        ∙ append-nil (W .front)
+    module _ (none : Silent q (map (tupleAt b) (W .walked .rest))) where
+      all-done : listCodes b q ≡ W .front
+      all-done =
+          W .split
+          ∙ ap (λ (xs : List ℕ). W .front ++ xs) (rising-none q seen (map (tupleAt b) (W .walked .rest)) none)
+          ∙ append-nil (W .front)
 
-    pub rise-end : at ≡ 0 → done ≡ length (queried q (tuplesOf b))
-    rise-end z = W .count ∙ ap length (sym (all-done z)) ∙ length-map (queried q (tuplesOf b)) code
+      pub rise-end : done ≡ length (queried q (tuplesOf b))
+      rise-end = W .count ∙ ap length (sym all-done) ∙ length-map (queried q (tuplesOf b)) code
 
 -- ---- writing
 
@@ -156,9 +176,9 @@ pub record Filling (b : List ℕ) (q : Query) (l₀ l : List ℕ) (done seen at 
   pub places : l ≡ map strip (rises .front) ++ drop done l₀
 
 module _ (b : List ℕ) (q : Query) (R : Readable b) (o : inOrder q ≡ true) (l₀ : List ℕ) (room : length (queried q (tuplesOf b)) ≤ length l₀) where
-  pub fill-start : (at : ℕ) → at ≡ word b 1 → Filling b q l₀ l₀ 0 0 at
-  unfolding from-head
-  fill-start at e = subst (Filling b q l₀ l₀ 0 0) (sym e) (record { rises = from-head b q R o; places = refl })
+  pub fill-start : (at : ℕ) → at ≡ startIn b q → Filling b q l₀ l₀ 0 0 at
+  unfolding rise-start
+  fill-start at e = record { rises = rise-start b q R o at e; places = refl }
 
   module _ (l : List ℕ) (done seen at : ℕ) (W : Filling b q l₀ l done seen at) where
     pub fill-length : length l ≡ length l₀
@@ -203,9 +223,9 @@ module _ (b : List ℕ) (q : Query) (R : Readable b) (o : inOrder q ≡ true) (l
                 ∙ ap₂ _++_ (sym (map-snoc (W .rises .front) e)) (ap (λ (n : ℕ). drop n l₀) (sym (em ∙ add-one done)));
           })
 
-    pub fill-end : at ≡ 0 → l ≡ written (queried q (tuplesOf b)) l₀
+    pub fill-end : Silent q (map (tupleAt b) (W .rises .walked .rest)) → l ≡ written (queried q (tuplesOf b)) l₀
     unfolding written
-    fill-end z =
+    fill-end none =
         W .places
-        ∙ ap₂ (λ (xs : List ℕ) (n : ℕ). map strip xs ++ drop n l₀) (sym (all-done b q R o done seen at (W .rises) z)) (rise-end b q R o done seen at (W .rises) z)
+        ∙ ap₂ (λ (xs : List ℕ) (n : ℕ). map strip xs ++ drop n l₀) (sym (all-done b q R o done seen at (W .rises) none)) (rise-end b q R o done seen at (W .rises) none)
         ∙ ap (λ (xs : List ℕ). xs ++ drop (length (queried q (tuplesOf b))) l₀) (strip-codes (queried q (tuplesOf b)))

@@ -1,5 +1,5 @@
 -- The code of the entry that a key gives, one answer at a time.
-use mathlib.Core.Bool.{Bool, true, false, cond, not, _&&_}
+use mathlib.Core.Bool.{Bool, true, false, cond, not, _&&_, _||_}
 use mathlib.Core.List.{List, [], _∷_}
 use mathlib.Core.Path.{_≡_, refl, sym, ap, ap₂, _∙_}
 use Prim.Native.Nat.{ℕ, _+_, _*_}
@@ -19,7 +19,7 @@ use Rattle.list.specs.declared.Part.the-variants.{Both, Edge, Node}
 use Rattle.list.specs.declared.PairQuery.{PairQuery}
 use Rattle.list.specs.declared.Query.{Query}
 use Rattle.list.specs.declared.Query.the-variants.{Pairs, Nodes, Spaces, SpacesOf}
-use Rattle.list.specs.Queries.{partOf, chosen, firstPairs, secondPairs, firstAt, secondAt, code, headCode, pairsInOrder, inOrder}
+use Rattle.list.specs.Queries.{partOf, chosen, firstPairs, secondPairs, firstAt, secondAt, code, headCode, pairsStart, startKey, pairsOutside, outside, pairsInOrder, inOrder}
 
 pub packed : (edge node a b : ℕ) → a ≡ edge → b ≡ node → a * 65536 + b + 1 ≡ code (pair edge node)
 unfolding pack
@@ -210,3 +210,43 @@ module _ (q : PairQuery) (r : Bool) where
 
 pub query-case : (q x : Query) (r : Bool) → q ≡ x → r ≡ inOrder x → r ≡ inOrder q
 query-case q x r e er = er ∙ ap inOrder (sym e)
+
+-- ---- where the entries of a query can be
+
+pub start-pairs : (q : PairQuery) (d : Direction) (r : Key) → q .d ≡ d → r ≡ pairsStart d (q .s) (q .n) → r ≡ pairsStart (q .d) (q .s) (q .n)
+start-pairs q d r e er = er ∙ ap (λ (x : Direction). pairsStart x (q .s) (q .n)) (sym e)
+
+pub start-case : (q x : Query) (r : Key) → q ≡ x → r ≡ startKey x → r ≡ startKey q
+start-case q x r e er = er ∙ ap startKey (sym e)
+
+pub outside-case : (q x : Query) (k : Key) (r : Bool) → q ≡ x → r ≡ outside x k → r ≡ outside q k
+outside-case q x k r e er = er ∙ ap (λ (y : Query). outside y k) (sym e)
+
+module _ (q : PairQuery) (k : Key) where
+  pub outside-space : (k .s ≡ q .s → ⊥) → true ≡ outside (Pairs q) k
+  unfolding outside pairsOutside
+  outside-space d = go (q .d)
+    where
+      other : eqb (k .s) (q .s) ≡ false
+      other = ne-eqb (k .s) (q .s) d
+
+      go : (d : Direction) → true ≡ pairsOutside d (q .s) (q .n) k
+      go Outpointing = sym (ap (λ (t : Bool). not t || not (eqb (k .n) (q .n))) other)
+      go Inpointing = sym (ap not other)
+      go Adjacent = sym (ap not other)
+
+  module _ (e : k .s ≡ q .s) where
+    same : eqb (k .s) (q .s) ≡ true
+    same = eq-eqb (k .s) (q .s) e
+
+    pub outside-out : q .d ≡ Outpointing → not (eqb (k .n) (q .n)) ≡ outside (Pairs q) k
+    unfolding outside pairsOutside
+    outside-out d = sym (ap (λ (x : Direction). pairsOutside x (q .s) (q .n) k) d ∙ ap (λ (t : Bool). not t || not (eqb (k .n) (q .n))) same)
+
+    pub outside-in : q .d ≡ Inpointing → false ≡ outside (Pairs q) k
+    unfolding outside pairsOutside
+    outside-in d = sym (ap (λ (x : Direction). pairsOutside x (q .s) (q .n) k) d ∙ ap not same)
+
+    pub outside-both : q .d ≡ Adjacent → false ≡ outside (Pairs q) k
+    unfolding outside pairsOutside
+    outside-both d = sym (ap (λ (x : Direction). pairsOutside x (q .s) (q .n) k) d ∙ ap not same)

@@ -6,3 +6,4 @@ pub mod Walked
 pub mod Counted
 pub mod Orders
 pub mod Ascents
+pub mod Bounds

@@ -32,7 +32,7 @@ use Rattle.list.proofs.Sorted.{InOrder}
 
 -- ---- parts of keys in order
 
-then-lt : (x y : ℕ) (o : Ordering) → thenBy (compare x y) o ≡ Ordering·lt → (x < y) ⊎ ((x ≡ y) × (o ≡ Ordering·lt))
+pub then-lt : (x y : ℕ) (o : Ordering) → thenBy (compare x y) o ≡ Ordering·lt → (x < y) ⊎ ((x ≡ y) × (o ≡ Ordering·lt))
 then-lt x y o e = go (compare x y) refl e
   where
     go : (p : Ordering) → compare x y ≡ p → thenBy p o ≡ Ordering·lt → (x < y) ⊎ ((x ≡ y) × (o ≡ Ordering·lt))
@@ -41,7 +41,7 @@ then-lt x y o e = go (compare x y) refl e
     go Ordering·gt f h = absurd (lt≢gt (sym h))
 
 module _ (k j : Key) (e : compareKeys k j ≡ Ordering·lt) where
-  spaces-order : k .s ≤ j .s
+  pub spaces-order : k .s ≤ j .s
   unfolding compareKeys
   spaces-order = ⊎-elim (λ l. omega arith) (λ r. omega (arith, r .0)) (then-lt (k .s) (j .s) _ e)
 
@@ -50,7 +50,7 @@ module _ (k j : Key) (e : compareKeys k j ≡ Ordering·lt) where
     unfolding compareKeys
     after-s = ⊎-elim (λ l. absurd (omega arith)) (λ r. r .1) (then-lt (k .s) (j .s) _ e)
 
-    nodes-order : k .n ≤ j .n
+    pub nodes-order : k .n ≤ j .n
     nodes-order = ⊎-elim (λ l. omega arith) (λ r. omega (arith, r .0)) (then-lt (k .n) (j .n) _ after-s)
 
     edges-order : k .n ≡ j .n → (k .g < j .g) ⊎ ((k .g ≡ j .g) × (k .m < j .m))

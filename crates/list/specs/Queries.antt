@@ -9,13 +9,13 @@ use Rattle.model.specs.declared.Direction.{Direction}
 use Rattle.model.specs.declared.Direction.the-variants.{Outpointing, Inpointing, Adjacent}
 use Rattle.model.specs.declared.Key.{Key}
 use Rattle.model.specs.declared.Pair.{Pair}
-use Rattle.model.specs.Keys.{isNode}
+use Rattle.model.specs.Keys.{isNode, spaceKey, nodeKey}
 use Rattle.model.specs.Tuples.{Tuples}
 use Rattle.model.specs.Pairs.{pair, edgeOf, nodeOf, ascending, gather, onlyIf, outPair, inPair, spaceEntry}
 use Rattle.model.specs.OneCall.{pack}
-use Rattle.model.specs.Buffer.{tuplesOf}
+use Rattle.model.specs.Buffer.{keyAt, usedOf, tuplesOf}
 use Rattle.model.specs.Rules.{Has, Small}
-use Rattle.chain.specs.Links.{Linked}
+use Rattle.chain.specs.Links.{Linked, placeIn}
 use Rattle.select.specs.Selections.{passes}
 use Rattle.list.specs.declared.Part.{Part}
 use Rattle.list.specs.declared.Part.the-variants.{Both, Edge, Node}
@@ -62,6 +62,36 @@ secondAt (SpacesOf n) k = []
 -- the list: the entries of all keys, ascending, each once
 unfoldable pub queried : Query → Tuples → List Pair
 queried q ts = ascending (gather (λ (k : Key). firstAt q k ++ secondAt q k) ts)
+
+-- ---- the part of the chain that can give entries
+
+-- no key below this one gives an entry
+unfoldable pub pairsStart : Direction → ℕ → ℕ → Key
+pairsStart Outpointing s n = nodeKey s n
+pairsStart Inpointing s n = spaceKey s
+pairsStart Adjacent s n = spaceKey s
+
+unfoldable pub startKey : Query → Key
+startKey (Pairs q) = pairsStart (q .d) (q .s) (q .n)
+startKey (Nodes s) = spaceKey s
+startKey Spaces = spaceKey 0
+startKey (SpacesOf n) = spaceKey 0
+
+-- the first record that can give an entry; 0 for none
+unfoldable pub startIn : List ℕ → Query → ℕ
+startIn b q = placeIn (keyAt b) (startKey q) 0 (usedOf b) .at
+
+-- a key outside the space or the node that is asked for: behind the start neither it nor a later one gives an entry
+unfoldable pub pairsOutside : Direction → ℕ → ℕ → Key → Bool
+pairsOutside Outpointing s n k = not (eqb (k .s) s) || not (eqb (k .n) n)
+pairsOutside Inpointing s n k = not (eqb (k .s) s)
+pairsOutside Adjacent s n k = not (eqb (k .s) s)
+
+unfoldable pub outside : Query → Key → Bool
+outside (Pairs q) k = pairsOutside (q .d) (q .s) (q .n) k
+outside (Nodes s) k = not (eqb (k .s) s)
+outside Spaces k = false
+outside (SpacesOf n) k = false
 
 -- ---- codes
 

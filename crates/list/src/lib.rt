@@ -5,13 +5,13 @@ use model::Key;
 ghost use mathlib.Core.List.{[], _∷_};
 ghost use mathlib.Core.Bool.{true};
 ghost use mathlib.Core.Path.{_≡_};
-ghost use Rattle.model.specs.Keys.{isNode};
+ghost use Rattle.model.specs.Keys.{isNode, nodeKey};
 ghost use Rattle.model.specs.Pairs.{pair, outPair, inPair};
 ghost use lib.ListN.{length};
 ghost use Prim.Native.Nat.{_≤_};
 ghost use Rattle.model.specs.Buffer.{tuplesOf};
 ghost use Rattle.chain.specs.Links.{Linked, Hint};
-ghost use Rattle.list.specs.Queries.{chosen, firstAt, secondAt, queried, code, headCode, codes, nearer, leastFrom, Readable, pairsInOrder, inOrder, written};
+ghost use Rattle.list.specs.Queries.{chosen, firstAt, secondAt, queried, code, headCode, codes, nearer, leastFrom, Readable, pairsStart, startKey, startIn, outside, pairsInOrder, inOrder, written};
 
 // What is listed of a pair.
 pub enum Part {
@@ -211,15 +211,90 @@ fn nearer_code(seen: u64, best: u64, e: u64) -> u64
     best
 }
 
-// The least code above `seen` that the used records give; 0 for none.
-fn least_above(b: &[u32], q: Query, seen: u64) -> u64
-    requires { ⌜ Linked (now b) ⌝ }
+// The key of a node.
+fn node_key(s: u32, n: u32) -> Key
+    ensures { λ r. ⌜ r ≡ nodeKey s n ⌝ }
+{
+    Key {
+        s: s,
+        n: n,
+        g: 0,
+        m: 0,
+    }
+}
+
+// No key below this one gives a pair.
+fn pairs_start(q: PairQuery) -> Key
+    ensures { λ r. ⌜ r ≡ pairsStart (q .d) (q .s) (q .n) ⌝ }
+{
+    let d = q.d;
+    match d {
+        Direction::Outpointing => node_key(q.s, q.n),
+        Direction::Inpointing => node_key(q.s, 0),
+        Direction::Adjacent => node_key(q.s, 0),
+    }
+}
+
+// No key below this one gives an entry.
+fn start_key(q: Query) -> Key
+    ensures { λ r. ⌜ r ≡ startKey q ⌝ }
+{
+    match q {
+        Query::Pairs(p) => pairs_start(p),
+        Query::Nodes(s) => node_key(s, 0),
+        Query::Spaces => node_key(0, 0),
+        Query::SpacesOf(_) => node_key(0, 0),
+    }
+}
+
+// The first record that can give an entry; 0 for none.
+fn first_record(b: &[u32], hint: usize, q: Query) -> usize
+    requires { ⌜ Linked (now b) × Hint (now b) hint ⌝ }
+    ensures { λ r. ⌜ r ≡ startIn (now (b .entry)) q ⌝ }
+{
+    let place = chain::seek(b, hint, start_key(q));
+    place.at
+}
+
+// Is a key outside the space or the node whose pairs are asked for.
+fn outside_pairs(q: PairQuery, k: Key) -> bool
+    ensures { λ r. ⌜ r ≡ outside (Query.Pairs q) k ⌝ }
+{
+    if k.s != q.s {
+        return true;
+    }
+    let d = q.d;
+    match d {
+        Direction::Outpointing => k.n != q.n,
+        Direction::Inpointing => false,
+        Direction::Adjacent => false,
+    }
+}
+
+// Is a key outside what is asked for: behind the start no later key gives an entry then.
+fn is_outside(q: Query, k: Key) -> bool
+    ensures { λ r. ⌜ r ≡ outside q k ⌝ }
+{
+    match q {
+        Query::Pairs(p) => outside_pairs(p, k),
+        Query::Nodes(s) => k.s != s,
+        Query::Spaces => false,
+        Query::SpacesOf(_) => false,
+    }
+}
+
+// The least code above `seen` that the records from the start give; 0 for none.
+fn least_above(b: &[u32], from: usize, q: Query, seen: u64) -> u64
+    requires { ⌜ Linked (now b) × (from ≡ startIn (now b) q) ⌝ }
     ensures { λ r. ⌜ r ≡ leastFrom 0 seen (codes q (tuplesOf (now (b .entry)))) ⌝ }
 {
     let mut best: u64 = 0;
-    let mut at = records::head_word(b, 1);
+    let mut at = from;
     while at != 0 {
         let k = records::key_of(b, at);
+        if is_outside(q, k) {
+            return best;
+        }
         let one = nearer_code(seen, best, first_code(q, k));
         best = nearer_code(seen, one, second_code(q, k));
         at = records::next_of(b, at);
@@ -228,49 +303,53 @@ fn least_above(b: &[u32], q: Query, seen: u64) -> u64
 }
 
 // The number of entries, each found as the least above the last.
-fn count_by_least(b: &[u32], q: Query) -> usize
-    requires { ⌜ Readable (now b) ⌝ }
+fn count_by_least(b: &[u32], from: usize, q: Query) -> usize
+    requires { ⌜ Readable (now b) × (from ≡ startIn (now b) q) ⌝ }
     ensures { λ r. ⌜ r ≡ length (queried q (tuplesOf (now (b .entry)))) ⌝ }
 {
     let mut count = 0;
     let mut seen: u64 = 0;
-    let mut e = least_above(b, q, 0);
+    let mut e = least_above(b, from, q, 0);
     while e != 0 {
         count += 1;
         seen = e;
-        e = least_above(b, q, seen);
+        e = least_above(b, from, q, seen);
     }
     count
 }
 
 // The entries written to the first places, each found as the least above the last.
-fn write_by_least(b: &[u32], q: Query, list: &mut [u32]) -> usize
-    requires { ⌜ Readable (now b) × (length (queried q (tuplesOf (now b))) ≤ length (now list)) ⌝ }
+fn write_by_least(b: &[u32], from: usize, q: Query, list: &mut [u32]) -> usize
+    requires { ⌜ Readable (now b) × (from ≡ startIn (now b) q) × (length (queried q (tuplesOf (now b))) ≤ length (now list)) ⌝ }
     ensures { λ r. ⌜ r ≡ length (queried q (tuplesOf (now (b .entry)))) ⌝ }
     ensures list { λ _. ⌜ now (list .exit) ≡ written (queried q (tuplesOf (now (b .entry)))) (now (list .entry)) ⌝ }
 {
     let mut done = 0;
     let mut seen: u64 = 0;
-    let mut e = least_above(b, q, 0);
+    let mut e = least_above(b, from, q, 0);
     while e != 0 {
         list[done] = (e - 1) as u32;
         done += 1;
         seen = e;
-        e = least_above(b, q, seen);
+        e = least_above(b, from, q, seen);
     }
     done
 }
 
-// The number of entries that come in order, in one walk.
-fn count_in_order(b: &[u32], q: Query) -> usize
-    requires { ⌜ Readable (now b) × (inOrder q ≡ true) ⌝ }
+// The number of entries that come in order, in one walk from the start.
+fn count_in_order(b: &[u32], from: usize, q: Query) -> usize
+    requires { ⌜ Readable (now b) × (from ≡ startIn (now b) q) × (inOrder q ≡ true) ⌝ }
     ensures { λ r. ⌜ r ≡ length (queried q (tuplesOf (now (b .entry)))) ⌝ }
 {
     let mut count = 0;
     let mut seen: u64 = 0;
-    let mut at = records::head_word(b, 1);
+    let mut at = from;
     while at != 0 {
-        let e = first_code(q, records::key_of(b, at));
+        let k = records::key_of(b, at);
+        if is_outside(q, k) {
+            return count;
+        }
+        let e = first_code(q, k);
         at = records::next_of(b, at);
         if e <= seen {
             continue;
@@ -281,17 +360,21 @@ fn count_in_order(b: &[u32], q: Query) -> usize
     count
 }
 
-// The entries that come in order, written to the first places in one walk.
-fn write_in_order(b: &[u32], q: Query, list: &mut [u32]) -> usize
-    requires { ⌜ Readable (now b) × (inOrder q ≡ true) × (length (queried q (tuplesOf (now b))) ≤ length (now list)) ⌝ }
+// The entries that come in order, written to the first places in one walk from the start.
+fn write_in_order(b: &[u32], from: usize, q: Query, list: &mut [u32]) -> usize
+    requires { ⌜ Readable (now b) × (from ≡ startIn (now b) q) × (inOrder q ≡ true) × (length (queried q (tuplesOf (now b))) ≤ length (now list)) ⌝ }
     ensures { λ r. ⌜ r ≡ length (queried q (tuplesOf (now (b .entry)))) ⌝ }
     ensures list { λ _. ⌜ now (list .exit) ≡ written (queried q (tuplesOf (now (b .entry)))) (now (list .entry)) ⌝ }
 {
     let mut done = 0;
     let mut seen: u64 = 0;
-    let mut at = records::head_word(b, 1);
+    let mut at = from;
     while at != 0 {
-        let e = first_code(q, records::key_of(b, at));
+        let k = records::key_of(b, at);
+        if is_outside(q, k) {
+            return done;
+        }
+        let e = first_code(q, k);
         at = records::next_of(b, at);
         if e <= seen {
             continue;
@@ -341,10 +424,11 @@ pub fn count_entries(b: &[u32], hint: usize, q: Query) -> usize
     requires { ⌜ Readable (now b) × Hint (now b) hint ⌝ }
     ensures { λ r. ⌜ r ≡ length (queried q (tuplesOf (now (b .entry)))) ⌝ }
 {
+    let from = first_record(b, hint, q);
     if in_order(q) {
-        return count_in_order(b, q);
+        return count_in_order(b, from, q);
     }
-    count_by_least(b, q)
+    count_by_least(b, from, q)
 }
 
 // The entries written to the first places of a list that has room for them, and their number; the rest stays.
@@ -354,8 +438,9 @@ pub fn write_entries(b: &[u32], hint: usize, q: Query, list: &mut [u32]) -> usiz
     ensures { λ r. ⌜ r ≡ length (queried q (tuplesOf (now (b .entry)))) ⌝ }
     ensures list { λ _. ⌜ now (list .exit) ≡ written (queried q (tuplesOf (now (b .entry)))) (now (list .entry)) ⌝ }
 {
+    let from = first_record(b, hint, q);
     if in_order(q) {
-        return write_in_order(b, q, list);
+        return write_in_order(b, from, q, list);
     }
-    write_by_least(b, q, list)
+    write_by_least(b, from, q, list)
 }

@@ -1,4 +1,5 @@
 use Rattle.list.proofs.Ascents.{rise-inside, rise-less, rise-fits, rise-most, rise-end, Filling, fill-start, fill-length, fill-skip, fill-index, fill-on, fill-end}
+use Rattle.list.proofs.Bounds.{silent-end, silent-outside}
 use Rattle.chain.proofs.Walks.{remaining}
 use mathlib.Core.Path.{refl}
 use native.Mathlib.Omega.{arith}
@@ -7,82 +8,87 @@ use Rattle.list.proofs.write_in_order.Tie as tie
 use Rattle.list.proofs.write_in_order.Reads as reads
 use Rattle.list.proofs.write_in_order.Lts as lts
 use Rattle.list.proofs.first_code.Reads as first-code-reads
-use Rattle.records.proofs.head_word.Reads as head-word-reads
+use Rattle.list.proofs.is_outside.Reads as is-outside-reads
 use Rattle.records.proofs.key_of.Reads as key-of-reads
 use Rattle.records.proofs.next_of.Reads as next-of-reads
 
 abbrev Inv-loop : tie.InvT-loop
-Inv-loop b q list₀ done₀ seen₀ at₀ list done seen at = Filling b q list₀ list done seen at
+Inv-loop b from q list₀ done₀ seen₀ at₀ list done seen at = Filling b q list₀ list done seen at
 
 abbrev μ-loop : tie.MeasureT-loop
-μ-loop b q list₀ done₀ seen₀ at₀ list done seen at = remaining b at
+μ-loop b from q list₀ done₀ seen₀ at₀ list done seen at = remaining b at
 
--- src/lib.rt:289:9
-head-word-requires : tie.Need-head-word-requires Inv-loop μ-loop
-head-word-requires c κs = omega (arith, c .before .before .pre .0 .linked .chains .least)
-
--- src/lib.rt:290:5
+-- src/lib.rt:372:5
 loop-holds : tie.Need-loop-holds Inv-loop μ-loop
-loop-holds c = fill-start _ _ (c .before .before .before .pre .0) (c .before .before .before .pre .1) _ (c .before .before .before .pre .2) _ (c .head-word .ensures)
+loop-holds c = fill-start _ _ (c .before .before .pre .0) (c .before .before .pre .2) _ (c .before .before .pre .3) _ (c .before .before .pre .1)
 
--- src/lib.rt:291:31
+-- src/lib.rt:373:13
 key-of-requires : tie.Need-key-of-requires Inv-loop μ-loop
-key-of-requires c κs = rise-inside _ _ (c .before .before .before .before .before .pre .0) (c .before .before .before .before .before .pre .1) _ _ _ (c .before .loop .inv .rises) (c .loop-test .taken)
+key-of-requires c κs = rise-inside _ _ (c .before .before .before .before .pre .0) (c .before .before .before .before .pre .2) _ _ _ (c .before .loop .inv .rises) (c .loop-test .taken)
 
--- src/lib.rt:291:13
+-- src/lib.rt:374:12
+is-outside-requires : tie.Need-is-outside-requires Inv-loop μ-loop
+is-outside-requires c κs = tt
+
+-- src/lib.rt:375:13
+same-length : tie.Need-same-length Inv-loop μ-loop
+same-length c = fill-length _ _ (c .before .before .before .before .before .before .before .pre .0) (c .before .before .before .before .before .before .before .pre .2) _ (c .before .before .before .before .before .before .before .pre .3) _ _ _ _ (c .before .before .before .before .loop .inv)
+
+-- src/lib.rt:375:13
+returns : tie.Need-returns Inv-loop μ-loop
+returns c = (rise-end _ _ (c .before .before .before .before .before .before .before .pre .0) (c .before .before .before .before .before .before .before .pre .2) _ _ _ (c .before .before .before .before .loop .inv .rises) (silent-outside _ _ _ (c .before .before .before .before .loop .inv .rises .walked) (c .before .before .before .before .loop .inv .rises .onward) (c .before .before .before .loop-test .taken) _ _ (c .before .before .key-of .ensures) (c .before .is-outside .ensures) (c .if1 .taken)), fill-end _ _ (c .before .before .before .before .before .before .before .pre .0) (c .before .before .before .before .before .before .before .pre .2) _ (c .before .before .before .before .before .before .before .pre .3) _ _ _ _ (c .before .before .before .before .loop .inv) (silent-outside _ _ _ (c .before .before .before .before .loop .inv .rises .walked) (c .before .before .before .before .loop .inv .rises .onward) (c .before .before .before .loop-test .taken) _ _ (c .before .before .key-of .ensures) (c .before .is-outside .ensures) (c .if1 .taken)))
+
+-- src/lib.rt:377:13
 first-code-requires : tie.Need-first-code-requires Inv-loop μ-loop
 first-code-requires c κs = tt
 
--- src/lib.rt:292:9
+-- src/lib.rt:378:9
 next-of-requires : tie.Need-next-of-requires Inv-loop μ-loop
-next-of-requires c κs = rise-inside _ _ (c .before .before .before .before .before .before .before .pre .0) (c .before .before .before .before .before .before .before .pre .1) _ _ _ (c .before .before .before .loop .inv .rises) (c .before .before .loop-test .taken)
+next-of-requires c κs = rise-inside _ _ (c .before .before .before .before .before .before .before .before .pre .0) (c .before .before .before .before .before .before .before .before .pre .2) _ _ _ (c .before .before .before .before .before .loop .inv .rises) (c .before .before .before .before .loop-test .taken)
 
--- src/lib.rt:290:5
+-- src/lib.rt:372:5
 loop-less : tie.Need-loop-less Inv-loop μ-loop
-loop-less c = rise-less _ _ (c .before .before .before .before .before .before .before .before .before .pre .0) (c .before .before .before .before .before .before .before .before .before .pre .1) _ _ _ (c .before .before .before .before .before .loop .inv .rises) (c .before .before .before .before .loop-test .taken) _ (c .before .next-of .ensures)
+loop-less c = rise-less _ _ (c .before .before .before .before .before .before .before .before .before .before .pre .0) (c .before .before .before .before .before .before .before .before .before .before .pre .2) _ _ _ (c .before .before .before .before .before .before .before .loop .inv .rises) (c .before .before .before .before .before .before .loop-test .taken) _ (c .before .next-of .ensures)
 
--- src/lib.rt:290:5
+-- src/lib.rt:372:5
 loop-again : tie.Need-loop-again Inv-loop μ-loop
-loop-again c = fill-skip _ _ (c .before .before .before .before .before .before .before .before .before .pre .0) (c .before .before .before .before .before .before .before .before .before .pre .1) _ (c .before .before .before .before .before .before .before .before .before .pre .2) _ _ _ _ (c .before .before .before .before .before .loop .inv) (c .before .before .before .before .loop-test .taken) _ _ _ (c .before .before .before .key-of .ensures) (c .before .before .first-code .ensures) (c .if1 .taken) (c .before .next-of .ensures)
+loop-again c = fill-skip _ _ (c .before .before .before .before .before .before .before .before .before .before .pre .0) (c .before .before .before .before .before .before .before .before .before .before .pre .2) _ (c .before .before .before .before .before .before .before .before .before .before .pre .3) _ _ _ _ (c .before .before .before .before .before .before .before .loop .inv) (c .before .before .before .before .before .before .loop-test .taken) _ _ _ (c .before .before .before .before .before .key-of .ensures) (c .before .before .first-code .ensures) (c .if2 .taken) (c .before .next-of .ensures)
 
--- src/lib.rt:296:23
+-- src/lib.rt:382:23
 sub-list : tie.Need-sub-list Inv-loop μ-loop
 sub-list c = omega arith
 
--- src/lib.rt:296:22
+-- src/lib.rt:382:22
 cast-list : tie.Need-cast-list Inv-loop μ-loop
-cast-list c = omega (arith, rise-fits _ _ (c .before .before .before .before .before .before .before .before .before .pre .0) (c .before .before .before .before .before .before .before .before .before .pre .1) _ _ _ (c .before .before .before .before .before .loop .inv .rises) (c .before .before .before .before .loop-test .taken) _ _ (c .before .before .before .key-of .ensures) (c .before .before .first-code .ensures) (c .if1 .left))
+cast-list c = omega (arith, rise-fits _ _ (c .before .before .before .before .before .before .before .before .before .before .pre .0) (c .before .before .before .before .before .before .before .before .before .before .pre .2) _ _ _ (c .before .before .before .before .before .before .before .loop .inv .rises) (c .before .before .before .before .before .before .loop-test .taken) _ _ (c .before .before .before .before .before .key-of .ensures) (c .before .before .first-code .ensures) (c .if2 .left))
 
--- src/lib.rt:296:9
+-- src/lib.rt:382:9
 mul-list : tie.Need-mul-list Inv-loop μ-loop
-mul-list c = omega (arith, rise-most _ _ (c .before .before .before .before .before .before .before .before .before .pre .0) (c .before .before .before .before .before .before .before .before .before .pre .1) _ _ _ (c .before .before .before .before .before .loop .inv .rises))
+mul-list c = omega (arith, rise-most _ _ (c .before .before .before .before .before .before .before .before .before .before .pre .0) (c .before .before .before .before .before .before .before .before .before .before .pre .2) _ _ _ (c .before .before .before .before .before .before .before .loop .inv .rises))
 
--- src/lib.rt:296:9
+-- src/lib.rt:382:9
 slice-write-list : tie.Need-slice-write-list Inv-loop μ-loop
-slice-write-list c = fill-index _ _ (c .before .before .before .before .before .before .before .before .before .pre .0) (c .before .before .before .before .before .before .before .before .before .pre .1) _ (c .before .before .before .before .before .before .before .before .before .pre .2) _ _ _ _ (c .before .before .before .before .before .loop .inv) (c .before .before .before .before .loop-test .taken) _ _ (c .before .before .before .key-of .ensures) (c .before .before .first-code .ensures) (c .if1 .left)
+slice-write-list c = fill-index _ _ (c .before .before .before .before .before .before .before .before .before .before .pre .0) (c .before .before .before .before .before .before .before .before .before .before .pre .2) _ (c .before .before .before .before .before .before .before .before .before .before .pre .3) _ _ _ _ (c .before .before .before .before .before .before .before .loop .inv) (c .before .before .before .before .before .before .loop-test .taken) _ _ (c .before .before .before .before .before .key-of .ensures) (c .before .before .first-code .ensures) (c .if2 .left)
 
--- src/lib.rt:297:9
+-- src/lib.rt:383:9
 add-done : tie.Need-add-done Inv-loop μ-loop
-add-done c = omega (arith, rise-most _ _ (c .before .before .before .before .before .before .before .before .before .pre .0) (c .before .before .before .before .before .before .before .before .before .pre .1) _ _ _ (c .before .before .before .before .before .loop .inv .rises))
+add-done c = omega (arith, rise-most _ _ (c .before .before .before .before .before .before .before .before .before .before .pre .0) (c .before .before .before .before .before .before .before .before .before .before .pre .2) _ _ _ (c .before .before .before .before .before .before .before .loop .inv .rises))
 
--- src/lib.rt:290:5
+-- src/lib.rt:372:5
 loop-less-2 : tie.Need-loop-less-2 Inv-loop μ-loop
-loop-less-2 c = rise-less _ _ (c .before .before .before .before .before .before .before .before .before .pre .0) (c .before .before .before .before .before .before .before .before .before .pre .1) _ _ _ (c .before .before .before .before .before .loop .inv .rises) (c .before .before .before .before .loop-test .taken) _ (c .before .next-of .ensures)
+loop-less-2 c = rise-less _ _ (c .before .before .before .before .before .before .before .before .before .before .pre .0) (c .before .before .before .before .before .before .before .before .before .before .pre .2) _ _ _ (c .before .before .before .before .before .before .before .loop .inv .rises) (c .before .before .before .before .before .before .loop-test .taken) _ (c .before .next-of .ensures)
 
--- src/lib.rt:290:5
+-- src/lib.rt:372:5
 loop-again-2 : tie.Need-loop-again-2 Inv-loop μ-loop
-loop-again-2 c = fill-on _ _ (c .before .before .before .before .before .before .before .before .before .pre .0) (c .before .before .before .before .before .before .before .before .before .pre .1) _ (c .before .before .before .before .before .before .before .before .before .pre .2) _ _ _ _ (c .before .before .before .before .before .loop .inv) (c .before .before .before .before .loop-test .taken) _ _ (c .before .before .before .key-of .ensures) (c .before .before .first-code .ensures) (c .if1 .left) _ _ _ refl (c .before .next-of .ensures) refl
+loop-again-2 c = fill-on _ _ (c .before .before .before .before .before .before .before .before .before .before .pre .0) (c .before .before .before .before .before .before .before .before .before .before .pre .2) _ (c .before .before .before .before .before .before .before .before .before .before .pre .3) _ _ _ _ (c .before .before .before .before .before .before .before .loop .inv) (c .before .before .before .before .before .before .loop-test .taken) _ _ (c .before .before .before .before .before .key-of .ensures) (c .before .before .first-code .ensures) (c .if2 .left) _ _ _ refl (c .before .next-of .ensures) refl
 
--- src/lib.rt:283:1
-same-length : tie.Need-same-length Inv-loop μ-loop
-same-length c = fill-length _ _ (c .before .before .before .before .before .pre .0) (c .before .before .before .before .before .pre .1) _ (c .before .before .before .before .before .pre .2) _ _ _ _ (c .before .loop .inv)
+-- src/lib.rt:364:1
+same-length-2 : tie.Need-same-length-2 Inv-loop μ-loop
+same-length-2 c = fill-length _ _ (c .before .before .before .before .pre .0) (c .before .before .before .before .pre .2) _ (c .before .before .before .before .pre .3) _ _ _ _ (c .before .loop .inv)
 
--- src/lib.rt:283:1
-returns : tie.Need-returns Inv-loop μ-loop
-returns c = (
-  rise-end _ _ (c .before .before .before .before .before .pre .0) (c .before .before .before .before .before .pre .1) _ _ _ (c .before .loop .inv .rises) (c .loop-test .left),
-  fill-end _ _ (c .before .before .before .before .before .pre .0) (c .before .before .before .before .before .pre .1) _ (c .before .before .before .before .before .pre .2) _ _ _ _ (c .before .loop .inv) (c .loop-test .left),
-)
+-- src/lib.rt:364:1
+returns-2 : tie.Need-returns-2 Inv-loop μ-loop
+returns-2 c = (rise-end _ _ (c .before .before .before .before .pre .0) (c .before .before .before .before .pre .2) _ _ _ (c .before .loop .inv .rises) (silent-end _ _ _ (c .before .loop .inv .rises .walked) (c .loop-test .left)), fill-end _ _ (c .before .before .before .before .pre .0) (c .before .before .before .before .pre .2) _ (c .before .before .before .before .pre .3) _ _ _ _ (c .before .loop .inv) (silent-end _ _ _ (c .before .loop .inv .rises .walked) (c .loop-test .left)))
 
 pub write-in-order-spec : {M : Type 1} → statement M
 write-in-order-spec =
@@ -90,9 +96,11 @@ write-in-order-spec =
     (tie.spec
     Inv-loop
     μ-loop
-    head-word-requires
     loop-holds
     key-of-requires
+    is-outside-requires
+    same-length
+    returns
     first-code-requires
     next-of-requires
     loop-less
@@ -104,5 +112,5 @@ write-in-order-spec =
     add-done
     loop-less-2
     loop-again-2
-    same-length
-    returns)
+    same-length-2
+    returns-2)
