@@ -14,10 +14,10 @@ use Rattle.model.specs.declared.Key.{Key}
 use Rattle.model.specs.Ordered.{isLess, thenBy, Ascending}
 use Rattle.model.specs.Keys.{keyOf, spaceKey, nodeKey, isNode, isEdge, compareKeys}
 use Rattle.model.specs.Tuples.{Tuples}
-use Rattle.model.specs.Pairs.{pair, onlyIf, outPair}
+use Rattle.model.specs.Pairs.{pair, onlyIf, outPair, inPair}
 use Rattle.model.specs.Buffer.{word, next, keyAt, tupleAt, usedOf, tuplesOf}
 use Rattle.model.specs.Rules.{Chain}
-use Rattle.model.proofs.Bools.{not-yes, or-cases, or-left, or-right}
+use Rattle.model.proofs.Bools.{not-yes, or-cases, or-left, or-right, or-no-left, or-no-right}
 use Rattle.model.proofs.Order.{keys, compare-eq, compare-lt, compare-gt}
 use Rattle.model.proofs.Ordered.{Below}
 use Rattle.chain.specs.declared.Place.{Place}
@@ -28,7 +28,7 @@ use Rattle.chain.proofs.Found.{headOf, NotBelow, at-place}
 use Rattle.list.specs.declared.PairQuery.{PairQuery}
 use Rattle.list.specs.declared.Query.{Query}
 use Rattle.list.specs.declared.Query.the-variants.{Pairs, Nodes, Spaces, SpacesOf}
-use Rattle.list.specs.Queries.{chosen, firstPairs, secondPairs, firstAt, secondAt, headCode, pairsStart, startKey, startIn, pairsOutside, outside}
+use Rattle.list.specs.Queries.{chosen, firstPairs, secondPairs, firstAt, secondAt, headCode, pairsStart, startKey, startIn, pairsOutside, outside, ends}
 use Rattle.list.proofs.Orders.{then-lt, spaces-order, nodes-order}
 
 -- ---- records that give no entry
@@ -66,6 +66,36 @@ outside-silent (Nodes s) k o =
     (ap (λ (t : Bool). headCode (onlyIf t (pair 0 (k .n)))) (and-never (isNode k) (eqb (k .s) s) (not-yes (eqb (k .s) s) o)), refl)
 outside-silent Spaces k o = absurd (false≢true o)
 outside-silent (SpacesOf n) k o = absurd (false≢true o)
+
+-- nor does an edge that the node is no end of
+module _ (q : PairQuery) (k : Key) (t : Bool) (et : t ≡ ends (q .n) k) (no′ : not t ≡ true) where
+  neither : (eqb (k .n) (q .n) || eqb (k .m) (q .n)) ≡ false
+  unfolding ends
+  neither = sym et ∙ not-yes t no′
+
+  pub apart-silent : (headCode (firstAt (Pairs q) k) ≡ 0) × (headCode (secondAt (Pairs q) k) ≡ 0)
+  unfolding firstAt secondAt firstPairs secondPairs outPair inPair chosen headCode
+  apart-silent = go (q .d) (eqb (k .s) (q .s))
+    where
+      out : headCode (chosen q (onlyIf (isEdge k && eqb (k .n) (q .n)) (pair (k .g) (k .m)))) ≡ 0
+      out =
+          ap (λ (u : Bool). headCode (chosen q (onlyIf u (pair (k .g) (k .m)))))
+          (and-never (isEdge k) (eqb (k .n) (q .n)) (or-no-left (eqb (k .n) (q .n)) (eqb (k .m) (q .n)) neither))
+
+      into : headCode (chosen q (onlyIf (isEdge k && eqb (k .m) (q .n)) (pair (k .g) (k .n)))) ≡ 0
+      into =
+          ap (λ (u : Bool). headCode (chosen q (onlyIf u (pair (k .g) (k .n)))))
+          (and-never (isEdge k) (eqb (k .m) (q .n)) (or-no-right (eqb (k .n) (q .n)) (eqb (k .m) (q .n)) neither))
+
+      go : (d : Direction) (u : Bool)
+          → (headCode (cond u (chosen q (firstPairs d (q .n) k)) []) ≡ 0) × (headCode (cond u (chosen q (secondPairs d (q .n) k)) []) ≡ 0)
+      go d false = (refl, refl)
+      go Outpointing true = (out, refl)
+      go Inpointing true = (into, refl)
+      go Adjacent true = (out, into)
+
+  pub apart-first : 0 ≡ headCode (firstAt (Pairs q) k)
+  apart-first = sym (apart-silent .0)
 
 -- ---- keys below the start are outside
 

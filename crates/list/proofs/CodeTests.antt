@@ -1,10 +1,11 @@
 -- The code of the entry that a key gives, one answer at a time.
 use mathlib.Core.Bool.{Bool, true, false, cond, not, _&&_, _||_}
 use mathlib.Core.List.{List, [], _∷_}
-use mathlib.Core.Path.{_≡_, refl, sym, ap, ap₂, _∙_}
-use Prim.Native.Nat.{ℕ, _+_, _*_}
+use mathlib.Core.Path.{_≡_, refl, sym, ap, ap₂, _∙_, subst}
+use Prim.Native.Nat.{ℕ, _+_, _*_, _≤_}
 use native.Mathlib.Omega.{arith}
 use lib.Dec.{eqb}
+use lib.ListN.{length}
 use borrow.Author.Tests.{eq-eqb, ne-eqb}
 use Rattle.model.specs.declared.Direction.{Direction}
 use Rattle.model.specs.declared.Direction.the-variants.{Outpointing, Inpointing, Adjacent}
@@ -12,6 +13,7 @@ use Rattle.model.specs.declared.Key.{Key}
 use Rattle.model.specs.declared.Pair.{Pair}
 use Rattle.model.specs.Keys.{isNode, isEdge}
 use Rattle.model.specs.OneCall.{pack}
+use Rattle.model.specs.Buffer.{tuplesOf}
 use Rattle.model.specs.Pairs.{pair, onlyIf, outPair, inPair, spaceEntry}
 use Rattle.select.specs.Selections.{passes}
 use Rattle.list.specs.declared.Part.{Part}
@@ -19,7 +21,7 @@ use Rattle.list.specs.declared.Part.the-variants.{Both, Edge, Node}
 use Rattle.list.specs.declared.PairQuery.{PairQuery}
 use Rattle.list.specs.declared.Query.{Query}
 use Rattle.list.specs.declared.Query.the-variants.{Pairs, Nodes, Spaces, SpacesOf}
-use Rattle.list.specs.Queries.{partOf, chosen, firstPairs, secondPairs, firstAt, secondAt, code, headCode, pairsStart, startKey, pairsOutside, outside, pairsInOrder, inOrder}
+use Rattle.list.specs.Queries.{partOf, chosen, firstPairs, secondPairs, firstAt, secondAt, code, headCode, pairsStart, startKey, startIn, pairsOutside, outside, ends, pairsInOrder, queried, written}
 
 pub packed : (edge node a b : ℕ) → a ≡ edge → b ≡ node → a * 65536 + b + 1 ≡ code (pair edge node)
 unfolding pack
@@ -189,9 +191,6 @@ module _ (q : Query) (k : Key) (r : ℕ) where
   pub first-case : (x : Query) → q ≡ x → r ≡ headCode (firstAt x k) → r ≡ headCode (firstAt q k)
   first-case x e er = er ∙ ap (λ (y : Query). headCode (firstAt y k)) (sym e)
 
-  pub second-case : (x : Query) → q ≡ x → r ≡ headCode (secondAt x k) → r ≡ headCode (secondAt q k)
-  second-case x e er = er ∙ ap (λ (y : Query). headCode (secondAt y k)) (sym e)
-
 -- ---- is a query in order
 
 module _ (q : PairQuery) (r : Bool) where
@@ -208,8 +207,31 @@ module _ (q : PairQuery) (r : Bool) where
       none Edge = refl
       none Node = refl
 
-pub query-case : (q x : Query) (r : Bool) → q ≡ x → r ≡ inOrder x → r ≡ inOrder q
-query-case q x r e er = er ∙ ap inOrder (sym e)
+-- ---- the list of a query that is one of the cases
+
+module _ (b : List ℕ) (q x : Query) (e : q ≡ x) where
+  pub start-of-case : (from : ℕ) → from ≡ startIn b q → from ≡ startIn b x
+  start-of-case from h = h ∙ ap (startIn b) e
+
+  pub count-of-case : (r : ℕ) → r ≡ length (queried x (tuplesOf b)) → r ≡ length (queried q (tuplesOf b))
+  count-of-case r h = h ∙ ap (λ (y : Query). length (queried y (tuplesOf b))) (sym e)
+
+  pub room-of-case : (n : ℕ) → length (queried q (tuplesOf b)) ≤ n → length (queried x (tuplesOf b)) ≤ n
+  room-of-case n h = subst (λ (y : Query). length (queried y (tuplesOf b)) ≤ n) e h
+
+  pub list-of-case : (l l₀ : List ℕ) → l ≡ written (queried x (tuplesOf b)) l₀ → l ≡ written (queried q (tuplesOf b)) l₀
+  list-of-case l l₀ h = h ∙ ap (λ (y : Query). written (queried y (tuplesOf b)) l₀) (sym e)
+
+-- ---- the ends of an edge
+
+module _ (n : ℕ) (k : Key) where
+  pub ends-first : k .n ≡ n → true ≡ ends n k
+  unfolding ends
+  ends-first e = sym (ap (λ (t : Bool). t || eqb (k .m) n) (eq-eqb (k .n) n e))
+
+  pub ends-second : (k .n ≡ n → ⊥) → eqb (k .m) n ≡ ends n k
+  unfolding ends
+  ends-second d = sym (ap (λ (t : Bool). t || eqb (k .m) n) (ne-eqb (k .n) n d))
 
 -- ---- where the entries of a query can be
 

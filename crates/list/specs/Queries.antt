@@ -93,6 +93,10 @@ outside (Nodes s) k = not (eqb (k .s) s)
 outside Spaces k = false
 outside (SpacesOf n) k = false
 
+-- is a node one of the two ends of an edge
+unfoldable pub ends : ℕ → Key → Bool
+ends n k = eqb (k .n) n || eqb (k .m) n
+
 -- ---- codes
 
 abbrev pub code : Pair → ℕ

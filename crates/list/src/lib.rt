@@ -11,7 +11,7 @@ ghost use lib.ListN.{length};
 ghost use Prim.Native.Nat.{_≤_};
 ghost use Rattle.model.specs.Buffer.{tuplesOf};
 ghost use Rattle.chain.specs.Links.{Linked, Hint};
-ghost use Rattle.list.specs.Queries.{chosen, firstAt, secondAt, queried, code, headCode, codes, nearer, leastFrom, Readable, pairsStart, startKey, startIn, outside, pairsInOrder, inOrder, written};
+ghost use Rattle.list.specs.Queries.{chosen, firstAt, secondAt, queried, code, headCode, codes, nearer, leastFrom, Readable, pairsStart, startKey, startIn, outside, ends, pairsInOrder, inOrder, written};
 
 // What is listed of a pair.
 pub enum Part {
@@ -125,6 +125,26 @@ fn second_pair_code(q: PairQuery, k: Key) -> u64
     }
 }
 
+// Is a node one of the two ends of an edge.
+fn touches(n: u32, k: Key) -> bool
+    ensures { λ r. ⌜ r ≡ ends n k ⌝ }
+{
+    if k.n == n {
+        return true;
+    }
+    k.m == n
+}
+
+// The code of the first entry that a key gives; 0 for none. Most keys of a walk do not have the node at an end.
+fn touching_code(q: PairQuery, k: Key) -> u64
+    ensures { λ r. ⌜ r ≡ headCode (firstAt (Query.Pairs q) k) ⌝ }
+{
+    if !touches(q.n, k) {
+        return 0;
+    }
+    first_pair_code(q, k)
+}
+
 // Is the key that of a node.
 fn is_node(k: Key) -> bool
     ensures { λ r. ⌜ r ≡ isNode k ⌝ }
@@ -176,22 +196,10 @@ pub fn first_code(q: Query, k: Key) -> u64
     ensures { λ r. ⌜ r ≡ headCode (firstAt q k) ⌝ }
 {
     match q {
-        Query::Pairs(p) => first_pair_code(p, k),
+        Query::Pairs(p) => touching_code(p, k),
         Query::Nodes(s) => node_code(s, k),
         Query::Spaces => space_code(k),
         Query::SpacesOf(n) => holder_code(n, k),
-    }
-}
-
-// The code of the second entry that a key gives; 0 for none.
-pub fn second_code(q: Query, k: Key) -> u64
-    ensures { λ r. ⌜ r ≡ headCode (secondAt q k) ⌝ }
-{
-    match q {
-        Query::Pairs(p) => second_pair_code(p, k),
-        Query::Nodes(_) => 0,
-        Query::Spaces => 0,
-        Query::SpacesOf(_) => 0,
     }
 }
 
@@ -284,28 +292,31 @@ fn is_outside(q: Query, k: Key) -> bool
 }
 
 // The least code above `seen` that the records from the start give; 0 for none.
-fn least_above(b: &[u32], from: usize, q: Query, seen: u64) -> u64
-    requires { ⌜ Linked (now b) × (from ≡ startIn (now b) q) ⌝ }
-    ensures { λ r. ⌜ r ≡ leastFrom 0 seen (codes q (tuplesOf (now (b .entry)))) ⌝ }
+fn least_above(b: &[u32], from: usize, q: PairQuery, seen: u64) -> u64
+    requires { ⌜ Linked (now b) × (from ≡ startIn (now b) (Query.Pairs q)) ⌝ }
+    ensures { λ r. ⌜ r ≡ leastFrom 0 seen (codes (Query.Pairs q) (tuplesOf (now (b .entry)))) ⌝ }
 {
     let mut best: u64 = 0;
     let mut at = from;
     while at != 0 {
         let k = records::key_of(b, at);
-        if is_outside(q, k) {
+        if outside_pairs(q, k) {
             return best;
         }
-        let one = nearer_code(seen, best, first_code(q, k));
-        best = nearer_code(seen, one, second_code(q, k));
         at = records::next_of(b, at);
+        if !touches(q.n, k) {
+            continue;
+        }
+        let one = nearer_code(seen, best, first_pair_code(q, k));
+        best = nearer_code(seen, one, second_pair_code(q, k));
     }
     best
 }
 
-// The number of entries, each found as the least above the last.
-fn count_by_least(b: &[u32], from: usize, q: Query) -> usize
-    requires { ⌜ Readable (now b) × (from ≡ startIn (now b) q) ⌝ }
-    ensures { λ r. ⌜ r ≡ length (queried q (tuplesOf (now (b .entry)))) ⌝ }
+// The number of pairs, each found as the least above the last.
+fn count_by_least(b: &[u32], from: usize, q: PairQuery) -> usize
+    requires { ⌜ Readable (now b) × (from ≡ startIn (now b) (Query.Pairs q)) ⌝ }
+    ensures { λ r. ⌜ r ≡ length (queried (Query.Pairs q) (tuplesOf (now (b .entry)))) ⌝ }
 {
     let mut count = 0;
     let mut seen: u64 = 0;
@@ -318,11 +329,11 @@ fn count_by_least(b: &[u32], from: usize, q: Query) -> usize
     count
 }
 
-// The entries written to the first places, each found as the least above the last.
-fn write_by_least(b: &[u32], from: usize, q: Query, list: &mut [u32]) -> usize
-    requires { ⌜ Readable (now b) × (from ≡ startIn (now b) q) × (length (queried q (tuplesOf (now b))) ≤ length (now list)) ⌝ }
-    ensures { λ r. ⌜ r ≡ length (queried q (tuplesOf (now (b .entry)))) ⌝ }
-    ensures list { λ _. ⌜ now (list .exit) ≡ written (queried q (tuplesOf (now (b .entry)))) (now (list .entry)) ⌝ }
+// The pairs written to the first places, each found as the least above the last.
+fn write_by_least(b: &[u32], from: usize, q: PairQuery, list: &mut [u32]) -> usize
+    requires { ⌜ Readable (now b) × (from ≡ startIn (now b) (Query.Pairs q)) × (length (queried (Query.Pairs q) (tuplesOf (now b))) ≤ length (now list)) ⌝ }
+    ensures { λ r. ⌜ r ≡ length (queried (Query.Pairs q) (tuplesOf (now (b .entry)))) ⌝ }
+    ensures list { λ _. ⌜ now (list .exit) ≡ written (queried (Query.Pairs q) (tuplesOf (now (b .entry)))) (now (list .entry)) ⌝ }
 {
     let mut done = 0;
     let mut seen: u64 = 0;
@@ -407,40 +418,55 @@ fn pairs_in_order(q: PairQuery) -> bool
     }
 }
 
-// Do the entries come in the order of the list as the chain is walked.
-fn in_order(q: Query) -> bool
-    ensures { λ r. ⌜ r ≡ inOrder q ⌝ }
+// The number of pairs.
+fn count_pairs(b: &[u32], from: usize, q: PairQuery) -> usize
+    requires { ⌜ Readable (now b) × (from ≡ startIn (now b) (Query.Pairs q)) ⌝ }
+    ensures { λ r. ⌜ r ≡ length (queried (Query.Pairs q) (tuplesOf (now (b .entry)))) ⌝ }
 {
-    match q {
-        Query::Pairs(p) => pairs_in_order(p),
-        Query::Nodes(_) => true,
-        Query::Spaces => true,
-        Query::SpacesOf(_) => true,
+    if pairs_in_order(q) {
+        return count_in_order(b, from, Query::Pairs(q));
     }
+    count_by_least(b, from, q)
 }
 
-// The number of entries. The hint is a used record, or 0: a walk may start behind it.
+// The pairs written to the first places of a list that has room for them, and their number; the rest stays.
+fn write_pairs(b: &[u32], from: usize, q: PairQuery, list: &mut [u32]) -> usize
+    requires { ⌜ Readable (now b) × (from ≡ startIn (now b) (Query.Pairs q)) × (length (queried (Query.Pairs q) (tuplesOf (now b))) ≤ length (now list)) ⌝ }
+    ensures { λ r. ⌜ r ≡ length (queried (Query.Pairs q) (tuplesOf (now (b .entry)))) ⌝ }
+    ensures list { λ _. ⌜ now (list .exit) ≡ written (queried (Query.Pairs q) (tuplesOf (now (b .entry)))) (now (list .entry)) ⌝ }
+{
+    if pairs_in_order(q) {
+        return write_in_order(b, from, Query::Pairs(q), list);
+    }
+    write_by_least(b, from, q, list)
+}
+
+// The number of entries. The hint is a used record, or 0: the search for the start may begin behind it.
 pub fn count_entries(b: &[u32], hint: usize, q: Query) -> usize
     requires { ⌜ Readable (now b) × Hint (now b) hint ⌝ }
     ensures { λ r. ⌜ r ≡ length (queried q (tuplesOf (now (b .entry)))) ⌝ }
 {
     let from = first_record(b, hint, q);
-    if in_order(q) {
-        return count_in_order(b, from, q);
+    match q {
+        Query::Pairs(p) => count_pairs(b, from, p),
+        Query::Nodes(_) => count_in_order(b, from, q),
+        Query::Spaces => count_in_order(b, from, q),
+        Query::SpacesOf(_) => count_in_order(b, from, q),
     }
-    count_by_least(b, from, q)
 }
 
 // The entries written to the first places of a list that has room for them, and their number; the rest stays.
-// The hint is a used record, or 0: a walk may start behind it.
+// The hint is a used record, or 0: the search for the start may begin behind it.
 pub fn write_entries(b: &[u32], hint: usize, q: Query, list: &mut [u32]) -> usize
     requires { ⌜ Readable (now b) × Hint (now b) hint × (length (queried q (tuplesOf (now b))) ≤ length (now list)) ⌝ }
     ensures { λ r. ⌜ r ≡ length (queried q (tuplesOf (now (b .entry)))) ⌝ }
     ensures list { λ _. ⌜ now (list .exit) ≡ written (queried q (tuplesOf (now (b .entry)))) (now (list .entry)) ⌝ }
 {
     let from = first_record(b, hint, q);
-    if in_order(q) {
-        return write_in_order(b, from, q, list);
+    match q {
+        Query::Pairs(p) => write_pairs(b, from, p, list),
+        Query::Nodes(_) => write_in_order(b, from, q, list),
+        Query::Spaces => write_in_order(b, from, q, list),
+        Query::SpacesOf(_) => write_in_order(b, from, q, list),
     }
-    write_by_least(b, from, q, list)
 }

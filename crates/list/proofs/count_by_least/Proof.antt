@@ -1,3 +1,4 @@
+use Rattle.list.specs.declared.Query.the-variants.{Pairs}
 use Rattle.list.proofs.Counted.{listCodes, Listing, list-start, list-on, list-less, count-end, done-most}
 use mathlib.Core.Path.{refl}
 use native.Mathlib.Omega.{arith}
@@ -10,10 +11,10 @@ use Rattle.list.proofs.count_by_least.Lts as lts
 use Rattle.list.proofs.least_above.Reads as least-above-reads
 
 abbrev Inv-loop : tie.InvT-loop
-Inv-loop b from q count₀ seen₀ e₀ count seen e = Listing b q count seen e
+Inv-loop b from q count₀ seen₀ e₀ count seen e = Listing b (Pairs q) count seen e
 
 abbrev μ-loop : tie.MeasureT-loop
-μ-loop b from q count₀ seen₀ e₀ count seen e = length (above seen (listCodes b q))
+μ-loop b from q count₀ seen₀ e₀ count seen e = length (above seen (listCodes b (Pairs q)))
 
 -- src/lib.rt:235:9
 least-above-requires : tie.Need-least-above-requires Inv-loop μ-loop

@@ -1,45 +1,84 @@
-use mathlib.Core.Path.{_∙_, sym}
 use borrow.Author.Needs.{needs}
+use Rattle.list.proofs.CodeTests.{start-of-case, count-of-case}
+use Rattle.list.specs.Queries.{inOrder}
+use mathlib.Core.Path.{ap}
 use Rattle.list.proofs.count_entries.Statement.{statement}
 use Rattle.list.proofs.count_entries.Tie as tie
 use Rattle.list.proofs.count_entries.Reads as reads
 use Rattle.list.proofs.count_entries.Lts as lts
-use Rattle.list.proofs.count_by_least.Reads as count-by-least-reads
 use Rattle.list.proofs.count_in_order.Reads as count-in-order-reads
+use Rattle.list.proofs.count_pairs.Reads as count-pairs-reads
 use Rattle.list.proofs.first_record.Reads as first-record-reads
-use Rattle.list.proofs.in_order.Reads as in-order-reads
 
--- src/lib.rt:427:9
+-- src/lib.rt:449:9
 first-record-requires : tie.Need-first-record-requires
-first-record-requires c κs = search needs
+first-record-requires c κs = (c .before .pre .0 .linked, c .before .pre .1)
 
--- src/lib.rt:428:8
-in-order-requires : tie.Need-in-order-requires
-in-order-requires c κs = search needs
+-- src/lib.rt:451:22
+enum-known-q : tie.Need-enum-known-q
+enum-known-q c = search needs
 
--- src/lib.rt:429:9
+-- src/lib.rt:451:28
+count-pairs-requires : tie.Need-count-pairs-requires
+count-pairs-requires c κs = (c .before .before .before .before .before .pre .0, start-of-case _ _ _ (c .before .q .given .1) _ (c .before .before .before .first-record .ensures))
+
+-- src/lib.rt:452:28
+enum-told : tie.Need-enum-told
+enum-told c = search needs
+
+-- src/lib.rt:452:28
 count-in-order-requires : tie.Need-count-in-order-requires
-count-in-order-requires c κs = (c .before .before .before .before .pre .0, c .before .before .first-record .ensures, sym (c .before .in-order .ensures) ∙ c .if1 .taken)
+unfolding inOrder
+count-in-order-requires c κs = (c .before .before .before .before .pre .0, c .before .before .first-record .ensures, ap inOrder (c .enum-told .given .1))
 
--- src/lib.rt:429:9
+-- src/lib.rt:453:26
+enum-told-2 : tie.Need-enum-told-2
+enum-told-2 c = search needs
+
+-- src/lib.rt:453:26
+count-in-order-requires-2 : tie.Need-count-in-order-requires-2
+unfolding inOrder
+count-in-order-requires-2 c κs = (c .before .before .before .before .pre .0, c .before .before .first-record .ensures, ap inOrder (c .enum-told2 .given .1))
+
+-- src/lib.rt:454:31
+enum-told-3 : tie.Need-enum-told-3
+enum-told-3 c = search needs
+
+-- src/lib.rt:454:31
+count-in-order-requires-3 : tie.Need-count-in-order-requires-3
+unfolding inOrder
+count-in-order-requires-3 c κs = (c .before .before .before .before .pre .0, c .before .before .first-record .ensures, ap inOrder (c .enum-told3 .given .1))
+
+-- src/lib.rt:445:1
 returns : tie.Need-returns
-returns c = search needs
+returns c = count-of-case _ _ _ (c .before .before .q .given .1) _ (c .count-pairs .ensures)
 
--- src/lib.rt:431:5
-count-by-least-requires : tie.Need-count-by-least-requires
-count-by-least-requires c κs = search needs
-
--- src/lib.rt:423:1
+-- src/lib.rt:445:1
 returns-2 : tie.Need-returns-2
-returns-2 c = search needs
+returns-2 c = c .count-in-order .ensures
+
+-- src/lib.rt:445:1
+returns-3 : tie.Need-returns-3
+returns-3 c = c .count-in-order2 .ensures
+
+-- src/lib.rt:445:1
+returns-4 : tie.Need-returns-4
+returns-4 c = c .count-in-order3 .ensures
 
 pub count-entries-spec : {M : Type 1} → statement M
 count-entries-spec =
     tie.close
     (tie.spec
     first-record-requires
-    in-order-requires
+    enum-known-q
+    count-pairs-requires
+    enum-told
     count-in-order-requires
+    enum-told-2
+    count-in-order-requires-2
+    enum-told-3
+    count-in-order-requires-3
     returns
-    count-by-least-requires
-    returns-2)
+    returns-2
+    returns-3
+    returns-4)

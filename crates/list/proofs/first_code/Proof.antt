@@ -4,7 +4,7 @@ use Rattle.list.proofs.first_code.Statement.{statement}
 use Rattle.list.proofs.first_code.Tie as tie
 use Rattle.list.proofs.first_code.Reads as reads
 use Rattle.list.proofs.first_code.Lts as lts
-use Rattle.list.proofs.first_pair_code.Reads as first-pair-code-reads
+use Rattle.list.proofs.touching_code.Reads as touching-code-reads
 use Rattle.list.proofs.holder_code.Reads as holder-code-reads
 use Rattle.list.proofs.node_code.Reads as node-code-reads
 use Rattle.list.proofs.space_code.Reads as space-code-reads
@@ -14,8 +14,8 @@ enum-known-q : tie.Need-enum-known-q
 enum-known-q c = search needs
 
 -- src/lib.rt:175:28
-first-pair-code-requires : tie.Need-first-pair-code-requires
-first-pair-code-requires c κs = search needs
+touching-code-requires : tie.Need-touching-code-requires
+touching-code-requires c κs = search needs
 
 -- src/lib.rt:176:22
 enum-known-q-2 : tie.Need-enum-known-q-2
@@ -43,7 +43,7 @@ holder-code-requires c κs = search needs
 
 -- src/lib.rt:171:1
 returns : tie.Need-returns
-returns c = first-case _ _ _ _ (c .before .before .q .given .1) (c .first-pair-code .ensures)
+returns c = first-case _ _ _ _ (c .before .before .q .given .1) (c .touching-code .ensures)
 
 -- src/lib.rt:171:1
 returns-2 : tie.Need-returns-2
@@ -62,7 +62,7 @@ first-code-spec =
     tie.close
     (tie.spec
     enum-known-q
-    first-pair-code-requires
+    touching-code-requires
     enum-known-q-2
     node-code-requires
     enum-told

@@ -1,3 +1,4 @@
+use Rattle.list.specs.declared.Query.the-variants.{Pairs}
 use Rattle.list.proofs.Counted.{listCodes, list-less, done-most, code-fits, count-end, Writing, write-start, write-length, write-index, write-on, write-end}
 use Rattle.list.proofs.Leasts.{above}
 use lib.ListN.{length}
@@ -10,10 +11,10 @@ use Rattle.list.proofs.write_by_least.Lts as lts
 use Rattle.list.proofs.least_above.Reads as least-above-reads
 
 abbrev Inv-loop : tie.InvT-loop
-Inv-loop b from q list₀ done₀ seen₀ e₀ list done seen e = Writing b q list₀ list done seen e
+Inv-loop b from q list₀ done₀ seen₀ e₀ list done seen e = Writing b (Pairs q) list₀ list done seen e
 
 abbrev μ-loop : tie.MeasureT-loop
-μ-loop b from q list₀ done₀ seen₀ e₀ list done seen e = length (above seen (listCodes b q))
+μ-loop b from q list₀ done₀ seen₀ e₀ list done seen e = length (above seen (listCodes b (Pairs q)))
 
 -- src/lib.rt:252:9
 least-above-requires : tie.Need-least-above-requires Inv-loop μ-loop
