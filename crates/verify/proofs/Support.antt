@@ -53,42 +53,32 @@ module _ (ts : Tuples) (k : Key) where
   unfolding nodeSupported
   node-edge n g = simp (ne-eqb (k .n) 0 n, ne-eqb (k .g) 0 g)
 
-  module _ (n : k .n ≢ 0) (g : k .g ≡ 0) (j : Key) (e : j ≡ spaceKey (k .s)) (r : Bool) (f : r ≡ present j ts) where
-    space-there : r ≡ present (spaceKey (k .s)) ts
-    space-there = f ∙ ap (λ (i : Key). present i ts) e
-
+  module _ (n : k .n ≢ 0) (g : k .g ≡ 0) (r : Bool) (space : r ≡ present (spaceKey (k .s)) ts) where
     pub node-no-space : r ≡ false → false ≡ nodeSupported ts k
     unfolding nodeSupported
-    node-no-space h = simp (ne-eqb (k .n) 0 n, eq-eqb (k .g) 0 g, sym space-there ∙ h)
+    node-no-space h = simp (ne-eqb (k .n) 0 n, eq-eqb (k .g) 0 g, sym space ∙ h)
 
-    pub node-rest : r ≡ true → (i : Key) → i ≡ nodeKey 0 (k .n) → (t : Bool) → t ≡ present i ts → t ≡ nodeSupported ts k
+    pub node-rest : r ≡ true → (t : Bool) → t ≡ present (nodeKey 0 (k .n)) ts → t ≡ nodeSupported ts k
     unfolding nodeSupported
-    node-rest h i u t l =
-        l ∙ ap (λ (x : Key). present x ts) u ∙ simp (ne-eqb (k .n) 0 n, eq-eqb (k .g) 0 g, sym space-there ∙ h)
+    node-rest h t l = l ∙ simp (ne-eqb (k .n) 0 n, eq-eqb (k .g) 0 g, sym space ∙ h)
 
   pub edge-none : k .g ≡ 0 → true ≡ edgeSupported ts k
   unfolding edgeSupported
   edge-none g = simp (eq-eqb (k .g) 0 g)
 
-  module _ (g : k .g ≢ 0) (j : Key) (e : j ≡ nodeKey (k .s) (k .n)) (r : Bool) (f : r ≡ present j ts) where
-    first-there : r ≡ present (nodeKey (k .s) (k .n)) ts
-    first-there = f ∙ ap (λ (i : Key). present i ts) e
-
+  module _ (g : k .g ≢ 0) (r : Bool) (first : r ≡ present (nodeKey (k .s) (k .n)) ts) where
     pub edge-no-first : r ≡ false → false ≡ edgeSupported ts k
     unfolding edgeSupported
-    edge-no-first h = simp (ne-eqb (k .g) 0 g, sym first-there ∙ h)
+    edge-no-first h = simp (ne-eqb (k .g) 0 g, sym first ∙ h)
 
-    module _ (h : r ≡ true) (i : Key) (d : i ≡ nodeKey (k .s) (k .m)) (t : Bool) (l : t ≡ present i ts) where
-      second-there : t ≡ present (nodeKey (k .s) (k .m)) ts
-      second-there = l ∙ ap (λ (x : Key). present x ts) d
-
+    module _ (h : r ≡ true) (t : Bool) (second : t ≡ present (nodeKey (k .s) (k .m)) ts) where
       pub edge-no-second : t ≡ false → false ≡ edgeSupported ts k
       unfolding edgeSupported
-      edge-no-second z = simp (ne-eqb (k .g) 0 g, sym first-there ∙ h, sym second-there ∙ z)
+      edge-no-second z = simp (ne-eqb (k .g) 0 g, sym first ∙ h, sym second ∙ z)
 
       pub edge-rest : t ≡ true → (q : Bool) → q ≡ present (edgeKey 0 (k .n) (k .g) (k .m)) ts → q ≡ edgeSupported ts k
       unfolding edgeSupported
-      edge-rest z q y = y ∙ simp (ne-eqb (k .g) 0 g, sym first-there ∙ h, sym second-there ∙ z)
+      edge-rest z q y = y ∙ simp (ne-eqb (k .g) 0 g, sym first ∙ h, sym second ∙ z)
 
 -- ---- one tuple of the walk
 
