@@ -1,6 +1,6 @@
 -- What a tuple names, sought in the used chain.
 use mathlib.Core.Bool.{Bool, true, false, cond, _&&_, false≢true}
-use mathlib.Core.List.{List, [], _∷_}
+use mathlib.Core.List.{List}
 use mathlib.Core.Logic.{_≢_}
 use mathlib.Core.Path.{_≡_, sym, ap, _∙_, subst}
 use Prim.Native.Nat.{ℕ}
@@ -8,19 +8,12 @@ use lib.Dec.{eqb}
 use borrow.Author.Tests.{eq-eqb, ne-eqb}
 use Rattle.model.specs.declared.Key.{Key}
 use Rattle.model.specs.Ordered.{Ascending}
-use Rattle.model.specs.Keys.{keyOf, spaceKey, nodeKey, edgeKey, compareKeys, sameKey}
+use Rattle.model.specs.Keys.{keyOf, spaceKey, nodeKey, edgeKey, compareKeys}
 use Rattle.model.specs.Tuples.{Tuples, present}
 use Rattle.model.specs.Buffer.{word, next, keyAt, tuplesOf, ascendsFromUniverse, nodeSupported, edgeSupported}
-use Rattle.model.proofs.Bools.{and-right}
-use Rattle.model.proofs.Order.{keys}
-use Rattle.model.proofs.Ordered.{test-above}
+use Rattle.model.proofs.Store.{from-universe-yes}
 use Rattle.verify.specs.Checks.{Walkable, UsedEnds, tuplesFrom, Seekable, Sorted, Held, supported, orLast}
 use Rattle.verify.proofs.Rest.{used-from-head, on-head, tuples-none, EveryLeft, every-start, every-next, every-held}
-
-ascending-from-universe : (ts : Tuples) → ascendsFromUniverse ts ≡ true → Ascending keyOf compareKeys ts
-unfolding ascendsFromUniverse
-ascending-from-universe [] e = tt
-ascending-from-universe (t ∷ ts) e = test-above keyOf compareKeys keys (t .key) ts (and-right (sameKey (t .key) (spaceKey 0)) _ e)
 
 -- ---- from the head
 
@@ -30,7 +23,7 @@ module _ (b : List ℕ) (h : ℕ) (S : Sorted b) (e : h ≡ word b 1) where
       record {
         walkable = S .used .walkable;
         on = on-head b h (S .used) e;
-        ascends = subst (Ascending keyOf compareKeys) (sym (used-from-head b h e)) (ascending-from-universe (tuplesOf b) (S .ascends));
+        ascends = subst (Ascending keyOf compareKeys) (sym (used-from-head b h e)) (from-universe-yes (tuplesOf b) (S .ascends) .0);
       }
 
   -- what a search from the head says

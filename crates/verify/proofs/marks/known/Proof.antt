@@ -1,7 +1,6 @@
 use mathlib.Core.Path.{sym, _∙_}
 use Rattle.verify.proofs.Hints.{shown}
 use Rattle.model.specs.Keys.{edgeKey}
-use borrow.Author.Needs.{needs}
 use Rattle.verify.proofs.marks.known.Statement.{statement}
 use Rattle.verify.proofs.marks.known.Tie as tie
 use Rattle.verify.proofs.marks.known.Reads as reads

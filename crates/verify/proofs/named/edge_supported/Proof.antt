@@ -4,7 +4,6 @@ use Rattle.model.specs.declared.Key.{Key}
 use Rattle.model.specs.Tuples.{present}
 use Rattle.model.specs.Buffer.{tuplesOf}
 use Rattle.verify.proofs.Support.{edge-none, edge-no-first, edge-no-second, edge-rest}
-use borrow.Author.Needs.{needs}
 use Rattle.verify.proofs.named.edge_supported.Statement.{statement}
 use Rattle.verify.proofs.named.edge_supported.Tie as tie
 use Rattle.verify.proofs.named.edge_supported.Reads as reads

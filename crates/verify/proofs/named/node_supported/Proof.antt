@@ -1,7 +1,6 @@
 use borrow.Author.Tests.{not-true, not-false}
 use Rattle.model.specs.Buffer.{tuplesOf}
 use Rattle.verify.proofs.Support.{node-nameless, node-edge, node-no-space, node-rest}
-use borrow.Author.Needs.{needs}
 use Rattle.verify.proofs.named.node_supported.Statement.{statement}
 use Rattle.verify.proofs.named.node_supported.Tie as tie
 use Rattle.verify.proofs.named.node_supported.Reads as reads
