@@ -1,5 +1,5 @@
 -- What a tuple names, sought in the used chain.
-use mathlib.Core.Bool.{Bool, true, false, cond, _&&_, false≢true}
+use mathlib.Core.Bool.{Bool, true, false, cond, _&&_}
 use mathlib.Core.List.{List}
 use mathlib.Core.Logic.{_≢_}
 use mathlib.Core.Path.{_≡_, sym, ap, _∙_, subst}
@@ -10,10 +10,10 @@ use Rattle.model.specs.declared.Key.{Key}
 use Rattle.model.specs.Ordered.{Ascending}
 use Rattle.model.specs.Keys.{keyOf, spaceKey, nodeKey, edgeKey, compareKeys}
 use Rattle.model.specs.Tuples.{Tuples, present}
-use Rattle.model.specs.Buffer.{word, next, keyAt, tuplesOf, ascendsFromUniverse, nodeSupported, edgeSupported}
+use Rattle.model.specs.Buffer.{word, next, keyAt, tuplesOf, nodeSupported, edgeSupported}
 use Rattle.model.proofs.Store.{from-universe-yes}
 use Rattle.verify.specs.Checks.{Walkable, UsedEnds, tuplesFrom, Seekable, Sorted, Held, supported, orLast}
-use Rattle.verify.proofs.Rest.{used-from-head, on-head, tuples-none, EveryLeft, every-start, every-next, every-held}
+use Rattle.verify.proofs.Rest.{used-from-head, on-head, EveryLeft, every-start, every-next, every-held}
 
 -- ---- from the head
 
@@ -29,11 +29,6 @@ module _ (b : List ℕ) (h : ℕ) (S : Sorted b) (e : h ≡ word b 1) where
   -- what a search from the head says
   pub head-says : (j k : Key) → j ≡ k → (r : Bool) → r ≡ present j (tuplesFrom b h) → r ≡ present k (tuplesOf b)
   head-says j k g r f = f ∙ ap (present j) (used-from-head b h e) ∙ ap (λ (i : Key). present i (tuplesOf b)) g
-
-  -- the used chain is not empty
-  pub head-some : h ≢ 0
-  unfolding ascendsFromUniverse
-  head-some z = false≢true (sym (ap ascendsFromUniverse (sym (used-from-head b h e) ∙ tuples-none b h z)) ∙ S .ascends)
 
 -- ---- a node and an edge
 

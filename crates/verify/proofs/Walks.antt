@@ -178,10 +178,6 @@ module _ (b : List ℕ) (w : Walkable b) (h₁ : ℕ) (head₁ : h₁ ≡ word b
   unfolding walkedFrom usedChain
   used-ends = ap (λ (x : Walked). x .ended) used
 
-  pub no-used : u .ended ≡ false → false ≡ chainsRight b
-  unfolding chainsRight
-  no-used e = simp (sym used-ends ∙ e)
-
   module _ (u-yes : u .ended ≡ true) (h₂ : ℕ) (head₂ : h₂ ≡ word b 2) (f : Walked) (from₂ : f ≡ walkedFrom b h₂) where
     free : f ≡ walkedFrom b (word b 2)
     free = from₂ ∙ ap (walkedFrom b) head₂

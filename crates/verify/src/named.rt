@@ -67,7 +67,8 @@ fn or_last(name: u32, at: usize, last: usize) -> usize
     last
 }
 
-// Is all there that the tuples name: keys ascend, so an edge's first end is the last node before it, and its space the last space.
+// Is all there that the tuples name.
+// Keys ascend, so a node's space is the last space before it, and an edge's first end the last node.
 pub fn all_supported(b: &[u32], marks: &[u16]) -> bool
     requires { ⌜ Sorted (now b) × Marks (now b) (now marks) ⌝ }
     ensures { λ r. ⌜ r ≡ everyKey (supported (tuplesOf (now (b .entry)))) (tuplesOf (now (b .entry))) ⌝ }
