@@ -15,10 +15,10 @@ use Rattle.model.specs.Rules.{Chain}
 
 -- ---- the walk and the chain
 
-some-list : {xs ys : List ℕ} → some xs ≡ some ys → xs ≡ ys
+pub some-list : {xs ys : List ℕ} → some xs ≡ some ys → xs ≡ ys
 some-list e = cc
 
-none≢some-list : {xs : List ℕ} → none ≡ some xs → ⊥
+pub none≢some-list : {xs : List ℕ} → none ≡ some xs → ⊥
 none≢some-list {xs} e = let z : _≡_ {A = ℕ} 0 1 = cc in omega arith
 
 -- a walk that ends has met a chain
@@ -99,7 +99,7 @@ count-append i [] ys = omega arith
 count-append i (x ∷ xs) ys = ap (λ (n : ℕ). oneIf (eqb i x) + n) (count-append i xs ys) ∙ sym (add-assoc (oneIf (eqb i x)) (count i xs) (count i ys))
 
 -- the counts of the records 1 to C, added up
-abbrev total : ℕ → List ℕ → ℕ
+abbrev pub total : ℕ → List ℕ → ℕ
 total zero is = 0
 total (suc C) is = count (suc C) is + total C is
 
@@ -139,7 +139,7 @@ unfolding count
 total-cons zero x xs = omega arith
 total-cons (suc C) x xs = omega (arith, total-cons C x xs)
 
-total-length : (C : ℕ) (is : List ℕ) → Within C is → total C is ≡ length is
+pub total-length : (C : ℕ) (is : List ℕ) → Within C is → total C is ≡ length is
 total-length C [] h = total-nil C
 total-length C (i ∷ is) h = omega (arith, total-cons C i is, hits-within C i (h .0) (h .1), total-length C is (h .2))
 

@@ -24,7 +24,7 @@ isEq-true Ordering·lt e = absurd (false≢true e)
 isEq-true Ordering·eq e = refl
 isEq-true Ordering·gt e = absurd (false≢true e)
 
-isLess-true : (o : Ordering) → isLess o ≡ true → o ≡ Ordering·lt
+pub isLess-true : (o : Ordering) → isLess o ≡ true → o ≡ Ordering·lt
 isLess-true Ordering·lt e = refl
 isLess-true Ordering·eq e = absurd (false≢true e)
 isLess-true Ordering·gt e = absurd (false≢true e)

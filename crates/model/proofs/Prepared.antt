@@ -38,15 +38,15 @@ count-up i j (suc n) h k = go (eqb i j) refl (count-up i (suc j) n)
         let other : i ≡ j → ⊥ = eqb-false i j e in
         omega (arith, miss i j other, rest (omega arith) (omega arith))
 
-follower-on : (C i : ℕ) → i < C → follower C i ≡ suc i
+pub follower-on : (C i : ℕ) → i < C → follower C i ≡ suc i
 unfolding follower
 follower-on C i h = ap (λ (b : Bool). cond b (suc i) 0) (lt-ltb i C h)
 
-follower-last : (C i : ℕ) → C ≤ i → follower C i ≡ 0
+pub follower-last : (C i : ℕ) → C ≤ i → follower C i ≡ 0
 unfolding follower
 follower-last C i h = ap (λ (b : Bool). cond b (suc i) 0) (le-ltb i C h)
 
-follower-most : (C i : ℕ) → follower C i ≤ C
+pub follower-most : (C i : ℕ) → follower C i ≤ C
 unfolding follower
 follower-most C i = go (ltb i C) refl
   where

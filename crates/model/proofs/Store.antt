@@ -39,7 +39,7 @@ key-every p (t ∷ ts) h =
     and-both (p (t .key)) (everyKey p ts) (h (t .key) (or-left (sameKey (t .key) (t .key)) (present (t .key) ts) (own-key (t .key))))
     (key-every p ts (λ k e. h k (or-right (sameKey k (t .key)) (present k ts) e)))
 
-record-every : (p : ℕ → Bool) (C : ℕ) → ((i : ℕ) → 1 ≤ i → i ≤ C → p i ≡ true) → everyRecord p C ≡ true
+pub record-every : (p : ℕ → Bool) (C : ℕ) → ((i : ℕ) → 1 ≤ i → i ≤ C → p i ≡ true) → everyRecord p C ≡ true
 unfolding everyRecord
 record-every p zero h = refl
 record-every p (suc C) h =
@@ -151,7 +151,7 @@ yes-edge ts k S =
 
 -- ---- the rules on the tuples
 
-from-universe-yes : (ts : Tuples) → ascendsFromUniverse ts ≡ true → Ascending keyOf compareKeys ts × (firstKey ts ≡ some (spaceKey 0))
+pub from-universe-yes : (ts : Tuples) → ascendsFromUniverse ts ≡ true → Ascending keyOf compareKeys ts × (firstKey ts ≡ some (spaceKey 0))
 unfolding ascendsFromUniverse
 from-universe-yes [] e = absurd (false≢true e)
 from-universe-yes (t ∷ ts) e = (
@@ -205,7 +205,7 @@ sound-exactly ts = (
 
 -- ---- a store
 
-ends-some : (r : Option (List ℕ)) → ends r ≡ true → r ≡ some (orNothing r)
+pub ends-some : (r : Option (List ℕ)) → ends r ≡ true → r ≡ some (orNothing r)
 unfolding ends orNothing
 ends-some none e = absurd (false≢true e)
 ends-some (some is) e = refl

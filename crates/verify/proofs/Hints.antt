@@ -1,5 +1,5 @@
 -- Marks name used records, and what they show is there; the keys of the used chain, tested and marked in one walk.
-use mathlib.Core.Bool.{Bool, true, false, cond, not, _&&_, _||_, and-false}
+use mathlib.Core.Bool.{Bool, true, false, cond, not, _&&_, _||_, and-false, false≢true}
 use mathlib.Core.List.{List}
 use mathlib.Core.Logic.{_≢_}
 use mathlib.Core.Path.{_≡_, refl, sym, ap, _∙_, subst}
@@ -13,12 +13,14 @@ use Rattle.model.specs.declared.Key.{Key}
 use Rattle.model.specs.Ordered.{isLess}
 use Rattle.model.specs.Keys.{sameKey, spaceKey, compareKeys}
 use Rattle.model.specs.Tuples.{present}
-use Rattle.model.specs.Buffer.{word, next, keyAt, tuplesOf, ascendsFromUniverse, everyKey, smallKey, noEdgeWithoutNode, edgeHasEnd}
-use Rattle.model.proofs.Bools.{and-left, and-right, not-yes}
+use Rattle.model.specs.Buffer.{word, capacityOf, next, ends, usedChain, keyAt, tuplesOf, ascendsFromUniverse, everyKey, smallKey, noEdgeWithoutNode, edgeHasEnd}
+use Rattle.model.proofs.Bools.{and-left, and-right, and-both, not-yes}
 use Rattle.model.proofs.Tuples.{same-key}
-use Rattle.verify.specs.Checks.{Walkable, UsedEnds, isAt, Held, Marks, markCount, slotOf, withMark, withNamed, shapedKey, goodKey, keysRight}
-use Rattle.verify.proofs.Capacity.{room}
-use Rattle.verify.proofs.Rest.{AscendsLeft, ascends-start, ascends-next, EveryLeft, every-start, every-next, every-held}
+use Rattle.verify.specs.Checks.{Walkable, UsedEnds, isAt, Held, Marks, markCount, slotOf, withMark, withNamed, walkedFrom, shapedKey, goodKey, keysRight, keyFollows, stoppedWalk, usedWalk}
+use Rattle.verify.specs.declared.chains.Walked.{Walked}
+use Rattle.verify.proofs.Capacity.{some-record, few-records}
+use Rattle.verify.proofs.Walks.{Walking, walking-start, walking-on, walking-end, walking-stop}
+use Rattle.verify.proofs.Rest.{AscendsLeft, ascends-empty, ascends-not-first, ascends-start, ascends-next, ascends-no, ascends-end, EveryLeft, every-start, every-next, every-no, every-end, every-held}
 
 -- ---- marks
 
@@ -84,6 +86,21 @@ mark-marks zero b ms at i M H = M
 mark-marks (suc left) b ms at i M H =
     either b (eqb (getD ms at 0) 0) (set ms at i) (withMark left ms ((at + 1) % markCount) i) (set-marks b ms at i M H)
     (mark-marks left b ms ((at + 1) % markCount) i M H)
+
+same-length : (t : Bool) (xs ys zs : List ℕ) → length xs ≡ length zs → length ys ≡ length zs → length (cond t xs ys) ≡ length zs
+same-length true xs ys zs x y = x
+same-length false xs ys zs x y = y
+
+mark-length : (left : ℕ) (ms : List ℕ) (at i : ℕ) → length (withMark left ms at i) ≡ length ms
+unfolding withMark
+mark-length zero ms at i = refl
+mark-length (suc left) ms at i =
+    same-length (eqb (getD ms at 0) 0) (set ms at i) (withMark left ms ((at + 1) % markCount) i) ms (length-set ms at i)
+    (mark-length left ms ((at + 1) % markCount) i)
+
+named-length : (ms : List ℕ) (k : Key) (i : ℕ) → length (withNamed ms k i) ≡ length ms
+unfolding withNamed
+named-length ms k i = same-length (eqb (k .s) 0 || eqb (k .g) 0) (withMark 64 ms (slotOf k) i) ms ms (mark-length 64 ms (slotOf k) i) refl
 
 pub named-marks : (b ms : List ℕ) (k : Key) (i : ℕ) → Marks b ms → Held b i → (ms′ : List ℕ) → ms′ ≡ withNamed ms k i → Marks b ms′
 unfolding withNamed
@@ -152,8 +169,9 @@ module _ (ms₀ : List ℕ) (i : ℕ) where
         go zero r h = P .same ∙ r
         go (suc l) r h = absurd (omega arith)
 
--- ---- keys tested and marked in one walk
+-- ---- the used chain walked, its keys tested and marked
 
+-- what is known of keys and marks where the used chain ends
 pub record Keyed (b : List ℕ) (key : Key) (at : ℕ) (ms : List ℕ) : Type 0 where
   pub ascends : AscendsLeft b key at
   pub good : EveryLeft goodKey b at
@@ -179,10 +197,6 @@ module _ (b : List ℕ) where
       every-next goodKey b h n (U .walkable) (every-start goodKey b h U e) h≢ f
       (ap goodKey (same-key (keyAt b h) (spaceKey 0) t) ∙ (unfold goodKey smallKey shapedKey noEdgeWithoutNode edgeHasEnd in refl))
 
--- a record of the walk is one of 2,048 at most
-pub keyed-low : (b : List ℕ) (at : ℕ) → Walkable b → EveryLeft goodKey b at → at ≤ 4096
-keyed-low b at w E = omega (arith, E .on .high, room b (w .least) (w .most), w .most)
-
 module _ (b : List ℕ) (U : UsedEnds b) where
   pub keyed-start : (h n : ℕ) → h ≡ word b 1 → h ≢ 0 → n ≡ next b h → (k : Key) → k ≡ keyAt b h → sameKey k (spaceKey 0) ≡ true
       → (ms : List ℕ) → Marks b ms → Keyed b k n ms
@@ -202,3 +216,82 @@ module _ (b : List ℕ) (U : UsedEnds b) where
         good = every-next goodKey b at n (U .walkable) (K .good) at≢ e (ap goodKey (sym g) ∙ t);
         marks = named-marks b ms k at (K .marks) (every-held goodKey b at (U .walkable) (K .good)) ms′ m;
       }
+
+-- what is left of the walk
+pub record Using (b ms : List ℕ) (key : Key) (at last left : ℕ) : Type 0 where
+  pub walking : Walking b (word b 1) left at last
+  pub size : length ms ≡ markCount
+  pub keyed : ends (usedChain b) ≡ true → Keyed b key at ms
+
+module _ (b : List ℕ) (w : Walkable b) where
+  used-ends : ends (usedChain b) ≡ true → UsedEnds b
+  used-ends e = record { walkable = w; ended = e }
+
+  -- given up: the chain does not end, or its keys are not right
+  pub given-up : (ends (usedChain b) ≡ true → false ≡ keysRight (tuplesOf b)) → stoppedWalk ≡ usedWalk b
+  unfolding usedWalk
+  given-up h = sym (ap (λ (t : Bool). cond t (walkedFrom b (word b 1)) stoppedWalk) (go (ends (usedChain b)) refl))
+    where
+      go : (e : Bool) → ends (usedChain b) ≡ e → (e && keysRight (tuplesOf b)) ≡ false
+      go true f = sym (h f)
+      go false f = refl
+
+  pub no-head : (h : ℕ) → h ≡ word b 1 → h ≡ 0 → stoppedWalk ≡ usedWalk b
+  no-head h e z = given-up (λ f. not-ascending b (ascends-empty b (used-ends f) h e z))
+
+  module _ (h : ℕ) (e : h ≡ word b 1) (h≢ : h ≢ 0) (k : Key) (g : k ≡ keyAt b h) where
+    pub not-universe : sameKey k (spaceKey 0) ≡ false → stoppedWalk ≡ usedWalk b
+    not-universe t = given-up (λ f. not-ascending b (ascends-not-first b (used-ends f) h e h≢ k g t))
+
+    pub using-start : sameKey k (spaceKey 0) ≡ true → (C n : ℕ) → C ≡ capacityOf b → n ≡ next b h → (ms : List ℕ) → Marks b ms → Using b ms k n h (C - 1)
+    using-start t C n d f ms M =
+        let high : word b 1 ≤ capacityOf b = w .usedHead in
+        record {
+          walking =
+              subst (λ (i : ℕ). Walking b i (C - 1) n h) e
+              (walking-on b h C h 0 n w (walking-start b h C d (omega arith)) h≢ (λ z. omega (arith, some-record b (w .least) (w .most))) f);
+          size = M .size;
+          keyed = λ u. keyed-start b (used-ends u) h n e h≢ f k g t ms M;
+        }
+
+  module _ (ms : List ℕ) (key : Key) (at last left : ℕ) (W : Using b ms key at last left) where
+    -- a record of the walk is one of 2,048 at most
+    pub using-low : at ≤ 4096
+    using-low = omega (arith, W .walking .high, few-records b (w .least) (w .most))
+
+    pub using-end : at ≡ 0 → record { ended = true; count = capacityOf b - left; last = last } ≡ usedWalk b
+    unfolding usedWalk
+    using-end z =
+        let e = walking-end b (word b 1) left at last (W .walking) z in
+        let u : ends (usedChain b) ≡ true = sym (unfold walkedFrom usedChain in ap (λ (x : Walked). x .ended) e) in
+        let K = W .keyed u in
+        let k : true ≡ keysRight (tuplesOf b)
+        = both-right b (ascends-end b (used-ends u) key at (K .ascends) z) (every-end goodKey b at (K .good) z) in
+        e ∙ sym (ap (λ (t : Bool). cond t (walkedFrom b (word b 1)) stoppedWalk) (and-both (ends (usedChain b)) _ u (sym k)))
+
+    module _ (at≢ : at ≢ 0) where
+      pub using-stop : left ≡ 0 → stoppedWalk ≡ usedWalk b
+      using-stop z =
+          given-up
+          (λ u. absurd (false≢true (unfold walkedFrom usedChain in ap (λ (x : Walked). x .ended) (walking-stop b (word b 1) left at last (W .walking) at≢ z) ∙ u)))
+
+      module _ (k : Key) (g : k ≡ keyAt b at) where
+        pub using-no : keyFollows key k ≡ false → stoppedWalk ≡ usedWalk b
+        unfolding keyFollows
+        using-no t = given-up (λ u. go (W .keyed u) (used-ends u) (isLess (compareKeys key k)) refl t)
+          where
+            go : Keyed b key at ms → UsedEnds b → (l : Bool) → isLess (compareKeys key k) ≡ l → (l && goodKey k) ≡ false → false ≡ keysRight (tuplesOf b)
+            go K U false e h = not-ascending b (ascends-no b U key at (K .ascends) at≢ k g e)
+            go K U true e h = not-good b (every-no goodKey b at w (K .good) at≢ (ap goodKey (sym g) ∙ h))
+
+        pub using-next : keyFollows key k ≡ true → left ≢ 0 → (n : ℕ) → n ≡ next b at → (ms′ : List ℕ) → ms′ ≡ withNamed ms k at → Using b ms′ k n at (left - 1)
+        unfolding keyFollows
+        using-next t left≢ n f ms′ m =
+            record {
+              walking = walking-on b (word b 1) left at last n w (W .walking) at≢ left≢ f;
+              size = ap length m ∙ named-length ms k at ∙ W .size;
+              keyed =
+                  λ u.
+                  keyed-next b (used-ends u) key at ms (W .keyed u) at≢ n f k g (and-left (isLess (compareKeys key k)) _ t)
+                  (and-right (isLess (compareKeys key k)) _ t) ms′ m;
+            }

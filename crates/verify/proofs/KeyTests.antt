@@ -5,8 +5,10 @@ use Prim.Native.Nat.{_≤_, _<_}
 use lib.Dec.{eqb, leb}
 use borrow.Author.Tests.{eq-eqb, ne-eqb, le-leb, lt-leb}
 use Rattle.model.specs.declared.Key.{Key}
+use Rattle.model.specs.Ordered.{isLess}
+use Rattle.model.specs.Keys.{compareKeys}
 use Rattle.model.specs.Buffer.{smallKey, noEdgeWithoutNode, edgeHasEnd}
-use Rattle.verify.specs.Checks.{shapedKey, goodKey}
+use Rattle.verify.specs.Checks.{shapedKey, goodKey, keyFollows}
 
 module _ (k : Key) where
   pub small-s : 65535 < k .s → false ≡ smallKey k
@@ -50,3 +52,12 @@ module _ (k : Key) where
   pub good-rest : (r t : Bool) → r ≡ smallKey k → r ≡ true → t ≡ shapedKey k → t ≡ goodKey k
   unfolding goodKey
   good-rest r t e f g = g ∙ simp (sym e ∙ f)
+
+module _ (j k : Key) (r : Bool) (e : r ≡ isLess (compareKeys j k)) where
+  pub follows-no : r ≡ false → false ≡ keyFollows j k
+  unfolding keyFollows
+  follows-no f = simp (sym e ∙ f)
+
+  pub follows-rest : r ≡ true → (t : Bool) → t ≡ goodKey k → t ≡ keyFollows j k
+  unfolding keyFollows
+  follows-rest f t g = g ∙ simp (sym e ∙ f)

@@ -3,7 +3,7 @@
 use mathlib.Core.Bool.{Bool, true, false, not, _&&_}
 use mathlib.Core.List.{List, [], _∷_, _++_}
 use mathlib.Core.Path.{_≡_, refl, sym, ap, _∙_, subst}
-use Prim.Native.Nat.{ℕ, zero, suc, _+_, _≤_, _<_}
+use Prim.Native.Nat.{ℕ, zero, suc, _+_, _≤_}
 use native.Mathlib.Omega.{arith}
 use lib.Dec.{eqb}
 use lib.ListN.{length, length-append}
@@ -12,7 +12,8 @@ use Rattle.model.specs.Buffer.{oneIf, count, everyRecord}
 use Rattle.model.specs.Rules.{Chain}
 use Rattle.model.proofs.Bools.{and-left, and-right, and-both, not-yes, no-not, equal}
 use Rattle.model.proofs.Steps.{every-record}
-use Rattle.model.proofs.Chains.{Within, within-append, chain-unique, count-append, once-length}
+use Rattle.model.proofs.Store.{record-every}
+use Rattle.model.proofs.Chains.{Within, within-append, chain-unique, count-append, hit, miss, total, total-length, once-length}
 
 -- ---- the last record
 
@@ -28,12 +29,6 @@ last-low C d (i ∷ is) w h = last-low C i is (w .2) (w .0)
 last-high : (C d : ℕ) (is : List ℕ) → Within C is → d ≤ C → lastOr d is ≤ C
 last-high C d [] w h = h
 last-high C d (i ∷ is) w h = last-high C i is (w .2) (w .1)
-
-hit : (a x : ℕ) → a ≡ x → oneIf (eqb a x) ≡ 1
-hit a x e = ap oneIf (eq-eqb a x e)
-
-miss : (a x : ℕ) → (a ≡ x → ⊥) → oneIf (eqb a x) ≡ 0
-miss a x e = ap oneIf (ne-eqb a x e)
 
 -- the last record is met
 last-met : (i : ℕ) (is : List ℕ) → 1 ≤ count (lastOr i is) (i ∷ is)
@@ -102,44 +97,6 @@ module _ (link : ℕ → ℕ) where
 
 -- ---- the counts of the records 1 to C, added up
 
-abbrev total : ℕ → List ℕ → ℕ
-total zero is = 0
-total (suc C) is = count (suc C) is + total C is
-
-abbrev hits : ℕ → ℕ → ℕ
-hits zero x = 0
-hits (suc C) x = oneIf (eqb (suc C) x) + hits C x
-
-hits-above : (C x : ℕ) → C < x → hits C x ≡ 0
-hits-above zero x h = refl
-hits-above (suc C) x h = omega (arith, miss (suc C) x (λ e. omega arith), hits-above C x (omega arith))
-
-hits-within : (C x : ℕ) → 1 ≤ x → x ≤ C → hits C x ≡ 1
-hits-within zero x h k = absurd (omega arith)
-hits-within (suc C) x h k = go (eqb (suc C) x) refl (hits-within C x h)
-  where
-    go : (t : Bool) → eqb (suc C) x ≡ t → (x ≤ C → hits C x ≡ 1) → oneIf (eqb (suc C) x) + hits C x ≡ 1
-    go true e rest =
-        let same : suc C ≡ x = eqb-true (suc C) x e in
-        omega (arith, hit (suc C) x same, hits-above C x (omega arith))
-    go false e rest =
-        let other : suc C ≡ x → ⊥ = eqb-false (suc C) x e in
-        omega (arith, miss (suc C) x other, rest (omega arith))
-
-total-nil : (C : ℕ) → total C [] ≡ 0
-unfolding count
-total-nil zero = refl
-total-nil (suc C) = omega (arith, total-nil C)
-
-total-cons : (C x : ℕ) (xs : List ℕ) → total C (x ∷ xs) ≡ hits C x + total C xs
-unfolding count
-total-cons zero x xs = omega arith
-total-cons (suc C) x xs = omega (arith, total-cons C x xs)
-
-total-length : (C : ℕ) (is : List ℕ) → Within C is → total C is ≡ length is
-total-length C [] h = total-nil C
-total-length C (i ∷ is) h = omega (arith, total-cons C i is, hits-within C i (h .0) (h .1), total-length C is (h .2))
-
 total-most : (C : ℕ) (is : List ℕ) → ((i : ℕ) → count i is ≤ 1) → total C is ≤ C
 total-most zero is h = omega arith
 total-most (suc C) is h = omega (arith, h (suc C), total-most C is h)
@@ -163,12 +120,6 @@ total-full (suc C) is h e i low high =
     go false f later = let other : i ≡ suc C → ⊥ = eqb-false i (suc C) f in later (omega arith)
 
 -- ---- each record exactly once
-
-pub record-every : (p : ℕ → Bool) (C : ℕ) → ((i : ℕ) → 1 ≤ i → i ≤ C → p i ≡ true) → everyRecord p C ≡ true
-unfolding everyRecord
-record-every p zero h = refl
-record-every p (suc C) h =
-    and-both (p (suc C)) (everyRecord p C) (h (suc C) (omega arith) (omega arith)) (record-every p C (λ i a b. h i a (omega arith)))
 
 module _
     (link : ℕ → ℕ) (C h₁ h₂ : ℕ) (used free : List ℕ) (some′ : 1 ≤ C) (c₁ : Chain link h₁ used) (c₂ : Chain link h₂ free)

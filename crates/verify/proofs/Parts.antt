@@ -1,5 +1,5 @@
 -- The parts of the check (specs/Checks.antt) together are the test of a store.
-use mathlib.Core.Bool.{Bool, true, false, _&&_}
+use mathlib.Core.Bool.{Bool, true, false, _&&_, and-false}
 use mathlib.Core.List.{List, [], _∷_}
 use mathlib.Core.Path.{_≡_, refl, sym, ap, ap₂, _∙_}
 use Prim.Native.Nat.{ℕ}
@@ -8,8 +8,9 @@ use lib.ListN.{length}
 use Rattle.model.specs.declared.Key.{Key}
 use Rattle.model.specs.Tuples.{Tuples}
 use Rattle.model.specs.Buffer.{word, fitsLength, capacityOf, sizeWord, ends, usedChain, freeChain, usedOf, tuplesOf, ascendsFromUniverse, smallKey, noEdgeWithoutNode, edgeHasEnd, nodeSupported, edgeSupported, everyKey, sound, isStore}
-use Rattle.model.proofs.Bools.{and-left}
-use Rattle.verify.specs.Checks.{headsFit, nextsWithin, Walkable, metOnce, chainsRight, UsedEnds, shapedKey, goodKey, keysRight, Sorted, supported}
+use Rattle.model.proofs.Bools.{and-left, and-right, clash}
+use Rattle.verify.specs.Checks.{headsFit, nextsWithin, Walkable, metOnce, chainsRight, walkedFrom, shapedKey, goodKey, keysRight, stoppedWalk, usedWalk, Sorted, supported}
+use Rattle.verify.specs.declared.chains.Walked.{Walked}
 use Rattle.verify.proofs.Heads.{walkable}
 
 -- ---- tests
@@ -85,26 +86,46 @@ module _ (b : List ℕ) (heads : Bool) (h : heads ≡ headsFit b) where
       pub store-walkable : Walkable b
       store-walkable = walkable b (sym h ∙ h-yes) (sym n ∙ n-yes)
 
-      module _ (chains : Bool) (c : chains ≡ chainsRight b) where
-        pub store-no-chains : chains ≡ false → false ≡ isStore b
-        store-no-chains f = sym (store-parts b ∙ simp (sym h ∙ h-yes, sym n ∙ n-yes, sym c ∙ f))
+      pub store-rest : (r : Bool) → r ≡ (chainsRight b && sound (tuplesOf b)) → r ≡ isStore b
+      store-rest r e = e ∙ sym (store-parts b ∙ simp (sym h ∙ h-yes, sym n ∙ n-yes))
 
-        module _ (c-yes : chains ≡ true) where
-          pub store-used : UsedEnds b
-          unfolding chainsRight
-          store-used = record { walkable = store-walkable; ended = and-left (ends (usedChain b)) _ (sym c ∙ c-yes) }
+module _ (b : List ℕ) (w : Walkable b) (used : Walked) (a : used ≡ usedWalk b) where
+  pub right-no-walk : used .ended ≡ false → false ≡ (chainsRight b && sound (tuplesOf b))
+  unfolding usedWalk walkedFrom chainsRight usedChain
+  right-no-walk f = go (ends (usedChain b)) (keysRight (tuplesOf b)) refl refl
+    where
+      go : (e k : Bool) → ends (usedChain b) ≡ e → keysRight (tuplesOf b) ≡ k → false ≡ (chainsRight b && sound (tuplesOf b))
+      go false k x y = sym (simp x)
+      go true false x y = sym (ap (λ (t : Bool). chainsRight b && t) (sound-parts (tuplesOf b) ∙ simp y) ∙ and-false (chainsRight b))
+      go true true x y =
+          let u : used ≡ walkedFrom b (word b 1) = a ∙ simp (x, y) in
+          absurd (clash (ap (λ (v : Walked). v .ended) u ∙ x) f)
 
-          pub store-tuples : (r : Bool) → r ≡ sound (tuplesOf b) → r ≡ isStore b
-          store-tuples r e = e ∙ sym (store-parts b ∙ simp (sym h ∙ h-yes, sym n ∙ n-yes, sym c ∙ c-yes))
+  module _ (a-yes : used .ended ≡ true) where
+    both : (ends (usedChain b) && keysRight (tuplesOf b)) ≡ true
+    unfolding usedWalk
+    both = go (ends (usedChain b) && keysRight (tuplesOf b)) refl
+      where
+        go : (t : Bool) → (ends (usedChain b) && keysRight (tuplesOf b)) ≡ t → t ≡ true
+        go true x = refl
+        go false x = let u : used ≡ stoppedWalk = a ∙ simp x in absurd (clash a-yes (ap (λ (v : Walked). v .ended) u))
 
-module _ (b : List ℕ) (U : UsedEnds b) (right : Bool) (a : right ≡ keysRight (tuplesOf b)) where
-  pub sound-no-keys : right ≡ false → false ≡ sound (tuplesOf b)
-  sound-no-keys f = sym (sound-parts (tuplesOf b) ∙ simp (sym a ∙ f))
+    pub right-ends : ends (usedChain b) ≡ true
+    right-ends = and-left (ends (usedChain b)) _ both
 
-  module _ (a-yes : right ≡ true) where
-    pub sound-sorted : Sorted b
+    pub right-walk : used ≡ walkedFrom b (word b 1)
+    unfolding usedWalk
+    right-walk = a ∙ simp both
+
+    pub right-sorted : Sorted b
     unfolding keysRight
-    sound-sorted = record { used = U; ascends = and-left (ascendsFromUniverse (tuplesOf b)) _ (sym a ∙ a-yes) }
+    right-sorted =
+        record { used = record { walkable = w; ended = right-ends }; ascends = and-left (ascendsFromUniverse (tuplesOf b)) _ (and-right (ends (usedChain b)) _ both) }
 
-    pub sound-named : (r : Bool) → r ≡ everyKey (supported (tuplesOf b)) (tuplesOf b) → r ≡ sound (tuplesOf b)
-    sound-named r e = e ∙ sym (sound-parts (tuplesOf b) ∙ simp (sym a ∙ a-yes))
+    module _ (chains : Bool) (c : chains ≡ chainsRight b) where
+      pub right-no-chains : chains ≡ false → false ≡ (chainsRight b && sound (tuplesOf b))
+      right-no-chains f = simp (sym c ∙ f)
+
+      pub right-named : chains ≡ true → (r : Bool) → r ≡ everyKey (supported (tuplesOf b)) (tuplesOf b) → r ≡ (chainsRight b && sound (tuplesOf b))
+      right-named f r e =
+          e ∙ sym (ap (λ (t : Bool). t && sound (tuplesOf b)) (sym c ∙ f) ∙ sound-parts (tuplesOf b) ∙ simp (and-right (ends (usedChain b)) _ both))

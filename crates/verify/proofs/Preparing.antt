@@ -5,10 +5,10 @@ use mathlib.Core.Logic.{_≢_}
 use mathlib.Core.Path.{_≡_, refl, sym, ap, ap₂, _∙_, subst}
 use Prim.Native.Nat.{ℕ, zero, suc, _+_, _-_, _*_, _/_, _≤_, _<_}
 use native.Mathlib.Omega.{arith}
-use lib.Dec.{eqb, ltb}
+use lib.Dec.{eqb}
 use lib.ListN.{length, set, drop, length-set}
 use lib.Seq.{getD-set-same, getD-set-other, drop-set-lt}
-use borrow.Author.Tests.{eqb-true, eqb-false, ltb-true, lt-ltb, le-ltb, le-leb, lt-leb}
+use borrow.Author.Tests.{eqb-true, eqb-false, le-leb, lt-leb}
 use Rattle.model.specs.declared.Preparation.the-variants.{Refused, Capacity}
 use Rattle.model.specs.declared.Key.{Key}
 use Rattle.model.specs.Keys.{NIL, spaceKey}
@@ -18,24 +18,6 @@ use Rattle.model.proofs.Store.{fits-length}
 use Rattle.records.specs.Words.{putNext, putTuple}
 use Rattle.verify.proofs.Capacity.{some-record, room}
 use Rattle.verify.specs.Prepare.{headed, universeIn, chained, preparedBuffer, afterPreparing}
-
--- ---- the record after a free one
-
-pub follower-on : (C i : ℕ) → i < C → i + 1 ≡ follower C i
-unfolding follower
-follower-on C i h = omega (arith, ap (λ (t : Bool). cond t (suc i) 0) (lt-ltb i C h))
-
-pub follower-last : (C i : ℕ) → C ≤ i → 0 ≡ follower C i
-unfolding follower
-follower-last C i h = sym (ap (λ (t : Bool). cond t (suc i) 0) (le-ltb i C h))
-
-pub follower-most : (C i : ℕ) → follower C i ≤ C
-unfolding follower
-follower-most C i = go (ltb i C) refl
-  where
-    go : (t : Bool) → ltb i C ≡ t → cond t (suc i) 0 ≤ C
-    go true e = omega (arith, ltb-true i C e)
-    go false e = omega arith
 
 -- ---- the chain of free records
 

@@ -1,5 +1,5 @@
 -- Walks of the used chain once it is known to end: what is left of the chain, of its tuples and of a test on them.
-use mathlib.Core.Bool.{Bool, true, false, not, _&&_, _||_, false≢true, true≢false}
+use mathlib.Core.Bool.{Bool, true, false, not, _&&_, _||_, true≢false}
 use mathlib.Core.List.{List, [], _∷_, map}
 use mathlib.Core.Logic.{_≢_}
 use mathlib.Core.Option.{Option, some}
@@ -17,7 +17,7 @@ use Rattle.model.specs.Buffer.{word, capacityOf, next, keyAt, tupleAt, walk, or
 use Rattle.model.specs.Rules.{Chain}
 use Rattle.model.proofs.Bools.{or-left, or-right, and-left, and-right, not-yes}
 use Rattle.model.proofs.Order.{keys, opposite}
-use Rattle.model.proofs.Ordered.{above-not-held, ascending-tail}
+use Rattle.model.proofs.Ordered.{isLess-true, above-not-held, ascending-tail}
 use Rattle.model.proofs.Tuples.{own-key}
 use Rattle.model.proofs.Chains.{chain-walk}
 use Rattle.records.specs.Words.{Inside}
@@ -252,11 +252,6 @@ module _ (b : List ℕ) (i : ℕ) (k : Key) where
   unfolding isBefore
   before-no t n = simp (ne-eqb i 0 n) at t
 
-less-lt : (o : Ordering) → isLess o ≡ true → o ≡ Ordering·lt
-less-lt Ordering·lt e = refl
-less-lt Ordering·eq e = absurd (false≢true e)
-less-lt Ordering·gt e = absurd (false≢true e)
-
 flip-key : (j k : Key) → compareKeys k j ≡ opposite (compareKeys j k)
 flip-key j k = keys .compares .flip j k
 
@@ -282,7 +277,7 @@ module _ (b : List ℕ) (k : Key) where
         let more = tuples-next b at n seek-w seek-on at≢ e in
         let asc : Ascending keyOf compareKeys (tupleAt b at ∷ tuplesFrom b n) = subst (Ascending keyOf compareKeys) more (S .seekable .ascends) in
         let lower : sameKey k (keyAt b at) ≡ false
-        = ap isEq (flip-key (keyAt b at) k ∙ ap opposite (less-lt (compareKeys (keyAt b at) k) (before-less b at k t))) in
+        = ap isEq (flip-key (keyAt b at) k ∙ ap opposite (isLess-true (compareKeys (keyAt b at) k) (before-less b at k t))) in
         record {
           seekable =
               record {

@@ -1,6 +1,6 @@
 -- What a tuple names, sought in the used chain.
-use mathlib.Core.Bool.{Bool, true, false, cond, _&&_, false≢true}
-use mathlib.Core.List.{List, [], _∷_}
+use mathlib.Core.Bool.{Bool, true, false, cond, _&&_}
+use mathlib.Core.List.{List}
 use mathlib.Core.Logic.{_≢_}
 use mathlib.Core.Path.{_≡_, sym, ap, _∙_, subst}
 use Prim.Native.Nat.{ℕ}
@@ -8,19 +8,12 @@ use lib.Dec.{eqb}
 use borrow.Author.Tests.{eq-eqb, ne-eqb}
 use Rattle.model.specs.declared.Key.{Key}
 use Rattle.model.specs.Ordered.{Ascending}
-use Rattle.model.specs.Keys.{keyOf, spaceKey, nodeKey, edgeKey, compareKeys, sameKey}
+use Rattle.model.specs.Keys.{keyOf, spaceKey, nodeKey, edgeKey, compareKeys}
 use Rattle.model.specs.Tuples.{Tuples, present}
-use Rattle.model.specs.Buffer.{word, next, keyAt, tuplesOf, ascendsFromUniverse, nodeSupported, edgeSupported}
-use Rattle.model.proofs.Bools.{and-right}
-use Rattle.model.proofs.Order.{keys}
-use Rattle.model.proofs.Ordered.{test-above}
+use Rattle.model.specs.Buffer.{word, next, keyAt, tuplesOf, nodeSupported, edgeSupported}
+use Rattle.model.proofs.Store.{from-universe-yes}
 use Rattle.verify.specs.Checks.{Walkable, UsedEnds, tuplesFrom, Seekable, Sorted, Held, supported, orLast}
-use Rattle.verify.proofs.Rest.{used-from-head, on-head, tuples-none, EveryLeft, every-start, every-next, every-held}
-
-ascending-from-universe : (ts : Tuples) → ascendsFromUniverse ts ≡ true → Ascending keyOf compareKeys ts
-unfolding ascendsFromUniverse
-ascending-from-universe [] e = tt
-ascending-from-universe (t ∷ ts) e = test-above keyOf compareKeys keys (t .key) ts (and-right (sameKey (t .key) (spaceKey 0)) _ e)
+use Rattle.verify.proofs.Rest.{used-from-head, on-head, EveryLeft, every-start, every-next, every-held}
 
 -- ---- from the head
 
@@ -30,17 +23,12 @@ module _ (b : List ℕ) (h : ℕ) (S : Sorted b) (e : h ≡ word b 1) where
       record {
         walkable = S .used .walkable;
         on = on-head b h (S .used) e;
-        ascends = subst (Ascending keyOf compareKeys) (sym (used-from-head b h e)) (ascending-from-universe (tuplesOf b) (S .ascends));
+        ascends = subst (Ascending keyOf compareKeys) (sym (used-from-head b h e)) (from-universe-yes (tuplesOf b) (S .ascends) .0);
       }
 
   -- what a search from the head says
   pub head-says : (j k : Key) → j ≡ k → (r : Bool) → r ≡ present j (tuplesFrom b h) → r ≡ present k (tuplesOf b)
   head-says j k g r f = f ∙ ap (present j) (used-from-head b h e) ∙ ap (λ (i : Key). present i (tuplesOf b)) g
-
-  -- the used chain is not empty
-  pub head-some : h ≢ 0
-  unfolding ascendsFromUniverse
-  head-some z = false≢true (sym (ap ascendsFromUniverse (sym (used-from-head b h e) ∙ tuples-none b h z)) ∙ S .ascends)
 
 -- ---- a node and an edge
 
@@ -53,42 +41,32 @@ module _ (ts : Tuples) (k : Key) where
   unfolding nodeSupported
   node-edge n g = simp (ne-eqb (k .n) 0 n, ne-eqb (k .g) 0 g)
 
-  module _ (n : k .n ≢ 0) (g : k .g ≡ 0) (j : Key) (e : j ≡ spaceKey (k .s)) (r : Bool) (f : r ≡ present j ts) where
-    space-there : r ≡ present (spaceKey (k .s)) ts
-    space-there = f ∙ ap (λ (i : Key). present i ts) e
-
+  module _ (n : k .n ≢ 0) (g : k .g ≡ 0) (r : Bool) (space : r ≡ present (spaceKey (k .s)) ts) where
     pub node-no-space : r ≡ false → false ≡ nodeSupported ts k
     unfolding nodeSupported
-    node-no-space h = simp (ne-eqb (k .n) 0 n, eq-eqb (k .g) 0 g, sym space-there ∙ h)
+    node-no-space h = simp (ne-eqb (k .n) 0 n, eq-eqb (k .g) 0 g, sym space ∙ h)
 
-    pub node-rest : r ≡ true → (i : Key) → i ≡ nodeKey 0 (k .n) → (t : Bool) → t ≡ present i ts → t ≡ nodeSupported ts k
+    pub node-rest : r ≡ true → (t : Bool) → t ≡ present (nodeKey 0 (k .n)) ts → t ≡ nodeSupported ts k
     unfolding nodeSupported
-    node-rest h i u t l =
-        l ∙ ap (λ (x : Key). present x ts) u ∙ simp (ne-eqb (k .n) 0 n, eq-eqb (k .g) 0 g, sym space-there ∙ h)
+    node-rest h t l = l ∙ simp (ne-eqb (k .n) 0 n, eq-eqb (k .g) 0 g, sym space ∙ h)
 
   pub edge-none : k .g ≡ 0 → true ≡ edgeSupported ts k
   unfolding edgeSupported
   edge-none g = simp (eq-eqb (k .g) 0 g)
 
-  module _ (g : k .g ≢ 0) (j : Key) (e : j ≡ nodeKey (k .s) (k .n)) (r : Bool) (f : r ≡ present j ts) where
-    first-there : r ≡ present (nodeKey (k .s) (k .n)) ts
-    first-there = f ∙ ap (λ (i : Key). present i ts) e
-
+  module _ (g : k .g ≢ 0) (r : Bool) (first : r ≡ present (nodeKey (k .s) (k .n)) ts) where
     pub edge-no-first : r ≡ false → false ≡ edgeSupported ts k
     unfolding edgeSupported
-    edge-no-first h = simp (ne-eqb (k .g) 0 g, sym first-there ∙ h)
+    edge-no-first h = simp (ne-eqb (k .g) 0 g, sym first ∙ h)
 
-    module _ (h : r ≡ true) (i : Key) (d : i ≡ nodeKey (k .s) (k .m)) (t : Bool) (l : t ≡ present i ts) where
-      second-there : t ≡ present (nodeKey (k .s) (k .m)) ts
-      second-there = l ∙ ap (λ (x : Key). present x ts) d
-
+    module _ (h : r ≡ true) (t : Bool) (second : t ≡ present (nodeKey (k .s) (k .m)) ts) where
       pub edge-no-second : t ≡ false → false ≡ edgeSupported ts k
       unfolding edgeSupported
-      edge-no-second z = simp (ne-eqb (k .g) 0 g, sym first-there ∙ h, sym second-there ∙ z)
+      edge-no-second z = simp (ne-eqb (k .g) 0 g, sym first ∙ h, sym second ∙ z)
 
       pub edge-rest : t ≡ true → (q : Bool) → q ≡ present (edgeKey 0 (k .n) (k .g) (k .m)) ts → q ≡ edgeSupported ts k
       unfolding edgeSupported
-      edge-rest z q y = y ∙ simp (ne-eqb (k .g) 0 g, sym first-there ∙ h, sym second-there ∙ z)
+      edge-rest z q y = y ∙ simp (ne-eqb (k .g) 0 g, sym first ∙ h, sym second ∙ z)
 
 -- ---- one tuple of the walk
 

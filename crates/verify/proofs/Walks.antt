@@ -1,5 +1,5 @@
 -- Walks of at most C records, and what they say of the two chains.
-use mathlib.Core.Bool.{Bool, true, false, not, _&&_, false≢true}
+use mathlib.Core.Bool.{Bool, true, false, not, _&&_}
 use mathlib.Core.List.{List, [], _∷_}
 use mathlib.Core.Logic.{_≢_}
 use mathlib.Core.Option.{Option, none, some, Option·map}
@@ -11,7 +11,8 @@ use lib.ListN.{length}
 use borrow.Author.Tests.{eq-eqb, ne-eqb}
 use Rattle.model.specs.Buffer.{word, capacityOf, next, walk, ends, orNothing, usedChain, freeChain, usedOf, freeOf, count}
 use Rattle.model.specs.Rules.{Chain}
-use Rattle.model.proofs.Chains.{Within, walk-chain, chain-within}
+use Rattle.model.proofs.Chains.{some-list, none≢some-list, Within, walk-chain, chain-within}
+use Rattle.model.proofs.Store.{ends-some}
 use Rattle.verify.specs.declared.chains.Walked.{Walked}
 use Rattle.verify.specs.Checks.{Walkable, metOnce, chainsRight, steps, lastMet, walkedFrom}
 use Rattle.verify.proofs.Capacity.{some-record}
@@ -110,17 +111,6 @@ module _ (b : List ℕ) (head : ℕ) where
 
 -- ---- a walk that ends
 
-some-list : {xs ys : List ℕ} → some xs ≡ some ys → xs ≡ ys
-some-list e = cc
-
-none≢some-list : {xs : List ℕ} → none ≡ some xs → ⊥
-none≢some-list {xs} e = let z : _≡_ {A = ℕ} 0 1 = cc in omega arith
-
-ends-some : (r : Option (List ℕ)) → ends r ≡ true → r ≡ some (orNothing r)
-unfolding ends orNothing
-ends-some none e = absurd (false≢true e)
-ends-some (some is) e = refl
-
 walk-short : (link : ℕ → ℕ) (most i : ℕ) (is : List ℕ) → walk link most i ≡ some is → length is ≤ most
 unfolding walk
 walk-short link zero zero is e = omega (arith, ap length (some-list e))
@@ -187,10 +177,6 @@ module _ (b : List ℕ) (w : Walkable b) (h₁ : ℕ) (head₁ : h₁ ≡ word b
   used-ends : u .ended ≡ ends (usedChain b)
   unfolding walkedFrom usedChain
   used-ends = ap (λ (x : Walked). x .ended) used
-
-  pub no-used : u .ended ≡ false → false ≡ chainsRight b
-  unfolding chainsRight
-  no-used e = simp (sym used-ends ∙ e)
 
   module _ (u-yes : u .ended ≡ true) (h₂ : ℕ) (head₂ : h₂ ≡ word b 2) (f : Walked) (from₂ : f ≡ walkedFrom b h₂) where
     free : f ≡ walkedFrom b (word b 2)

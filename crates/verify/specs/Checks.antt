@@ -1,6 +1,6 @@
 -- Document 01, "A store is a buffer of 10 to 12,297 words where: ..": the test `isStore` of the model in the parts that the check takes one after another.
 -- proofs/Parts.antt proves that the parts together are the test.
-use mathlib.Core.Bool.{Bool, true, cond, not, _&&_, _||_}
+use mathlib.Core.Bool.{Bool, true, false, cond, not, _&&_, _||_}
 use mathlib.Core.List.{List, _++_, map}
 use mathlib.Core.Logic.{_≢_}
 use mathlib.Core.Path.{_≡_}
@@ -98,6 +98,18 @@ goodKey k = smallKey k && shapedKey k
 -- the keys ascend from (0,0,0,0), and each is such a key
 unfoldable pub keysRight : Tuples → Bool
 keysRight ts = ascendsFromUniverse ts && everyKey goodKey ts
+
+-- may a key follow another in a store
+unfoldable pub keyFollows : Key → Key → Bool
+keyFollows j k = isLess (compareKeys j k) && goodKey k
+
+-- a walk that is given up
+abbrev pub stoppedWalk : Walked
+stoppedWalk = record { ended = false; count = 0; last = 0 }
+
+-- the walk of the used chain, given up where its keys are not right
+unfoldable pub usedWalk : List ℕ → Walked
+usedWalk b = cond (ends (usedChain b) && keysRight (tuplesOf b)) (walkedFrom b (word b 1)) stoppedWalk
 
 -- ---- a key in a chain whose keys ascend
 

@@ -4,17 +4,17 @@ use super::layout::capacity;
 ghost use mathlib.Core.Bool.{true};
 ghost use mathlib.Core.Path.{_≡_};
 ghost use Prim.Native.Nat.{_≤_};
-ghost use Rattle.model.specs.Buffer.{capacityOf};
+ghost use Rattle.model.specs.Buffer.{word, capacityOf};
 ghost use Rattle.verify.specs.Checks.{headsFit, nextsWithin, Walkable, walkedFrom, chainsRight};
 
 // What a walk of at most C records from a head finds.
-struct Walked {
+pub struct Walked {
     // Does the chain end.
-    ended: bool,
+    pub ended: bool,
     // How many records it meets.
-    count: usize,
+    pub count: usize,
     // The last record met; 0 where there is none.
-    last: usize,
+    pub last: usize,
 }
 
 // Does the length fit, and do words 0 to 2.
@@ -81,16 +81,12 @@ fn walk_from(b: &[u32], head: usize) -> Walked
     }
 }
 
-// Do both chains end and together meet each record exactly once, and is word 3 right.
+// Where the used chain ends and is walked: does the free chain end too, do both together meet each record exactly once, and is word 3 right.
 // Without marks: they meet C records together, and do not end at the same one.
-pub fn chains_right(b: &[u32]) -> bool
-    requires { ⌜ Walkable (now b) ⌝ }
+pub fn chains_right(b: &[u32], used: Walked) -> bool
+    requires { ⌜ Walkable (now b) × (used ≡ walkedFrom (now b) (word (now b) 1)) × (used .ended ≡ true) ⌝ }
     ensures { λ r. ⌜ r ≡ chainsRight (now (b .entry)) ⌝ }
 {
-    let used = walk_from(b, records::head_word(b, 1));
-    if !used.ended {
-        return false;
-    }
     let free = walk_from(b, records::head_word(b, 2));
     if !free.ended {
         return false;

@@ -1,11 +1,13 @@
 // The keys of the used chain: do they ascend, and is each one that a store may hold.
-// The walks require that the used chain ends.
+use super::chains::Walked;
+use super::layout::capacity;
 use super::layout::node_key;
 use super::marks::mark_named;
 use model::Key;
+ghost use mathlib.Core.Bool.{true};
 ghost use mathlib.Core.Path.{_≡_};
-ghost use Rattle.model.specs.Buffer.{tuplesOf, smallKey};
-ghost use Rattle.verify.specs.Checks.{UsedEnds, shapedKey, goodKey, Marks, keysRight};
+ghost use Rattle.model.specs.Buffer.{ends, usedChain, smallKey};
+ghost use Rattle.verify.specs.Checks.{Walkable, shapedKey, goodKey, keyFollows, stoppedWalk, usedWalk, Marks};
 
 // Are the words of a key at most 65,535.
 fn key_small(k: Key) -> bool
@@ -46,33 +48,63 @@ fn key_good(k: Key) -> bool
     key_shaped(k)
 }
 
-// Do the keys of the used chain strictly ascend from (0,0,0,0), and is each one that a store may hold: one walk for both.
+// May a key follow another in a store: it is above it, and one that a store may hold.
+fn key_follows(key: Key, k: Key) -> bool
+    ensures { λ r. ⌜ r ≡ keyFollows key k ⌝ }
+{
+    if !records::key_below(key, k) {
+        return false;
+    }
+    key_good(k)
+}
+
+// A walk that is given up.
+fn stopped() -> Walked
+    ensures { λ r. ⌜ r ≡ stoppedWalk ⌝ }
+{
+    Walked {
+        ended: false,
+        count: 0,
+        last: 0,
+    }
+}
+
+// Walks the used chain over at most C records; gives up where its keys do not ascend from (0,0,0,0) or a store may not hold one.
 // It marks the records whose keys tuples may name, but the first, which is found without.
-pub fn keys_right(b: &[u32], marks: &mut [u16]) -> bool
-    requires { ⌜ UsedEnds (now b) × Marks (now b) (now marks) ⌝ }
-    ensures answer { λ r. ⌜ r ≡ keysRight (tuplesOf (now (b .entry))) ⌝ }
-    ensures lent { λ _. ⌜ Marks (now (b .entry)) (now (marks .exit)) ⌝ }
+pub fn walk_used(b: &[u32], marks: &mut [u16]) -> Walked
+    requires { ⌜ Walkable (now b) × Marks (now b) (now marks) ⌝ }
+    ensures answer { λ r. ⌜ r ≡ usedWalk (now (b .entry)) ⌝ }
+    ensures lent { λ _. ⌜ (ends (usedChain (now (b .entry))) ≡ true → Marks (now (b .entry)) (now (marks .exit))) ⌝ }
 {
     let head = records::head_word(b, 1);
     if head == 0 {
-        return false;
+        return stopped();
     }
     let mut key = records::key_of(b, head);
     if !records::key_same(key, node_key(0, 0)) {
-        return false;
+        return stopped();
     }
+    let c = capacity(b);
+    let mut left = c - 1;
+    let mut last = head;
     let mut at = records::next_of(b, head);
     while at != 0 {
         let k = records::key_of(b, at);
-        if !records::key_below(key, k) {
-            return false;
+        if !key_follows(key, k) {
+            return stopped();
         }
-        if !key_good(k) {
-            return false;
+        if left == 0 {
+            return stopped();
         }
         mark_named(marks, k, at);
         key = k;
+        last = at;
         at = records::next_of(b, at);
+        left -= 1;
     }
-    true
+    Walked {
+        ended: true,
+        count: c - left,
+        last,
+    }
 }

@@ -8,10 +8,11 @@ mod named;
 mod seek;
 
 use model::Preparation;
+ghost use mathlib.Core.Bool.{_&&_};
 ghost use mathlib.Core.Path.{_≡_};
 ghost use Rattle.model.specs.Buffer.{Preparing, tuplesOf, sound, isStore};
 ghost use Rattle.verify.specs.Prepare.{afterPreparing};
-ghost use Rattle.verify.specs.Checks.{UsedEnds};
+ghost use Rattle.verify.specs.Checks.{Walkable, chainsRight};
 
 // Prepares the buffer as a store that holds UNIVERSE alone, and gives C; a length outside 10 to 12,297 words is refused (1).
 pub fn prepare(buffer: &mut [u32]) -> Preparation
@@ -31,13 +32,17 @@ pub fn prepare(buffer: &mut [u32]) -> Preparation
     Preparation::Capacity(c as u32)
 }
 
-// Do the tuples of the used chain keep the rules; the marks are local to one check.
-fn tuples_sound(b: &[u32]) -> bool
-    requires { ⌜ UsedEnds (now b) ⌝ }
-    ensures { λ r. ⌜ r ≡ sound (tuplesOf (now (b .entry))) ⌝ }
+// Are the chains and the tuples of the used chain right; the marks are local to one check.
+fn records_right(b: &[u32]) -> bool
+    requires { ⌜ Walkable (now b) ⌝ }
+    ensures { λ r. ⌜ r ≡ (chainsRight (now (b .entry)) && sound (tuplesOf (now (b .entry)))) ⌝ }
 {
     let mut marks: [u16; 4096] = [0; 4096];
-    if !keys::keys_right(b, &mut marks) {
+    let used = keys::walk_used(b, &mut marks);
+    if !used.ended {
+        return false;
+    }
+    if !chains::chains_right(b, used) {
         return false;
     }
     named::all_supported(b, &marks)
@@ -53,8 +58,5 @@ pub fn is_store(buffer: &[u32]) -> bool
     if !chains::nexts_within(buffer) {
         return false;
     }
-    if !chains::chains_right(buffer) {
-        return false;
-    }
-    tuples_sound(buffer)
+    records_right(buffer)
 }

@@ -6,6 +6,7 @@ use model::Key;
 ghost use mathlib.Core.Path.{_≡_};
 ghost use Prim.Native.Nat.{_≤_, _<_};
 ghost use lib.ListN.{length, getD, set};
+ghost use Rattle.model.specs.Keys.{edgeKey};
 ghost use Rattle.model.specs.Tuples.{present};
 ghost use Rattle.model.specs.Buffer.{tuplesOf};
 ghost use Rattle.verify.specs.Checks.{Sorted, Held, Marks, markCount, slotOf, withMark, withNamed};
@@ -96,13 +97,13 @@ pub fn marked(b: &[u32], marks: &[u16], k: Key) -> bool
     holds_from(b, records::head_word(b, 1), k)
 }
 
-// Is a key in the used chain: a record that may have it is looked at first, then the marks.
-pub fn known(b: &[u32], marks: &[u16], hint: usize, k: Key) -> bool
+// Is the key (s,n,g,m) in the used chain: a record that may have it is looked at first, then the marks.
+pub fn known(b: &[u32], marks: &[u16], hint: usize, s: u32, n: u32, g: u32, m: u32) -> bool
     requires { ⌜ Sorted (now b) × Marks (now b) (now marks) × Held (now b) hint ⌝ }
-    ensures { λ r. ⌜ r ≡ present k (tuplesOf (now (b .entry))) ⌝ }
+    ensures { λ r. ⌜ r ≡ present (edgeKey s n g m) (tuplesOf (now (b .entry))) ⌝ }
 {
-    if is_at(b, hint, k) {
+    if is_at(b, hint, Key { s, n, g, m }) {
         return true;
     }
-    marked(b, marks, k)
+    marked(b, marks, Key { s, n, g, m })
 }

@@ -5,19 +5,20 @@ use super::marks::known;
 use super::marks::marked;
 use model::Key;
 ghost use mathlib.Core.Path.{_≡_};
+ghost use Rattle.model.specs.Keys.{edgeKey};
 ghost use Rattle.model.specs.Tuples.{present};
 ghost use Rattle.model.specs.Buffer.{tuplesOf, nodeSupported, edgeSupported, everyKey};
 ghost use Rattle.verify.specs.Checks.{Sorted, Held, Marks, supported, orLast};
 
-// Is a key of UNIVERSE there that a tuple of space s names: the tuple of record `at` names itself where s is UNIVERSE.
-fn in_universe(b: &[u32], marks: &[u16], at: usize, s: u32, k: Key) -> bool
+// Is the key (0,n,g,m) there that a tuple of space s names: the tuple of record `at` names itself where s is UNIVERSE.
+fn in_universe(b: &[u32], marks: &[u16], at: usize, s: u32, n: u32, g: u32, m: u32) -> bool
     requires { ⌜ Sorted (now b) × Marks (now b) (now marks) × Held (now b) at ⌝ }
-    ensures { λ r. ⌜ r ≡ present k (tuplesOf (now (b .entry))) ⌝ }
+    ensures { λ r. ⌜ r ≡ present (edgeKey 0 n g m) (tuplesOf (now (b .entry))) ⌝ }
 {
     if s == 0 {
-        return known(b, marks, at, k);
+        return known(b, marks, at, 0, n, g, m);
     }
-    marked(b, marks, k)
+    marked(b, marks, Key { s: 0, n, g, m })
 }
 
 // Has the node tuple of record `at` its space and its tuple in 0; other keys need neither.
@@ -32,10 +33,10 @@ fn node_supported(b: &[u32], marks: &[u16], space: usize, at: usize, k: Key) -> 
     if k.g != 0 {
         return true;
     }
-    if !known(b, marks, space, node_key(k.s, 0)) {
+    if !known(b, marks, space, k.s, 0, 0, 0) {
         return false;
     }
-    in_universe(b, marks, at, k.s, node_key(0, k.n))
+    in_universe(b, marks, at, k.s, k.n, 0, 0)
 }
 
 // Has the edge tuple of record `at` its two ends and its tuple in 0; other keys need none.
@@ -47,24 +48,13 @@ fn edge_supported(b: &[u32], marks: &[u16], node: usize, at: usize, k: Key) -> b
     if k.g == 0 {
         return true;
     }
-    if !known(b, marks, node, node_key(k.s, k.n)) {
+    if !known(b, marks, node, k.s, k.n, 0, 0) {
         return false;
     }
     if !marked(b, marks, node_key(k.s, k.m)) {
         return false;
     }
-    in_universe(
-        b,
-        marks,
-        at,
-        k.s,
-        Key {
-            s: 0,
-            n: k.n,
-            g: k.g,
-            m: k.m,
-        },
-    )
+    in_universe(b, marks, at, k.s, k.n, k.g, k.m)
 }
 
 // The record where a name is 0, else the last such record.
@@ -77,7 +67,8 @@ fn or_last(name: u32, at: usize, last: usize) -> usize
     last
 }
 
-// Is all there that the tuples name: keys ascend, so an edge's first end is the last node before it, and its space the last space.
+// Is all there that the tuples name.
+// Keys ascend, so a node's space is the last space before it, and an edge's first end the last node.
 pub fn all_supported(b: &[u32], marks: &[u16]) -> bool
     requires { ⌜ Sorted (now b) × Marks (now b) (now marks) ⌝ }
     ensures { λ r. ⌜ r ≡ everyKey (supported (tuplesOf (now (b .entry)))) (tuplesOf (now (b .entry))) ⌝ }

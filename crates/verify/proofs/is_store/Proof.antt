@@ -1,15 +1,14 @@
 use mathlib.Core.Path.{sym, _∙_}
 use borrow.Author.Tests.{not-true, not-false}
-use Rattle.verify.proofs.Parts.{store-no-heads, store-no-nexts, store-walkable, store-no-chains, store-used, store-tuples}
+use Rattle.verify.proofs.Parts.{store-no-heads, store-no-nexts, store-walkable, store-rest}
 use borrow.Author.Needs.{needs}
 use Rattle.verify.proofs.is_store.Statement.{statement}
 use Rattle.verify.proofs.is_store.Tie as tie
 use Rattle.verify.proofs.is_store.Reads as reads
 use Rattle.verify.proofs.is_store.Lts as lts
-use Rattle.verify.proofs.chains.chains_right.Reads as chains-right-reads
 use Rattle.verify.proofs.chains.heads_fit.Reads as heads-fit-reads
 use Rattle.verify.proofs.chains.nexts_within.Reads as nexts-within-reads
-use Rattle.verify.proofs.tuples_sound.Reads as tuples-sound-reads
+use Rattle.verify.proofs.records_right.Reads as records-right-reads
 
 heads-fit-requires : tie.Need-heads-fit-requires
 heads-fit-requires c κs = search needs
@@ -23,17 +22,11 @@ nexts-within-requires c κs = sym (c .before .heads-fit .ensures) ∙ not-false 
 returns-2 : tie.Need-returns-2
 returns-2 c = store-no-nexts (c .before .before .before .before .before .args .buffer .now) _ (c .before .before .before .heads-fit .ensures) (not-false _ (c .before .before .if1 .left)) _ (c .before .nexts-within .ensures) (not-true _ (c .if2 .taken))
 
-chains-right-requires : tie.Need-chains-right-requires
-chains-right-requires c κs = store-walkable (c .before .before .before .before .before .args .buffer .now) _ (c .before .before .before .heads-fit .ensures) (not-false _ (c .before .before .if1 .left)) _ (c .before .nexts-within .ensures) (not-false _ (c .if2 .left))
+records-right-requires : tie.Need-records-right-requires
+records-right-requires c κs = store-walkable (c .before .before .before .before .before .args .buffer .now) _ (c .before .before .before .heads-fit .ensures) (not-false _ (c .before .before .if1 .left)) _ (c .before .nexts-within .ensures) (not-false _ (c .if2 .left))
 
 returns-3 : tie.Need-returns-3
-returns-3 c = store-no-chains (c .before .before .before .before .before .before .before .args .buffer .now) _ (c .before .before .before .before .before .heads-fit .ensures) (not-false _ (c .before .before .before .before .if1 .left)) _ (c .before .before .before .nexts-within .ensures) (not-false _ (c .before .before .if2 .left)) _ (c .before .chains-right .ensures) (not-true _ (c .if3 .taken))
-
-tuples-sound-requires : tie.Need-tuples-sound-requires
-tuples-sound-requires c κs = store-used (c .before .before .before .before .before .before .before .args .buffer .now) _ (c .before .before .before .before .before .heads-fit .ensures) (not-false _ (c .before .before .before .before .if1 .left)) _ (c .before .before .before .nexts-within .ensures) (not-false _ (c .before .before .if2 .left)) _ (c .before .chains-right .ensures) (not-false _ (c .if3 .left))
-
-returns-4 : tie.Need-returns-4
-returns-4 c = store-tuples (c .before .before .before .before .before .before .before .before .args .buffer .now) _ (c .before .before .before .before .before .before .heads-fit .ensures) (not-false _ (c .before .before .before .before .before .if1 .left)) _ (c .before .before .before .before .nexts-within .ensures) (not-false _ (c .before .before .before .if2 .left)) _ (c .before .before .chains-right .ensures) (not-false _ (c .before .if3 .left)) _ (c .tuples-sound .ensures)
+returns-3 c = store-rest (c .before .before .before .before .before .before .args .buffer .now) _ (c .before .before .before .before .heads-fit .ensures) (not-false _ (c .before .before .before .if1 .left)) _ (c .before .before .nexts-within .ensures) (not-false _ (c .before .if2 .left)) _ (c .records-right .ensures)
 
 pub is-store-spec : {M : Type 1} → statement M
 is-store-spec =
@@ -43,7 +36,5 @@ is-store-spec =
     returns
     nexts-within-requires
     returns-2
-    chains-right-requires
-    returns-3
-    tuples-sound-requires
-    returns-4)
+    records-right-requires
+    returns-3)

@@ -3,7 +3,8 @@ use lib.ListN.{length}
 use mathlib.Core.Path.{_≡_, refl, ap, _∙_}
 use Rattle.verify.specs.Prepare.{chained}
 use native.Mathlib.Omega.{arith}
-use Rattle.verify.proofs.Preparing.{follower-most, chained-length, chained-more}
+use Rattle.model.proofs.Prepared.{follower-most}
+use Rattle.verify.proofs.Preparing.{chained-length, chained-more}
 use Rattle.verify.proofs.fresh.chain_free.Statement.{statement}
 use Rattle.verify.proofs.fresh.chain_free.Tie as tie
 use Rattle.verify.proofs.fresh.chain_free.Reads as reads

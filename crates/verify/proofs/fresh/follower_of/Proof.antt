@@ -1,4 +1,6 @@
-use Rattle.verify.proofs.Preparing.{follower-on, follower-last}
+use native.Mathlib.Omega.{arith}
+use mathlib.Core.Path.{sym}
+use Rattle.model.proofs.Prepared.{follower-on, follower-last}
 use borrow.Author.Needs.{needs}
 use Rattle.verify.proofs.fresh.follower_of.Statement.{statement}
 use Rattle.verify.proofs.fresh.follower_of.Tie as tie
@@ -9,10 +11,10 @@ add-result : tie.Need-add-result
 add-result c = search needs
 
 returns : tie.Need-returns
-returns c = follower-on _ _ (c .if1 .taken)
+returns c = omega (arith, follower-on (c .before .args .c) (c .before .args .i) (c .if1 .taken))
 
 returns-2 : tie.Need-returns-2
-returns-2 c = follower-last _ _ (c .if1 .left)
+returns-2 c = sym (follower-last _ _ (c .if1 .left))
 
 pub follower-of-spec : {M : Type 1} → statement M
 follower-of-spec = tie.close (tie.spec add-result returns returns-2)

@@ -1,6 +1,6 @@
 use Rattle.verify.proofs.Preparing.{heads-put}
 use native.Mathlib.Omega.{arith}
-use Rattle.verify.proofs.Preparing.{follower-most}
+use Rattle.model.proofs.Prepared.{follower-most}
 use borrow.Author.Needs.{needs}
 use Rattle.verify.proofs.fresh.put_heads.Statement.{statement}
 use Rattle.verify.proofs.fresh.put_heads.Tie as tie

@@ -1,5 +1,6 @@
 use mathlib.Core.Path.{sym, _∙_}
 use Rattle.verify.proofs.Hints.{shown}
+use Rattle.model.specs.Keys.{edgeKey}
 use Rattle.verify.proofs.marks.known.Statement.{statement}
 use Rattle.verify.proofs.marks.known.Tie as tie
 use Rattle.verify.proofs.marks.known.Reads as reads
@@ -11,7 +12,7 @@ is-at-requires : tie.Need-is-at-requires
 is-at-requires c κs = (c .before .before .pre .0 .used .walkable, c .before .before .pre .2 .high)
 
 returns : tie.Need-returns
-returns c = shown (c .before .before .before .before .args .b .now) (c .before .before .before .before .args .hint) (c .before .before .before .before .args .k) (c .before .before .before .before .pre .2) (sym (c .before .is-at .ensures) ∙ c .if1 .taken)
+returns c = shown (c .before .before .before .before .args .b .now) (c .before .before .before .before .args .hint) (edgeKey (c .before .before .before .before .args .s) (c .before .before .before .before .args .n) (c .before .before .before .before .args .g) (c .before .before .before .before .args .m)) (c .before .before .before .before .pre .2) (sym (c .before .is-at .ensures) ∙ c .if1 .taken)
 
 marked-requires : tie.Need-marked-requires
 marked-requires c κs = (c .before .before .before .before .pre .0, c .before .before .before .before .pre .1)
