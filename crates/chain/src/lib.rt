@@ -47,11 +47,12 @@ pub fn seek(b: &[u32], hint: usize, k: Key) -> Place
     let mut before = start_of(b, hint, k);
     let mut at = after(b, before);
     while at != 0 {
+        let next = records::next_of(b, at);
         if !records::key_below(records::key_of(b, at), k) {
             break;
         }
         before = at;
-        at = records::next_of(b, at);
+        at = next;
     }
     Place {
         before: before,

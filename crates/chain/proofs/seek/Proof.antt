@@ -30,25 +30,25 @@ after-requires c κs = (c .before .before .pre .0, start-hint _ _ (c .before .be
 loop-holds : tie.Need-loop-holds Inv-loop μ-loop
 loop-holds c = seek-behind _ _ (c .before .before .before .pre .0) _ (c .before .before .before .pre .1) _ _ (c .before .start-of .ensures) (c .after .ensures)
 
--- src/lib.rt:50:32
-key-of-requires : tie.Need-key-of-requires Inv-loop μ-loop
-key-of-requires c κs = seek-inside _ _ _ _ (c .before .loop .inv) (c .loop-test .taken)
-
 -- src/lib.rt:50:13
+next-of-requires : tie.Need-next-of-requires Inv-loop μ-loop
+next-of-requires c κs = seek-inside _ _ _ _ (c .before .loop .inv) (c .loop-test .taken)
+
+-- src/lib.rt:51:32
+key-of-requires : tie.Need-key-of-requires Inv-loop μ-loop
+key-of-requires c κs = seek-inside _ _ _ _ (c .before .before .loop .inv) (c .before .loop-test .taken)
+
+-- src/lib.rt:51:13
 key-below-requires : tie.Need-key-below-requires Inv-loop μ-loop
 key-below-requires c κs = tt
 
--- src/lib.rt:54:9
-next-of-requires : tie.Need-next-of-requires Inv-loop μ-loop
-next-of-requires c κs = seek-inside _ _ _ _ (c .before .before .before .before .loop .inv) (c .before .before .before .loop-test .taken)
-
 -- src/lib.rt:49:5
 loop-less : tie.Need-loop-less Inv-loop μ-loop
-loop-less c = seek-less _ _ _ _ (c .before .before .before .before .before .loop .inv) (c .before .before .before .before .loop-test .taken) _ (c .next-of .ensures)
+loop-less c = seek-less _ _ _ _ (c .before .before .before .before .before .loop .inv) (c .before .before .before .before .loop-test .taken) _ (c .before .before .before .next-of .ensures)
 
 -- src/lib.rt:49:5
 loop-again : tie.Need-loop-again Inv-loop μ-loop
-loop-again c = seek-on _ _ _ _ (c .before .before .before .before .before .loop .inv) (c .before .before .before .before .loop-test .taken) _ _ _ (c .before .before .before .key-of .ensures) (c .before .before .key-below .ensures) (not-no _ (c .before .if1 .left)) (c .next-of .ensures)
+loop-again c = seek-on _ _ _ _ (c .before .before .before .before .before .loop .inv) (c .before .before .before .before .loop-test .taken) _ _ _ (c .before .before .key-of .ensures) (c .before .key-below .ensures) (not-no _ (c .if1 .left)) (c .before .before .before .next-of .ensures)
 
 -- src/lib.rt:43:1
 returns : tie.Need-returns Inv-loop μ-loop
@@ -56,7 +56,7 @@ returns c = seek-end _ _ _ _ (c .before .loop .inv) (c .loop-test .left)
 
 -- src/lib.rt:43:1
 returns-2 : tie.Need-returns-2 Inv-loop μ-loop
-returns-2 c = seek-found _ _ _ _ (c .before .before .before .before .loop .inv) (c .before .before .before .loop-test .taken) _ _ (c .before .before .key-of .ensures) (c .before .key-below .ensures) (not-yes _ (c .if1 .taken))
+returns-2 c = seek-found _ _ _ _ (c .before .before .before .before .before .loop .inv) (c .before .before .before .before .loop-test .taken) _ _ (c .before .before .key-of .ensures) (c .before .key-below .ensures) (not-yes _ (c .if1 .taken))
 
 pub seek-spec : {M : Type 1} → statement M
 seek-spec =
@@ -67,9 +67,9 @@ seek-spec =
     start-of-requires
     after-requires
     loop-holds
+    next-of-requires
     key-of-requires
     key-below-requires
-    next-of-requires
     loop-less
     loop-again
     returns
