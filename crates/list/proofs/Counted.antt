@@ -94,16 +94,16 @@ length-put p (q ∷ ps) = go (comparePairs p q) (length-put p ps)
     go Ordering·eq h = omega arith
     go Ordering·gt h = omega arith
 
-length-ascending : (ps : List Pair) → length (ascending ps) ≤ length ps
+pub length-ascending : (ps : List Pair) → length (ascending ps) ≤ length ps
 unfolding ascending
 length-ascending [] = omega arith
 length-ascending (p ∷ ps) = omega (arith, length-put p (ascending ps), length-ascending ps)
 
-length-single : (ps : List Pair) → Single ps → length ps ≤ 1
+pub length-single : (ps : List Pair) → Single ps → length ps ≤ 1
 length-single ps (inl e) = omega (arith, ap length e)
 length-single ps (inr h) = omega (arith, ap length (h .1))
 
-length-gather : (q : Query) (ts : Tuples) → length (gather (entriesAt q) ts) ≤ 2 * length ts
+pub length-gather : (q : Query) (ts : Tuples) → length (gather (entriesAt q) ts) ≤ 2 * length ts
 unfolding gather
 length-gather q [] = omega arith
 length-gather q (t ∷ ts) =

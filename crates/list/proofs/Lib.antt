@@ -7,3 +7,4 @@ pub mod Counted
 pub mod Orders
 pub mod Ascents
 pub mod Bounds
+pub mod Most

@@ -2,7 +2,7 @@
 -- An entry's code is one more than its packed pair, so that 0 says that there is none.
 use mathlib.Core.Bool.{Bool, true, false, cond, not, _&&_, _||_}
 use mathlib.Core.List.{List, [], _∷_, _++_, map}
-use Prim.Native.Nat.{ℕ, suc}
+use Prim.Native.Nat.{ℕ, suc, _*_}
 use lib.Dec.{eqb, ltb}
 use lib.ListN.{length, drop}
 use Rattle.model.specs.declared.Direction.{Direction}
@@ -154,3 +154,21 @@ inOrder (SpacesOf n) = true
 -- the answer list with the entries in its first places; "the rest stays"
 unfoldable pub written : List Pair → List ℕ → List ℕ
 written ps l = map pack ps ++ drop (length ps) l
+
+-- ---- how many entries there can be
+
+-- for adjacent pairs a key can give a second
+unfoldable pub hasSecond : Direction → Bool
+hasSecond Outpointing = false
+hasSecond Inpointing = false
+hasSecond Adjacent = true
+
+unfoldable pub givesTwo : Query → Bool
+givesTwo (Pairs q) = hasSecond (q .d)
+givesTwo (Nodes s) = false
+givesTwo Spaces = false
+givesTwo (SpacesOf n) = false
+
+-- n tuples give at most so many entries
+unfoldable pub mostOf : Query → ℕ → ℕ
+mostOf q n = cond (givesTwo q) (2 * n) n

@@ -11,7 +11,8 @@ ghost use lib.ListN.{length};
 ghost use Prim.Native.Nat.{_≤_};
 ghost use Rattle.model.specs.Buffer.{tuplesOf};
 ghost use Rattle.chain.specs.Links.{Linked, Hint};
-ghost use Rattle.list.specs.Queries.{chosen, firstAt, secondAt, queried, code, headCode, codes, nearer, leastFrom, Readable, pairsStart, startKey, startIn, outside, ends, pairsInOrder, inOrder, written};
+ghost use Rattle.list.specs.Queries.{chosen, firstAt, secondAt, queried, code, headCode, codes, nearer, leastFrom, Readable, pairsStart, startKey, startIn, outside, ends, pairsInOrder, inOrder, written, hasSecond, givesTwo, mostOf};
+ghost use lib.Dec.{leb};
 
 // What is listed of a pair.
 pub enum Part {
@@ -439,6 +440,44 @@ fn write_pairs(b: &[u32], from: usize, q: PairQuery, list: &mut [u32]) -> usize
         return write_in_order(b, from, Query::Pairs(q), list);
     }
     write_by_least(b, from, q, list)
+}
+
+// Has a pair query second entries: adjacent pairs.
+fn has_second(d: Direction) -> bool
+    ensures { λ r. ⌜ r ≡ hasSecond d ⌝ }
+{
+    match d {
+        Direction::Outpointing => false,
+        Direction::Inpointing => false,
+        Direction::Adjacent => true,
+    }
+}
+
+// Can a key give two entries.
+fn gives_two(q: Query) -> bool
+    ensures { λ r. ⌜ r ≡ givesTwo q ⌝ }
+{
+    match q {
+        Query::Pairs(p) => {
+            let d = p.d;
+            has_second(d)
+        }
+        Query::Nodes(_) => false,
+        Query::Spaces => false,
+        Query::SpacesOf(_) => false,
+    }
+}
+
+// Is there room for as many entries as the tuples could give: then they need not be counted.
+pub fn surely_fits(b: &[u32], q: Query, room: usize) -> bool
+    requires { ⌜ Linked (now b) ⌝ }
+    ensures { λ r. ⌜ r ≡ leb (mostOf q (length (tuplesOf (now (b .entry))))) room ⌝ }
+{
+    let tuples = records::head_word(b, 3);
+    if gives_two(q) {
+        return 2 * tuples <= room;
+    }
+    tuples <= room
 }
 
 // The number of entries. The hint is a used record, or 0: the search for the start may begin behind it.

@@ -3,7 +3,9 @@ use mathlib.Core.Bool.{Bool, true, false, cond}
 use mathlib.Core.List.{List, [], _∷_, _++_, map, append-nil}
 use mathlib.Core.Path.{_≡_, refl, sym, ap, ap₂, _∙_, subst}
 use Prim.Native.Nat.{ℕ, _≤_}
-use lib.Dec.{eqb}
+use native.Mathlib.Omega.{arith}
+use lib.Dec.{eqb, leb, ltb}
+use borrow.Author.Tests.{leb-true, le-ltb}
 use lib.ListN.{length}
 use Rattle.model.specs.declared.Call.{Call}
 use Rattle.model.specs.declared.Direction.{Direction}
@@ -23,7 +25,8 @@ use Rattle.list.specs.declared.Part.the-variants.{Both, Edge, Node}
 use Rattle.list.specs.declared.PairQuery.{PairQuery}
 use Rattle.list.specs.declared.Query.{Query}
 use Rattle.list.specs.declared.Query.the-variants.{Pairs, Nodes, Spaces, SpacesOf}
-use Rattle.list.specs.Queries.{partOf, chosen, firstPairs, secondPairs, firstAt, secondAt, queried, written}
+use Rattle.list.specs.Queries.{partOf, chosen, firstPairs, secondPairs, firstAt, secondAt, queried, written, mostOf}
+use Rattle.list.proofs.Most.{queried-most}
 use Rattle.select.specs.Selections.{passes}
 use Rattle.operate.specs.declared.Fields.{Fields}
 use Rattle.operate.specs.declared.Near.{Near}
@@ -230,3 +233,15 @@ list-hint b l near h N e = subst (Hint b) (sym e) (go l)
     go Listing.UN = N .space
     go Listing.US = no-hint b
     go Listing.USn = no-hint b
+
+-- ---- the most entries
+
+pub told-most : (l : Listing) (c : Call) (q : Query) (n room : ℕ) → q ≡ queryOf l c → leb (mostOf q n) room ≡ leb (mostOf (queryOf l c) n) room
+told-most l c q n room e = ap (λ (x : Query). leb (mostOf x n) room) e
+
+-- where even those fit, the list is not short
+pub surely-not-short : (l : Listing) (c : Call) (ts : Tuples) (room : ℕ) (t : Bool) → NamesAsked l c → t ≡ leb (mostOf (queryOf l c) (length ts)) room → t ≡ true
+    → false ≡ ltb room (length (listed l c ts))
+surely-not-short l c ts room t h T e =
+    let most : mostOf (queryOf l c) (length ts) ≤ room = leb-true _ room (sym T ∙ e) in
+    sym (le-ltb room (length (listed l c ts)) (omega (arith, most, queried-most (queryOf l c) ts, sym (told-count l c (queryOf l c) ts h refl))))

@@ -13,7 +13,9 @@ ghost use lib.ListN.{length};
 ghost use Prim.Native.Nat.{_≤_};
 ghost use Rattle.model.specs.Buffer.{tuplesOf};
 ghost use Rattle.model.specs.Steps.{listed};
-ghost use Rattle.list.specs.Queries.{Readable, written};
+ghost use Rattle.list.specs.Queries.{Readable, written, mostOf};
+ghost use Rattle.chain.specs.Links.{Linked};
+ghost use lib.Dec.{leb};
 ghost use Rattle.list.specs.declared.Query.the-variants.{Pairs};
 ghost use Rattle.listing.specs.Lists.{pairsHint, listHint, pairQuery, queryOf, NamesAsked};
 ghost use Rattle.operate.specs.Operate.{NearIn};
@@ -82,6 +84,14 @@ pub fn count_listed(b: &[u32], near: Near, l: Listing, c: Call) -> usize
     ensures { λ r. ⌜ r ≡ length (listed l c (tuplesOf (now (b .entry)))) ⌝ }
 {
     list::count_entries(b, list_hint(l, near), query_of(l, c))
+}
+
+// Is there room for as many entries as the tuples could give an S operator: then they need not be counted.
+pub fn surely_fits(b: &[u32], l: Listing, c: Call, room: usize) -> bool
+    requires { ⌜ Linked (now b) ⌝ }
+    ensures { λ r. ⌜ r ≡ leb (mostOf (queryOf l c) (length (tuplesOf (now (b .entry))))) room ⌝ }
+{
+    list::surely_fits(b, query_of(l, c), room)
 }
 
 // The entries written to the first places of a list that has room for them, and their number; the rest stays.

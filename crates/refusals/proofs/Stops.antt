@@ -11,6 +11,7 @@ use lib.ListN.{length}
 use borrow.Author.Tests.{ltb-true, lt-ltb, eqb-false}
 use Rattle.model.specs.declared.Call.{Call}
 use Rattle.model.specs.declared.Operator.{Operator}
+use Rattle.model.specs.declared.Pair.{Pair}
 use Rattle.model.specs.Operators.{operatorOf}
 use Rattle.model.specs.Tuples.{Tuples, missing}
 use Rattle.model.specs.Buffer.{word, capacityOf, tuplesOf}
@@ -73,13 +74,16 @@ not-refused C ts c room e = none-exactly _ refl .0 e
 
 -- ---- 9
 
-pub would-list : (op known : Operator) (c : Call) (ts : Tuples) (x : ℕ) → op ≡ operatorOf (c .operator) → op ≡ known
-    → x ≡ length (wouldList known c ts) → x ≡ length (wouldList (operatorOf (c .operator)) c ts)
-would-list op known c ts x O K X = X ∙ ap (λ (o : Operator). length (wouldList o c ts)) (sym K ∙ O)
-
-pub short-told : (c : Call) (ts : Tuples) (room x : ℕ) → x ≡ length (wouldList (operatorOf (c .operator)) c ts) → ltb room x ≡ listShort c ts room
+pub short-as : (op known : Operator) (c : Call) (ts : Tuples) (room : ℕ) (x : Bool) → op ≡ operatorOf (c .operator) → op ≡ known
+    → x ≡ ltb room (length (wouldList known c ts)) → x ≡ listShort c ts room
 unfolding listShort
-short-told c ts room x X = ap (ltb room) X
+short-as op known c ts room x O K X = X ∙ ap (λ (o : Operator). ltb room (length (wouldList o c ts))) (sym K ∙ O)
+
+-- an operator that lists nothing
+pub never-short : (op known : Operator) (c : Call) (ts : Tuples) (room : ℕ) → op ≡ operatorOf (c .operator) → op ≡ known → wouldList known c ts ≡ []
+    → false ≡ listShort c ts room
+never-short op known c ts room O K e =
+    short-as op known c ts room false O K (sym (ap (λ (ps : List Pair). ltb room (length ps)) e ∙ le-ltb room 0 (omega arith)))
 
 -- ---- 10
 

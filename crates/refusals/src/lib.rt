@@ -1,5 +1,6 @@
 // Conditions 2 to 10 in their order: which one stops a call on a store.
 use model::Call;
+use model::Listing;
 use model::Operator;
 use operate::Near;
 ghost use mathlib.Core.Path.{_≡_};
@@ -9,34 +10,39 @@ ghost use lib.ListN.{length};
 ghost use Rattle.model.specs.Operators.{operatorOf};
 ghost use Rattle.model.specs.Tuples.{missing};
 ghost use Rattle.model.specs.Buffer.{capacityOf, tuplesOf, isStore};
-ghost use Rattle.model.specs.Steps.{wouldList, wouldAdd};
+ghost use Rattle.model.specs.Steps.{listed, wouldAdd};
 ghost use Rattle.model.specs.Refusals.{noOperator, zeroName, listShort, full, refusalOf};
 ghost use Rattle.chain.specs.Links.{Linked};
+ghost use Rattle.listing.specs.Lists.{NamesAsked};
+ghost use lib.Dec.{ltb};
 ghost use Rattle.operate.specs.Operate.{NearIn};
 ghost use Rattle.refusals.specs.Numbers.{stopNumber};
 
-// How many entries the call would list; none but for S.
-fn count_asked(b: &[u32], near: Near, c: Call) -> usize
-    requires { ⌜ (isStore (now b) ≡ true) × NearIn (now b) near × (noOperator c ≡ false) × (zeroName c ≡ false) ⌝ }
-    ensures { λ r. ⌜ r ≡ length (wouldList (operatorOf (c .operator)) c (tuplesOf (now (b .entry)))) ⌝ }
+// Condition 9 for an S operator: the entries are counted only where the tuples could give more than the list holds.
+fn list_short(b: &[u32], near: Near, l: Listing, c: Call, room: usize) -> bool
+    requires { ⌜ (isStore (now b) ≡ true) × NearIn (now b) near × NamesAsked l c ⌝ }
+    ensures { λ r. ⌜ r ≡ ltb room (length (listed l c (tuplesOf (now (b .entry))))) ⌝ }
 {
-    let op = decode::operator_of(c.operator);
-    match op {
-        Operator::Create(o) => 0,
-        Operator::Bind(o) => 0,
-        Operator::Value(o) => 0,
-        Operator::Exists(o) => 0,
-        Operator::Destroy(r) => 0,
-        Operator::List(l) => listing::count_listed(b, near, l, c),
+    if listing::surely_fits(b, l, c, room) {
+        return false;
     }
+    room < listing::count_listed(b, near, l, c)
 }
 
-// Condition 9: the answer list is shorter than what the call would list.
+// Condition 9: the answer list is shorter than what the call would list; that is nothing but for S.
 fn is_short(b: &[u32], near: Near, c: Call, room: usize) -> bool
     requires { ⌜ (isStore (now b) ≡ true) × NearIn (now b) near × (noOperator c ≡ false) × (zeroName c ≡ false) ⌝ }
     ensures { λ r. ⌜ r ≡ listShort c (tuplesOf (now (b .entry))) room ⌝ }
 {
-    room < count_asked(b, near, c)
+    let op = decode::operator_of(c.operator);
+    match op {
+        Operator::Create(o) => false,
+        Operator::Bind(o) => false,
+        Operator::Value(o) => false,
+        Operator::Exists(o) => false,
+        Operator::Destroy(r) => false,
+        Operator::List(l) => list_short(b, near, l, c, room),
+    }
 }
 
 // How many tuples the call would add; none but for C.
