@@ -8,7 +8,7 @@ use Prim.Native.Nat.{ℕ, _+_, _-_, _≤_}
 use native.Mathlib.Omega.{arith}
 use lib.Dec.{eqb, ltb}
 use lib.ListN.{length}
-use borrow.Author.Tests.{ltb-true, lt-ltb, eqb-false}
+use borrow.Author.Tests.{ltb-true, lt-ltb, eqb-false, le-ltb}
 use Rattle.model.specs.declared.Call.{Call}
 use Rattle.model.specs.declared.Operator.{Operator}
 use Rattle.model.specs.declared.Pair.{Pair}
