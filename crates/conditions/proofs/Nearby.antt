@@ -1,5 +1,5 @@
 -- Where what a call names is to be sought (specs/Located.antt): each place is a hint.
-use mathlib.Core.Bool.{Bool, true, false, cond, _&&_, _||_, or-true, or-false}
+use mathlib.Core.Bool.{Bool, true, false, cond, not, _&&_, _||_, or-true, or-false}
 use mathlib.Core.List.{List}
 use mathlib.Core.Logic.{_≢_}
 use mathlib.Core.Path.{_≡_, refl, sym, ap, ap₂, _∙_, subst}
@@ -44,7 +44,7 @@ module _ (b : List ℕ) (L : Linked b) where
 
   pub here-near : (u : Near) (c : Call) → u ≡ nearHere b c → NearIn b u
   unfolding nearHere
-  here-near u c e = subst (NearIn b) (sym e) (go (readsOf (c .operator) .m) (readsOf (c .operator) .n))
+  here-near u c e = subst (NearIn b) (sym e) (go (not (readsOf (c .operator) .s)) (readsOf (c .operator) .m) (readsOf (c .operator) .n))
     where
       space : ℕ
       space = beforeKey b (nodeKey (sOf c) 0)
@@ -52,12 +52,13 @@ module _ (b : List ℕ) (L : Linked b) where
       H : Hint b (beforeKey b (nodeKey (sOf c) 0))
       H = before-hint _ (nodeKey (sOf c) 0) refl
 
-      go : (m n : Bool)
-          → NearIn b (cond m (nearNodes b (beforeKey b (nodeKey (sOf c) 0)) (sOf c) (nOf c) (mOf c))
-          (cond n (near (beforeKey b (nodeKey (sOf c) 0)) (beforeKey b (nodeKey (sOf c) (nOf c))) 0) (near (beforeKey b (nodeKey (sOf c) 0)) 0 0)))
-      go true n = nodes-near _ (sOf c) (nOf c) (mOf c) H
-      go false true = record { space = H; node = before-hint _ (nodeKey (sOf c) (nOf c)) refl; second = no-hint b }
-      go false false = record { space = H; node = no-hint b; second = no-hint b }
+      go : (s m n : Bool)
+          → NearIn b (cond s (near 0 0 0) (cond m (nearNodes b (beforeKey b (nodeKey (sOf c) 0)) (sOf c) (nOf c) (mOf c))
+          (cond n (near (beforeKey b (nodeKey (sOf c) 0)) (beforeKey b (nodeKey (sOf c) (nOf c))) 0) (near (beforeKey b (nodeKey (sOf c) 0)) 0 0))))
+      go true m n = nowhere-near
+      go false true n = nodes-near _ (sOf c) (nOf c) (mOf c) H
+      go false false true = record { space = H; node = before-hint _ (nodeKey (sOf c) (nOf c)) refl; second = no-hint b }
+      go false false false = record { space = H; node = no-hint b; second = no-hint b }
 
   pub farther-hint : (u : Near) (f : Fields) (h : ℕ) → NearIn b u → h ≡ fartherOf u f → Hint b h
   unfolding fartherOf
@@ -124,15 +125,28 @@ module _ (b : List ℕ) (c : Call) (f : Fields) (F : f ≡ fieldsOf c) where
       ∙ sym (ap (λ (z : Bool). cond z (near 0 0 0) (cond (within 1 3 (c .operator) || eqb (c .operator) 45) (nearNodes b 0 0 (nOf c) (mOf c)) (near 0 0 0)))
       (ne-eqb (sOf c) 0 (λ z. d (ap (λ (x : Fields). x .s) F ∙ z))))
 
-  module _ (r : Reads) (R : r ≡ readsOf (c .operator)) (space : ℕ) (S : space ≡ beforeKey b (nodeKey (f .s) 0)) where
-    whole : Bool → Bool → ℕ → Fields → Near
-    whole m n i x =
-        cond m (nearNodes b i (x .s) (x .n) (x .m)) (cond n (near i (beforeKey b (nodeKey (x .s) (x .n))) 0) (near i 0 0))
+  pub here-unread : (r : Reads) (u : Near) → r ≡ readsOf (c .operator) → not (r .s) ≡ true → u ≡ near 0 0 0 → u ≡ nearHere b c
+  unfolding nearHere
+  here-unread r u R e U =
+      U
+      ∙ sym (ap
+      (λ (t : Bool).
+      cond t (near 0 0 0)
+      (cond (readsOf (c .operator) .m) (nearNodes b (beforeKey b (nodeKey (sOf c) 0)) (sOf c) (nOf c) (mOf c))
+      (cond (readsOf (c .operator) .n) (near (beforeKey b (nodeKey (sOf c) 0)) (beforeKey b (nodeKey (sOf c) (nOf c))) 0)
+      (near (beforeKey b (nodeKey (sOf c) 0)) 0 0))))
+      (ap (λ (x : Reads). not (x .s)) (sym R) ∙ e))
 
-    told : (m n : Bool) → r .m ≡ m → r .n ≡ n → whole m n space f ≡ nearHere b c
+  module _ (r : Reads) (R : r ≡ readsOf (c .operator)) (e : not (r .s) ≡ false) (space : ℕ) (S : space ≡ beforeKey b (nodeKey (f .s) 0)) where
+    whole : Bool → Bool → Bool → ℕ → Fields → Near
+    whole s m n i x =
+        cond s (near 0 0 0)
+        (cond m (nearNodes b i (x .s) (x .n) (x .m)) (cond n (near i (beforeKey b (nodeKey (x .s) (x .n))) 0) (near i 0 0)))
+
+    told : (m n : Bool) → r .m ≡ m → r .n ≡ n → whole false m n space f ≡ nearHere b c
     unfolding nearHere whole
     told m n M N =
-        λ i. whole ((sym M ∙ ap (λ (x : Reads). x .m) R) i) ((sym N ∙ ap (λ (x : Reads). x .n) R) i)
+        λ i. whole ((sym e ∙ ap (λ (x : Reads). not (x .s)) R) i) ((sym M ∙ ap (λ (x : Reads). x .m) R) i) ((sym N ∙ ap (λ (x : Reads). x .n) R) i)
         ((S ∙ ap (λ (x : Fields). beforeKey b (nodeKey (x .s) 0)) F) i) (F i)
 
     pub here-both : (u : Near) → r .m ≡ true → u ≡ nearNodes b space (f .s) (f .n) (f .m) → u ≡ nearHere b c

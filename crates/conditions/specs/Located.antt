@@ -1,5 +1,5 @@
 -- Where what a call names is to be sought. Answers do not depend on it: these are hints that spare walks.
-use mathlib.Core.Bool.{Bool, cond, _||_}
+use mathlib.Core.Bool.{Bool, cond, not, _||_}
 use mathlib.Core.List.{List}
 use Prim.Native.Nat.{ℕ}
 use lib.Dec.{eqb, leb}
@@ -35,9 +35,10 @@ alsoIn here universe s = cond (eqb s 0) here universe
 unfoldable pub fartherOf : Near → Fields → ℕ
 fartherOf universe f = cond (leb (f .n) (f .m)) (universe .second) (universe .node)
 
--- the space of the call, and the nodes that its operator reads
+-- the space of the call and the nodes, as far as its operator reads them
 unfoldable pub nearHere : List ℕ → Call → Near
 nearHere b c =
     let space = beforeKey b (nodeKey (sOf c) 0) in
-    cond (readsOf (c .operator) .m) (nearNodes b space (sOf c) (nOf c) (mOf c))
-    (cond (readsOf (c .operator) .n) (near space (beforeKey b (nodeKey (sOf c) (nOf c))) 0) (near space 0 0))
+    cond (not (readsOf (c .operator) .s)) (near 0 0 0)
+    (cond (readsOf (c .operator) .m) (nearNodes b space (sOf c) (nOf c) (mOf c))
+    (cond (readsOf (c .operator) .n) (near space (beforeKey b (nodeKey (sOf c) (nOf c))) 0) (near space 0 0)))

@@ -118,7 +118,7 @@ fn farther(universe: Near, f: Fields) -> usize
     universe.node
 }
 
-// Where a call is to look in its space.
+// Where a call is to look in its space, if its operator reads it.
 pub fn locate(b: &[u32], universe: Near, c: Call) -> Near
     requires { ⌜ Linked (now b) × NearIn (now b) universe ⌝ }
     ensures { λ r. ⌜ r ≡ nearHere (now (b .entry)) c ⌝ }
@@ -126,6 +126,9 @@ pub fn locate(b: &[u32], universe: Near, c: Call) -> Near
 {
     let f = operate::fields_of(c);
     let r = decode::reads_of(c.operator);
+    if !r.s {
+        return nowhere();
+    }
     let space = before_node(b, farther(universe, f), f.s, 0);
     if r.m {
         return near_nodes(b, space, f.s, f.n, f.m);
