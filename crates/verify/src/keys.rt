@@ -119,6 +119,7 @@ pub fn walk_used(b: &[u32], marks: &mut [u16], list: &mut [u16]) -> Used
     let mut at = records::next_of(b, head);
     while at != 0 {
         let k = records::key_of(b, at);
+        let after = records::next_of(b, at);
         if !key_follows(key, k) {
             return stopped();
         }
@@ -130,7 +131,7 @@ pub fn walk_used(b: &[u32], marks: &mut [u16], list: &mut [u16]) -> Used
         mark_named(marks, k, at);
         key = k;
         last = at;
-        at = records::next_of(b, at);
+        at = after;
         left -= 1;
     }
     Used {

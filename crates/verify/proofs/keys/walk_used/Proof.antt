@@ -26,12 +26,10 @@ use Rattle.verify.proofs.layout.node_key.Reads as node-key-reads
 use Rattle.verify.proofs.marks.mark_named.Reads as mark-named-reads
 
 abbrev Inv-loop : tie.InvT-loop
-Inv-loop b marks₀ list₀ head c key₀ sure₀ kept₀ left₀ last₀ at₀ marks list key sure kept left last at =
-    (c ≡ capacityOf b) × Using b marks list key sure kept left last at
+Inv-loop b marks₀ list₀ head c key₀ sure₀ kept₀ left₀ last₀ at₀ marks list key sure kept left last at = (c ≡ capacityOf b) × Using b marks list key sure kept left last at
 
 abbrev μ-loop : tie.MeasureT-loop
-μ-loop b marks₀ list₀ head c key₀ sure₀ kept₀ left₀ last₀ at₀ marks list key sure kept left last at =
-    left
+μ-loop b marks₀ list₀ head c key₀ sure₀ kept₀ left₀ last₀ at₀ marks list key sure kept left last at = left
 
 starts-right-requires : tie.Need-starts-right-requires Inv-loop μ-loop
 starts-right-requires c κs = c .before .before .before .pre .0
@@ -63,6 +61,9 @@ loop-holds c = (c .before .before .capacity .ensures, using-start (c .before .be
 key-of-requires : tie.Need-key-of-requires Inv-loop μ-loop
 key-of-requires c κs = record-inside _ _ (c .before .before .before .before .before .before .before .before .before .before .before .pre .0) (c .before .loop .inv .1 .walking .high) (c .loop-test .taken)
 
+next-of-requires-2 : tie.Need-next-of-requires-2 Inv-loop μ-loop
+next-of-requires-2 c κs = record-inside _ _ (c .before .before .before .before .before .before .before .before .before .before .before .before .pre .0) (c .before .before .loop .inv .1 .walking .high) (c .before .loop-test .taken)
+
 key-follows-requires : tie.Need-key-follows-requires Inv-loop μ-loop
 key-follows-requires c κs = tt
 
@@ -70,49 +71,46 @@ stopped-requires-2 : tie.Need-stopped-requires-2 Inv-loop μ-loop
 stopped-requires-2 c κs = tt
 
 same-length : tie.Need-same-length Inv-loop μ-loop
-same-length c = c .before .before .before .before .before .loop .inv .1 .fit .size ∙ sym (c .before .before .before .before .before .before .before .before .before .before .before .before .before .before .before .pre .1 .size)
+same-length c = c .before .before .before .before .before .before .loop .inv .1 .fit .size ∙ sym (c .before .before .before .before .before .before .before .before .before .before .before .before .before .before .before .before .pre .1 .size)
 
 same-length-2 : tie.Need-same-length-2 Inv-loop μ-loop
-same-length-2 c = c .before .before .before .before .before .loop .inv .1 .listed .size ∙ sym (c .before .before .before .before .before .before .before .before .before .before .before .before .before .before .before .pre .2)
+same-length-2 c = c .before .before .before .before .before .before .loop .inv .1 .listed .size ∙ sym (c .before .before .before .before .before .before .before .before .before .before .before .before .before .before .before .before .pre .2)
 
 returns-2 : tie.Need-returns-2 Inv-loop μ-loop
-returns-2 c = (ap walkedOf (c .stopped2 .ensures) ∙ using-no (c .before .before .before .before .before .before .before .before .before .before .before .before .before .before .before .args .b .now) (c .before .before .before .before .before .before .before .before .before .before .before .before .before .before .before .pre .0) _ _ (c .before .before .before .before .before .loop .key) (c .before .before .before .before .before .loop .sure) (c .before .before .before .before .before .loop .kept) (c .before .before .before .before .before .loop .left) (c .before .before .before .before .before .loop .last) (c .before .before .before .before .before .loop .at) (c .before .before .before .before .before .loop .inv .1) (c .before .before .before .before .loop-test .taken) (c .before .before .before .key-of .result) (c .before .before .before .key-of .ensures) (sym (c .before .before .key-follows .ensures) ∙ not-true _ (c .before .if2 .taken)), λ y. absurd (false≢true (sym (ap (λ (u : Used). u .ended) (c .stopped2 .ensures)) ∙ y)))
+returns-2 c = (ap walkedOf (c .stopped2 .ensures) ∙ using-no (c .before .before .before .before .before .before .before .before .before .before .before .before .before .before .before .before .args .b .now) (c .before .before .before .before .before .before .before .before .before .before .before .before .before .before .before .before .pre .0) _ _ (c .before .before .before .before .before .before .loop .key) (c .before .before .before .before .before .before .loop .sure) (c .before .before .before .before .before .before .loop .kept) (c .before .before .before .before .before .before .loop .left) (c .before .before .before .before .before .before .loop .last) (c .before .before .before .before .before .before .loop .at) (c .before .before .before .before .before .before .loop .inv .1) (c .before .before .before .before .before .loop-test .taken) (c .before .before .before .before .key-of .result) (c .before .before .before .before .key-of .ensures) (sym (c .before .before .key-follows .ensures) ∙ not-true _ (c .before .if2 .taken)), λ y. absurd (false≢true (sym (ap (λ (u : Used). u .ended) (c .stopped2 .ensures)) ∙ y)))
 
 stopped-requires-3 : tie.Need-stopped-requires-3 Inv-loop μ-loop
 stopped-requires-3 c κs = tt
 
 same-length-3 : tie.Need-same-length-3 Inv-loop μ-loop
-same-length-3 c = c .before .before .before .before .before .before .loop .inv .1 .fit .size ∙ sym (c .before .before .before .before .before .before .before .before .before .before .before .before .before .before .before .before .pre .1 .size)
+same-length-3 c = c .before .before .before .before .before .before .before .loop .inv .1 .fit .size ∙ sym (c .before .before .before .before .before .before .before .before .before .before .before .before .before .before .before .before .before .pre .1 .size)
 
 same-length-4 : tie.Need-same-length-4 Inv-loop μ-loop
-same-length-4 c = c .before .before .before .before .before .before .loop .inv .1 .listed .size ∙ sym (c .before .before .before .before .before .before .before .before .before .before .before .before .before .before .before .before .pre .2)
+same-length-4 c = c .before .before .before .before .before .before .before .loop .inv .1 .listed .size ∙ sym (c .before .before .before .before .before .before .before .before .before .before .before .before .before .before .before .before .before .pre .2)
 
 returns-3 : tie.Need-returns-3 Inv-loop μ-loop
-returns-3 c = (ap walkedOf (c .stopped3 .ensures) ∙ using-stop (c .before .before .before .before .before .before .before .before .before .before .before .before .before .before .before .before .args .b .now) (c .before .before .before .before .before .before .before .before .before .before .before .before .before .before .before .before .pre .0) _ _ (c .before .before .before .before .before .before .loop .key) (c .before .before .before .before .before .before .loop .sure) (c .before .before .before .before .before .before .loop .kept) (c .before .before .before .before .before .before .loop .left) (c .before .before .before .before .before .before .loop .last) (c .before .before .before .before .before .before .loop .at) (c .before .before .before .before .before .before .loop .inv .1) (c .before .before .before .before .before .loop-test .taken) (c .before .if3 .taken), λ y. absurd (false≢true (sym (ap (λ (u : Used). u .ended) (c .stopped3 .ensures)) ∙ y)))
+returns-3 c = (ap walkedOf (c .stopped3 .ensures) ∙ using-stop (c .before .before .before .before .before .before .before .before .before .before .before .before .before .before .before .before .before .args .b .now) (c .before .before .before .before .before .before .before .before .before .before .before .before .before .before .before .before .before .pre .0) _ _ (c .before .before .before .before .before .before .before .loop .key) (c .before .before .before .before .before .before .before .loop .sure) (c .before .before .before .before .before .before .before .loop .kept) (c .before .before .before .before .before .before .before .loop .left) (c .before .before .before .before .before .before .before .loop .last) (c .before .before .before .before .before .before .before .loop .at) (c .before .before .before .before .before .before .before .loop .inv .1) (c .before .before .before .before .before .before .loop-test .taken) (c .before .if3 .taken), λ y. absurd (false≢true (sym (ap (λ (u : Used). u .ended) (c .stopped3 .ensures)) ∙ y)))
 
 still-sure-requires : tie.Need-still-sure-requires Inv-loop μ-loop
-still-sure-requires c κs = (c .before .before .before .before .before .before .before .before .before .before .before .before .before .before .before .before .pre .0, c .before .before .before .before .before .before .loop .inv .1 .fit)
+still-sure-requires c κs = (c .before .before .before .before .before .before .before .before .before .before .before .before .before .before .before .before .before .pre .0, c .before .before .before .before .before .before .before .loop .inv .1 .fit)
 
 keep-end-requires : tie.Need-keep-end-requires Inv-loop μ-loop
-keep-end-requires c κs = (c .before .before .before .before .before .before .before .before .before .before .before .before .before .before .before .before .before .before .before .pre .0, c .before .before .before .before .before .before .before .before .before .loop .inv .1 .fit, c .before .before .before .before .before .before .before .before .before .loop .inv .1 .listed .size, using-room (c .before .before .before .before .before .before .before .before .before .before .before .before .before .before .before .before .before .before .before .args .b .now) (c .before .before .before .before .before .before .before .before .before .before .before .before .before .before .before .before .before .before .before .pre .0) _ _ (c .before .before .before .before .before .before .before .before .before .loop .key) (c .before .before .before .before .before .before .before .before .before .loop .sure) (c .before .before .before .before .before .before .before .before .before .loop .kept) (c .before .before .before .before .before .before .before .before .before .loop .left) (c .before .before .before .before .before .before .before .before .before .loop .last) (c .before .before .before .before .before .before .before .before .before .loop .at) (c .before .before .before .before .before .before .before .before .before .loop .inv .1) (c .before .before .before .before .if3 .left), using-low (c .before .before .before .before .before .before .before .before .before .before .before .before .before .before .before .before .before .before .before .args .b .now) (c .before .before .before .before .before .before .before .before .before .before .before .before .before .before .before .before .before .before .before .pre .0) _ _ (c .before .before .before .before .before .before .before .before .before .loop .key) (c .before .before .before .before .before .before .before .before .before .loop .sure) (c .before .before .before .before .before .before .before .before .before .loop .kept) (c .before .before .before .before .before .before .before .before .before .loop .left) (c .before .before .before .before .before .before .before .before .before .loop .last) (c .before .before .before .before .before .before .before .before .before .loop .at) (c .before .before .before .before .before .before .before .before .before .loop .inv .1))
+keep-end-requires c κs = (c .before .before .before .before .before .before .before .before .before .before .before .before .before .before .before .before .before .before .before .before .pre .0, c .before .before .before .before .before .before .before .before .before .before .loop .inv .1 .fit, c .before .before .before .before .before .before .before .before .before .before .loop .inv .1 .listed .size, using-room (c .before .before .before .before .before .before .before .before .before .before .before .before .before .before .before .before .before .before .before .before .args .b .now) (c .before .before .before .before .before .before .before .before .before .before .before .before .before .before .before .before .before .before .before .before .pre .0) _ _ (c .before .before .before .before .before .before .before .before .before .before .loop .key) (c .before .before .before .before .before .before .before .before .before .before .loop .sure) (c .before .before .before .before .before .before .before .before .before .before .loop .kept) (c .before .before .before .before .before .before .before .before .before .before .loop .left) (c .before .before .before .before .before .before .before .before .before .before .loop .last) (c .before .before .before .before .before .before .before .before .before .before .loop .at) (c .before .before .before .before .before .before .before .before .before .before .loop .inv .1) (c .before .before .before .before .if3 .left), using-low (c .before .before .before .before .before .before .before .before .before .before .before .before .before .before .before .before .before .before .before .before .args .b .now) (c .before .before .before .before .before .before .before .before .before .before .before .before .before .before .before .before .before .before .before .before .pre .0) _ _ (c .before .before .before .before .before .before .before .before .before .before .loop .key) (c .before .before .before .before .before .before .before .before .before .before .loop .sure) (c .before .before .before .before .before .before .before .before .before .before .loop .kept) (c .before .before .before .before .before .before .before .before .before .before .loop .left) (c .before .before .before .before .before .before .before .before .before .before .loop .last) (c .before .before .before .before .before .before .before .before .before .before .loop .at) (c .before .before .before .before .before .before .before .before .before .before .loop .inv .1))
 
 mark-named-requires : tie.Need-mark-named-requires Inv-loop μ-loop
-mark-named-requires c κs = (c .before .before .before .before .before .before .before .before .before .before .before .before .before .loop .inv .1 .fit .size, using-low (c .before .before .before .before .before .before .before .before .before .before .before .before .before .before .before .before .before .before .before .before .before .before .before .args .b .now) (c .before .before .before .before .before .before .before .before .before .before .before .before .before .before .before .before .before .before .before .before .before .before .before .pre .0) _ _ (c .before .before .before .before .before .before .before .before .before .before .before .before .before .loop .key) (c .before .before .before .before .before .before .before .before .before .before .before .before .before .loop .sure) (c .before .before .before .before .before .before .before .before .before .before .before .before .before .loop .kept) (c .before .before .before .before .before .before .before .before .before .before .before .before .before .loop .left) (c .before .before .before .before .before .before .before .before .before .before .before .before .before .loop .last) (c .before .before .before .before .before .before .before .before .before .before .before .before .before .loop .at) (c .before .before .before .before .before .before .before .before .before .before .before .before .before .loop .inv .1))
-
-next-of-requires-2 : tie.Need-next-of-requires-2 Inv-loop μ-loop
-next-of-requires-2 c κs = record-inside _ _ (c .before .before .before .before .before .before .before .before .before .before .before .before .before .before .before .before .before .before .before .before .before .before .before .before .before .before .pre .0) (c .before .before .before .before .before .before .before .before .before .before .before .before .before .before .before .before .loop .inv .1 .walking .high) (c .before .before .before .before .before .before .before .before .before .before .before .before .before .before .before .loop-test .taken)
+mark-named-requires c κs = (c .before .before .before .before .before .before .before .before .before .before .before .before .before .before .loop .inv .1 .fit .size, using-low (c .before .before .before .before .before .before .before .before .before .before .before .before .before .before .before .before .before .before .before .before .before .before .before .before .args .b .now) (c .before .before .before .before .before .before .before .before .before .before .before .before .before .before .before .before .before .before .before .before .before .before .before .before .pre .0) _ _ (c .before .before .before .before .before .before .before .before .before .before .before .before .before .before .loop .key) (c .before .before .before .before .before .before .before .before .before .before .before .before .before .before .loop .sure) (c .before .before .before .before .before .before .before .before .before .before .before .before .before .before .loop .kept) (c .before .before .before .before .before .before .before .before .before .before .before .before .before .before .loop .left) (c .before .before .before .before .before .before .before .before .before .before .before .before .before .before .loop .last) (c .before .before .before .before .before .before .before .before .before .before .before .before .before .before .loop .at) (c .before .before .before .before .before .before .before .before .before .before .before .before .before .before .loop .inv .1))
 
 sub-left-2 : tie.Need-sub-left-2 Inv-loop μ-loop
-sub-left-2 c = omega (arith, c .before .before .before .before .before .before .before .before .before .before .before .before .if3 .left)
+sub-left-2 c = omega (arith, c .before .before .before .before .before .before .before .before .before .before .before .if3 .left)
 
 loop-less : tie.Need-loop-less Inv-loop μ-loop
-loop-less c = omega (arith, c .before .before .before .before .before .before .before .before .before .before .before .before .if3 .left)
+loop-less c = omega (arith, c .before .before .before .before .before .before .before .before .before .before .before .if3 .left)
 
 loop-again : tie.Need-loop-again Inv-loop μ-loop
-loop-again c = (c .before .before .before .before .before .before .before .before .before .before .before .before .before .before .before .before .before .loop .inv .0, using-next (c .before .before .before .before .before .before .before .before .before .before .before .before .before .before .before .before .before .before .before .before .before .before .before .before .before .before .before .args .b .now) (c .before .before .before .before .before .before .before .before .before .before .before .before .before .before .before .before .before .before .before .before .before .before .before .before .before .before .before .pre .0) _ _ (c .before .before .before .before .before .before .before .before .before .before .before .before .before .before .before .before .before .loop .key) (c .before .before .before .before .before .before .before .before .before .before .before .before .before .before .before .before .before .loop .sure) (c .before .before .before .before .before .before .before .before .before .before .before .before .before .before .before .before .before .loop .kept) (c .before .before .before .before .before .before .before .before .before .before .before .before .before .before .before .before .before .loop .left) (c .before .before .before .before .before .before .before .before .before .before .before .before .before .before .before .before .before .loop .last) (c .before .before .before .before .before .before .before .before .before .before .before .before .before .before .before .before .before .loop .at) (c .before .before .before .before .before .before .before .before .before .before .before .before .before .before .before .before .before .loop .inv .1) (c .before .before .before .before .before .before .before .before .before .before .before .before .before .before .before .before .loop-test .taken) (c .before .before .before .before .before .before .before .before .before .before .before .before .before .before .before .key-of .result) (c .before .before .before .before .before .before .before .before .before .before .before .before .before .before .before .key-of .ensures) (sym (c .before .before .before .before .before .before .before .before .before .before .before .before .before .before .key-follows .ensures) ∙ not-false _ (c .before .before .before .before .before .before .before .before .before .before .before .before .before .if2 .left)) (c .before .before .before .before .before .before .before .before .before .before .before .before .if3 .left) _ (c .before .before .before .before .before .before .before .before .before .before .still-sure .ensures) _ (c .before .before .before .before .before .before .before .keep-end .ensures .0) _ (c .before .before .before .before .before .before .before .keep-end .ensures .1) _ (c .before .before .before .mark-named .ensures) _ (c .next-of2 .ensures))
+loop-again c = (c .before .before .before .before .before .before .before .before .before .before .before .before .before .before .before .before .before .loop .inv .0, using-next (c .before .before .before .before .before .before .before .before .before .before .before .before .before .before .before .before .before .before .before .before .before .before .before .before .before .before .before .args .b .now) (c .before .before .before .before .before .before .before .before .before .before .before .before .before .before .before .before .before .before .before .before .before .before .before .before .before .before .before .pre .0) _ _ (c .before .before .before .before .before .before .before .before .before .before .before .before .before .before .before .before .before .loop .key) (c .before .before .before .before .before .before .before .before .before .before .before .before .before .before .before .before .before .loop .sure) (c .before .before .before .before .before .before .before .before .before .before .before .before .before .before .before .before .before .loop .kept) (c .before .before .before .before .before .before .before .before .before .before .before .before .before .before .before .before .before .loop .left) (c .before .before .before .before .before .before .before .before .before .before .before .before .before .before .before .before .before .loop .last) (c .before .before .before .before .before .before .before .before .before .before .before .before .before .before .before .before .before .loop .at) (c .before .before .before .before .before .before .before .before .before .before .before .before .before .before .before .before .before .loop .inv .1) (c .before .before .before .before .before .before .before .before .before .before .before .before .before .before .before .before .loop-test .taken) (c .before .before .before .before .before .before .before .before .before .before .before .before .before .before .before .key-of .result) (c .before .before .before .before .before .before .before .before .before .before .before .before .before .before .before .key-of .ensures) (sym (c .before .before .before .before .before .before .before .before .before .before .before .before .before .key-follows .ensures) ∙ not-false _ (c .before .before .before .before .before .before .before .before .before .before .before .before .if2 .left)) (c .before .before .before .before .before .before .before .before .before .before .before .if3 .left) _ (c .before .before .before .before .before .before .before .before .before .still-sure .ensures) _ (c .before .before .before .before .before .before .keep-end .ensures .0) _ (c .before .before .before .before .before .before .keep-end .ensures .1) _ (c .before .before .mark-named .ensures) _ (c .before .before .before .before .before .before .before .before .before .before .before .before .before .before .next-of2 .ensures))
 
-sub-t26 : tie.Need-sub-t26 Inv-loop μ-loop
-sub-t26 c = omega (arith, c .before .loop .inv .0, c .before .loop .inv .1 .walking .few)
+sub-t27 : tie.Need-sub-t27 Inv-loop μ-loop
+sub-t27 c = omega (arith, c .before .loop .inv .0, c .before .loop .inv .1 .walking .few)
 
 same-length-5 : tie.Need-same-length-5 Inv-loop μ-loop
 same-length-5 c = c .before .loop .inv .1 .fit .size ∙ sym (c .before .before .before .before .before .before .before .before .before .before .before .pre .1 .size)
@@ -139,6 +137,7 @@ walk-used-spec =
     next-of-requires
     loop-holds
     key-of-requires
+    next-of-requires-2
     key-follows-requires
     stopped-requires-2
     same-length
@@ -151,11 +150,10 @@ walk-used-spec =
     still-sure-requires
     keep-end-requires
     mark-named-requires
-    next-of-requires-2
     sub-left-2
     loop-less
     loop-again
-    sub-t26
+    sub-t27
     same-length-5
     same-length-6
     returns-4)
