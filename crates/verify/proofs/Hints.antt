@@ -1,26 +1,20 @@
--- Marks name used records, and what they show is there; the keys of the used chain, tested and marked in one walk.
-use mathlib.Core.Bool.{Bool, true, false, cond, not, _&&_, _||_, and-false, false≢true}
+-- Marks name used records, and what they show is there; one mark put.
+use mathlib.Core.Bool.{Bool, true, false, cond, not, _||_}
 use mathlib.Core.List.{List}
 use mathlib.Core.Logic.{_≢_}
 use mathlib.Core.Path.{_≡_, refl, sym, ap, _∙_, subst}
-use Prim.Native.Nat.{ℕ, zero, suc, _+_, _-_, _*_, _/_, _%_, _≤_, _<_}
+use Prim.Native.Nat.{ℕ, zero, suc, _+_, _-_, _*_, _%_, _≤_, _<_}
 use native.Mathlib.Omega.{arith}
 use lib.Dec.{eqb, ltb}
 use lib.ListN.{length, getD, set, replicate, length-set, length-replicate, getD-replicate, List·getD-eq-default}
 use lib.Seq.{getD-set-same, getD-set-other, set-out}
 use borrow.Author.Tests.{eqb-true, eqb-false, eq-eqb, ne-eqb, ltb-true, ltb-false}
 use Rattle.model.specs.declared.Key.{Key}
-use Rattle.model.specs.Ordered.{isLess}
-use Rattle.model.specs.Keys.{sameKey, spaceKey, compareKeys}
 use Rattle.model.specs.Tuples.{present}
-use Rattle.model.specs.Buffer.{word, capacityOf, next, ends, usedChain, keyAt, tuplesOf, ascendsFromUniverse, everyKey, smallKey, noEdgeWithoutNode, edgeHasEnd}
-use Rattle.model.proofs.Bools.{and-left, and-right, and-both, not-yes}
+use Rattle.model.specs.Buffer.{capacityOf, keyAt, tuplesOf}
+use Rattle.model.proofs.Bools.{and-left, and-right, not-yes}
 use Rattle.model.proofs.Tuples.{same-key}
-use Rattle.verify.specs.Checks.{Walkable, UsedEnds, isAt, Held, Marks, MarksFit, markCount, slotOf, withMark, withNamed, walkedFrom, shapedKey, goodKey, keysRight, keyFollows, stoppedWalk, usedWalk}
-use Rattle.verify.specs.declared.chains.Walked.{Walked}
-use Rattle.verify.proofs.Capacity.{some-record, few-records}
-use Rattle.verify.proofs.Walks.{Walking, walking-start, walking-on, walking-end, walking-stop}
-use Rattle.verify.proofs.Rest.{AscendsLeft, ascends-empty, ascends-not-first, ascends-start, ascends-next, ascends-no, ascends-end, EveryLeft, every-start, every-next, every-no, every-end, every-held}
+use Rattle.verify.specs.Checks.{isAt, Held, Marks, MarksFit, markCount, slotOf, withMark, withNamed}
 
 -- ---- marks
 
@@ -29,9 +23,9 @@ unfolding slotOf
 slot-below k = omega arith
 
 pub slot-sum : (k : Key) (s n g m : ℕ) → s ≡ k .s → n ≡ k .n → g ≡ k .g → m ≡ k .m
-    → (10475 * s + 18103 * n + 12499 * g + 931 * m) / 16 % markCount ≡ slotOf k
+    → (5003 * s + n + 3571 * g + 2741 * m) % markCount ≡ slotOf k
 unfolding slotOf
-slot-sum k s n g m p q r t = λ i. (10475 * p i + 18103 * q i + 12499 * r i + 931 * t i) / 16 % markCount
+slot-sum k s n g m p q r t = λ i. (5003 * p i + q i + 3571 * r i + 2741 * t i) % markCount
 
 -- no record is held
 none-held : (b : List ℕ) → Held b 0
@@ -85,8 +79,8 @@ module _ (P : ℕ → Type 0) (i : ℕ) (p : P i) where
   unfolding withMark
   mark-all zero ms at h = h
   mark-all (suc left) ms at h =
-      either (eqb (getD ms at 0) 0) (set ms at i) (withMark left ms ((at + 1) % markCount) i) (set-all ms at h)
-      (mark-all left ms ((at + 1) % markCount) h)
+      either (eqb (getD ms at 0) 0) (set ms at i) (withMark left ms ((at + 1021) % markCount) i) (set-all ms at h)
+      (mark-all left ms ((at + 1021) % markCount) h)
 
   named-all : (ms : List ℕ) (k : Key) → ((j : ℕ) → P (getD ms j 0)) → (j : ℕ) → P (getD (withNamed ms k i) j 0)
   unfolding withNamed
@@ -100,8 +94,8 @@ mark-length : (left : ℕ) (ms : List ℕ) (at i : ℕ) → length (withMark lef
 unfolding withMark
 mark-length zero ms at i = refl
 mark-length (suc left) ms at i =
-    same-length (eqb (getD ms at 0) 0) (set ms at i) (withMark left ms ((at + 1) % markCount) i) ms (length-set ms at i)
-    (mark-length left ms ((at + 1) % markCount) i)
+    same-length (eqb (getD ms at 0) 0) (set ms at i) (withMark left ms ((at + 1021) % markCount) i) ms (length-set ms at i)
+    (mark-length left ms ((at + 1021) % markCount) i)
 
 named-length : (ms : List ℕ) (k : Key) (i : ℕ) → length (withNamed ms k i) ≡ length ms
 unfolding withNamed
@@ -153,9 +147,9 @@ module _ (ms₀ : List ℕ) (i : ℕ) where
         go zero r h = absurd (h refl)
         go (suc l) r h =
             f ∙ ap (λ (xs : List ℕ). set xs at i) (P .same)
-            ∙ sym (ap (λ (t : Bool). cond t (set ms₀ at i) (withMark l ms₀ ((at + 1) % markCount) i)) free) ∙ r
+            ∙ sym (ap (λ (t : Bool). cond t (set ms₀ at i) (withMark l ms₀ ((at + 1021) % markCount) i)) free) ∙ r
 
-    pub place-next : left ≢ 0 → (m : ℕ) → m ≡ getD ms at 0 → m ≢ 0 → Placing ms₀ ms i at₀ ((at + 1) % markCount) (left - 1)
+    pub place-next : left ≢ 0 → (m : ℕ) → m ≡ getD ms at 0 → m ≢ 0 → Placing ms₀ ms i at₀ ((at + 1021) % markCount) (left - 1)
     unfolding withMark
     place-next h m e z = record { same = P .same; below = omega arith; rest = go left (P .rest) h }
       where
@@ -165,10 +159,10 @@ module _ (ms₀ : List ℕ) (i : ℕ) where
         taken : eqb (getD ms₀ at 0) 0 ≡ false
         taken = ne-eqb (getD ms₀ at 0) 0 (λ y. z (e ∙ ap (λ (xs : List ℕ). getD xs at 0) (P .same) ∙ y))
 
-        go : (l : ℕ) → withMark l ms₀ at i ≡ withMark 64 ms₀ at₀ i → l ≢ 0 → withMark (l - 1) ms₀ ((at + 1) % markCount) i ≡ withMark 64 ms₀ at₀ i
+        go : (l : ℕ) → withMark l ms₀ at i ≡ withMark 64 ms₀ at₀ i → l ≢ 0 → withMark (l - 1) ms₀ ((at + 1021) % markCount) i ≡ withMark 64 ms₀ at₀ i
         go zero r h = absurd (h refl)
         go (suc l) r h =
-            ap (λ (x : ℕ). withMark x ms₀ ((at + 1) % markCount) i) (pred l) ∙ sym (ap (λ (t : Bool). cond t (set ms₀ at i) (withMark l ms₀ ((at + 1) % markCount) i)) taken) ∙ r
+            ap (λ (x : ℕ). withMark x ms₀ ((at + 1021) % markCount) i) (pred l) ∙ sym (ap (λ (t : Bool). cond t (set ms₀ at i) (withMark l ms₀ ((at + 1021) % markCount) i)) taken) ∙ r
 
     pub place-none : left ≡ 0 → ms ≡ withMark 64 ms₀ at₀ i
     unfolding withMark

@@ -1,22 +1,22 @@
 -- The used chain walked once: its keys are tested and marked, and second ends that the marks do not show are kept.
-use mathlib.Core.Bool.{Bool, true, false, cond, not, _&&_, _||_, and-false, and-true, false≢true}
+use mathlib.Core.Bool.{Bool, true, false, cond, not, _&&_, and-false, and-true, false≢true}
 use mathlib.Core.List.{List, _∷_}
 use mathlib.Core.Logic.{_≢_}
 use mathlib.Core.Path.{_≡_, refl, sym, ap, ap₂, _∙_, subst}
 use Prim.Native.Nat.{ℕ, zero, suc, _+_, _-_, _≤_, _<_}
 use native.Mathlib.Omega.{arith}
-use lib.Dec.{eqb, ltb}
+use lib.Dec.{eqb}
 use lib.ListN.{length, getD, set, length-set}
 use lib.Seq.{getD-set-same, getD-set-other}
-use borrow.Author.Tests.{eqb-true, eqb-false, eq-eqb, ne-eqb, ltb-true, ltb-false}
+use borrow.Author.Tests.{eqb-true, eqb-false, eq-eqb, ne-eqb}
 use Rattle.model.specs.declared.Key.{Key}
 use Rattle.model.specs.Ordered.{isLess}
 use Rattle.model.specs.Keys.{Tuple, sameKey, spaceKey, nodeKey, compareKeys}
 use Rattle.model.specs.Tuples.{Tuples, present}
 use Rattle.model.specs.Buffer.{word, capacityOf, next, ends, usedChain, keyAt, tupleAt, tuplesOf, ascendsFromUniverse, everyRecord, everyKey, smallKey, noEdgeWithoutNode, edgeHasEnd, nodeSupported, edgeSupported}
-use Rattle.model.proofs.Bools.{and-left, and-right, and-both, not-yes, no-not}
+use Rattle.model.proofs.Bools.{and-left, and-right, and-both, not-yes}
 use Rattle.model.proofs.Tuples.{same-key}
-use Rattle.verify.specs.Checks.{Walkable, UsedEnds, UsedFound, Held, Marks, MarksFit, markCount, withNamed, walkedFrom, tuplesFrom, shapedKey, goodKey, keysRight, keyFollows, stoppedWalk, startsRight, usedWalk, supported, settled, endThere, endShown, everyEnd, Listed, keptCount}
+use Rattle.verify.specs.Checks.{Walkable, UsedEnds, UsedFound, Held, Marks, MarksFit, withNamed, walkedFrom, tuplesFrom, shapedKey, goodKey, keysRight, keyFollows, stoppedWalk, startsRight, usedWalk, supported, settled, endThere, endShown, everyEnd, Listed, keptCount}
 use Rattle.verify.specs.declared.chains.Walked.{Walked}
 use Rattle.verify.proofs.Capacity.{some-record, few-records}
 use Rattle.verify.proofs.Walks.{Walking, walking-start, walking-on, walking-end, walking-stop}

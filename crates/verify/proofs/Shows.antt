@@ -1,20 +1,19 @@
 -- What tuples name, looked for while the used chain is walked: what the marks show is there, and what is left to decide are second ends.
 use mathlib.Core.Bool.{Bool, true, false, cond, not, _&&_, _||_, false≢true}
-use mathlib.Core.List.{List, _∷_}
+use mathlib.Core.List.{List}
 use mathlib.Core.Logic.{_≢_, ⊎-elim}
-use mathlib.Core.Path.{_≡_, refl, sym, ap, ap₂, _∙_, subst}
+use mathlib.Core.Path.{_≡_, refl, sym, ap, ap₂, _∙_}
 use Prim.Native.Nat.{ℕ, zero, suc, _+_, _-_, _%_, _≤_, _<_}
 use native.Mathlib.Omega.{arith}
 use lib.Dec.{eqb, ltb}
-use lib.ListN.{length, getD, set, length-set}
-use lib.Seq.{getD-set-same, getD-set-other}
-use borrow.Author.Tests.{eqb-true, eqb-false, eq-eqb, ne-eqb, ltb-true, ltb-false, lt-ltb, le-ltb}
+use lib.ListN.{getD, set}
+use borrow.Author.Tests.{eqb-true, eqb-false, eq-eqb, ne-eqb, lt-ltb, le-ltb}
 use Rattle.model.specs.declared.Key.{Key}
 use Rattle.model.specs.Keys.{spaceKey, nodeKey, edgeKey, isNode, isEdge}
 use Rattle.model.specs.Tuples.{Tuples, present}
-use Rattle.model.specs.Buffer.{capacityOf, keyAt, tuplesOf, everyRecord, everyKey, smallKey, noEdgeWithoutNode, edgeHasEnd, nodeSupported, edgeSupported}
-use Rattle.model.proofs.Bools.{or-cases, or-left, or-right, neither, and-left, and-right, and-both, not-yes, no-not}
-use Rattle.verify.specs.Checks.{isAt, Held, Marks, MarksFit, markCount, slotOf, shownFrom, isShown, beside, settled, endThere, endShown, everyEnd, Listed, keptCount, supported, goodKey, shapedKey}
+use Rattle.model.specs.Buffer.{keyAt, tuplesOf, everyRecord, smallKey, noEdgeWithoutNode, edgeHasEnd, nodeSupported, edgeSupported}
+use Rattle.model.proofs.Bools.{or-cases, or-left, neither, and-left, and-right}
+use Rattle.verify.specs.Checks.{isAt, Marks, MarksFit, markCount, slotOf, shownFrom, isShown, beside, settled, endThere, endShown, everyEnd, supported, goodKey, shapedKey}
 use Rattle.verify.proofs.Heads.{every-on, every-stop, every-none}
 use Rattle.verify.proofs.Hints.{slot-below, shown}
 
@@ -25,7 +24,7 @@ unfolding shownFrom
 show-left zero b ms at k M e = absurd (false≢true e)
 show-left (suc left) b ms at k M e =
     ⊎-elim (λ t. sym (shown b (getD ms at 0) k (M .held at) t))
-    (λ t. show-left left b ms ((at + 1) % markCount) k M (and-right (not (eqb (getD ms at 0) 0)) _ t))
+    (λ t. show-left left b ms ((at + 1021) % markCount) k M (and-right (not (eqb (getD ms at 0) 0)) _ t))
     (or-cases (isAt b (getD ms at 0) k) _ e)
 
 pub show : (b ms : List ℕ) (k : Key) → Marks b ms → isShown b ms k ≡ true → present k (tuplesOf b) ≡ true
@@ -46,7 +45,7 @@ module _ (b ms : List ℕ) (k : Key) where
   showing-start at e = record { below = omega (arith, slot-below k); rest = ap (λ (x : ℕ). shownFrom 64 b ms x k) e }
 
   module _ (at left : ℕ) (S : Showing b ms k at left) where
-    one : left ≢ 0 → (isAt b (getD ms at 0) k || (not (eqb (getD ms at 0) 0) && shownFrom (left - 1) b ms ((at + 1) % markCount) k)) ≡ isShown b ms k
+    one : left ≢ 0 → (isAt b (getD ms at 0) k || (not (eqb (getD ms at 0) 0) && shownFrom (left - 1) b ms ((at + 1021) % markCount) k)) ≡ isShown b ms k
     unfolding shownFrom
     one h = go left (S .rest) h
       where
@@ -54,10 +53,10 @@ module _ (b ms : List ℕ) (k : Key) where
         pred l = omega arith
 
         go : (l : ℕ) → shownFrom l b ms at k ≡ isShown b ms k → l ≢ 0
-            → (isAt b (getD ms at 0) k || (not (eqb (getD ms at 0) 0) && shownFrom (l - 1) b ms ((at + 1) % markCount) k)) ≡ isShown b ms k
+            → (isAt b (getD ms at 0) k || (not (eqb (getD ms at 0) 0) && shownFrom (l - 1) b ms ((at + 1021) % markCount) k)) ≡ isShown b ms k
         go zero r h = absurd (h refl)
         go (suc l) r h =
-            ap (λ (x : ℕ). isAt b (getD ms at 0) k || (not (eqb (getD ms at 0) 0) && shownFrom x b ms ((at + 1) % markCount) k)) (pred l) ∙ r
+            ap (λ (x : ℕ). isAt b (getD ms at 0) k || (not (eqb (getD ms at 0) 0) && shownFrom x b ms ((at + 1021) % markCount) k)) (pred l) ∙ r
 
     module _ (left≢ : left ≢ 0) (i : ℕ) (e : i ≡ getD ms at 0) (t : Bool) (f : t ≡ isAt b i k) where
       here : isAt b (getD ms at 0) k ≡ t
@@ -65,22 +64,22 @@ module _ (b ms : List ℕ) (k : Key) where
 
       pub show-found : t ≡ true → true ≡ isShown b ms k
       show-found y =
-          sym (or-left (isAt b (getD ms at 0) k) (not (eqb (getD ms at 0) 0) && shownFrom (left - 1) b ms ((at + 1) % markCount) k) (here ∙ y)) ∙ one left≢
+          sym (or-left (isAt b (getD ms at 0) k) (not (eqb (getD ms at 0) 0) && shownFrom (left - 1) b ms ((at + 1021) % markCount) k) (here ∙ y)) ∙ one left≢
 
       pub show-free : t ≡ false → i ≡ 0 → false ≡ isShown b ms k
       show-free y z =
           sym
-          (neither (isAt b (getD ms at 0) k) (not (eqb (getD ms at 0) 0) && shownFrom (left - 1) b ms ((at + 1) % markCount) k) (here ∙ y)
-          (ap (λ (x : Bool). not x && shownFrom (left - 1) b ms ((at + 1) % markCount) k) (eq-eqb (getD ms at 0) 0 (sym e ∙ z))))
+          (neither (isAt b (getD ms at 0) k) (not (eqb (getD ms at 0) 0) && shownFrom (left - 1) b ms ((at + 1021) % markCount) k) (here ∙ y)
+          (ap (λ (x : Bool). not x && shownFrom (left - 1) b ms ((at + 1021) % markCount) k) (eq-eqb (getD ms at 0) 0 (sym e ∙ z))))
           ∙ one left≢
 
-      pub show-next : t ≡ false → i ≢ 0 → Showing b ms k ((at + 1) % markCount) (left - 1)
+      pub show-next : t ≡ false → i ≢ 0 → Showing b ms k ((at + 1021) % markCount) (left - 1)
       show-next y n =
           record {
             below = omega arith;
             rest =
-                sym (ap (λ (x : Bool). not x && shownFrom (left - 1) b ms ((at + 1) % markCount) k) (ne-eqb (getD ms at 0) 0 (λ z. n (e ∙ z))))
-                ∙ sym (ap (λ (x : Bool). x || (not (eqb (getD ms at 0) 0) && shownFrom (left - 1) b ms ((at + 1) % markCount) k)) (here ∙ y))
+                sym (ap (λ (x : Bool). not x && shownFrom (left - 1) b ms ((at + 1021) % markCount) k) (ne-eqb (getD ms at 0) 0 (λ z. n (e ∙ z))))
+                ∙ sym (ap (λ (x : Bool). x || (not (eqb (getD ms at 0) 0) && shownFrom (left - 1) b ms ((at + 1021) % markCount) k)) (here ∙ y))
                 ∙ one left≢;
           }
 

@@ -4,7 +4,7 @@ use mathlib.Core.Bool.{Bool, true, false, cond, not, _&&_, _||_}
 use mathlib.Core.List.{List, _++_, map}
 use mathlib.Core.Logic.{_≢_}
 use mathlib.Core.Path.{_≡_}
-use Prim.Native.Nat.{ℕ, zero, suc, _+_, _-_, _*_, _/_, _%_, _≤_, _<_}
+use Prim.Native.Nat.{ℕ, zero, suc, _+_, _-_, _*_, _%_, _≤_, _<_}
 use lib.Dec.{eqb, leb, ltb}
 use lib.ListN.{length, getD, set}
 use Rattle.model.specs.declared.Key.{Key}
@@ -162,7 +162,7 @@ pub record Held (b : List ℕ) (i : ℕ) : Type 0 where
   pub has : i ≢ 0 → present (keyAt b i) (tuplesOf b) ≡ true
 
 abbrev pub markCount : ℕ
-markCount = 4096
+markCount = 8192
 
 -- what is known of marks: each names no record or one that is held
 pub record Marks (b marks : List ℕ) : Type 0 where
@@ -171,12 +171,12 @@ pub record Marks (b marks : List ℕ) : Type 0 where
 
 -- the place where the mark of a key is sought first
 unfoldable pub slotOf : Key → ℕ
-slotOf k = (10475 * k .s + 18103 * k .n + 12499 * k .g + 931 * k .m) / 16 % markCount
+slotOf k = (5003 * k .s + k .n + 3571 * k .g + 2741 * k .m) % markCount
 
 -- the marks with a record put at the first place without a mark, of so many from a place on
 unfoldable pub withMark : ℕ → List ℕ → ℕ → ℕ → List ℕ
 withMark zero marks at i = marks
-withMark (suc left) marks at i = cond (eqb (getD marks at 0) 0) (set marks at i) (withMark left marks ((at + 1) % markCount) i)
+withMark (suc left) marks at i = cond (eqb (getD marks at 0) 0) (set marks at i) (withMark left marks ((at + 1021) % markCount) i)
 
 -- the marks with a record put where tuples may name its key: a tuple of 0, a node, a space
 unfoldable pub withNamed : List ℕ → Key → ℕ → List ℕ
@@ -191,7 +191,7 @@ pub record MarksFit (b marks : List ℕ) : Type 0 where
 unfoldable pub shownFrom : ℕ → List ℕ → List ℕ → ℕ → Key → Bool
 shownFrom zero b marks at k = false
 shownFrom (suc left) b marks at k =
-    isAt b (getD marks at 0) k || (not (eqb (getD marks at 0) 0) && shownFrom left b marks ((at + 1) % markCount) k)
+    isAt b (getD marks at 0) k || (not (eqb (getD marks at 0) 0) && shownFrom left b marks ((at + 1021) % markCount) k)
 
 -- do the marks show a key
 unfoldable pub isShown : List ℕ → List ℕ → Key → Bool

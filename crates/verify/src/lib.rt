@@ -51,7 +51,7 @@ fn records_right(b: &[u32]) -> bool
     requires { ⌜ Walkable (now b) ⌝ }
     ensures { λ r. ⌜ r ≡ (chainsRight (now (b .entry)) && sound (tuplesOf (now (b .entry)))) ⌝ }
 {
-    let mut marks: [u16; 4096] = [0; 4096];
+    let mut marks: [u16; 8192] = [0; 8192];
     let mut list: [u16; 2048] = [0; 2048];
     let used = keys::walk_used(b, &mut marks, &mut list);
     if !used.ended {

@@ -19,7 +19,7 @@ fn slot_of(k: Key) -> usize
     let n = records::index_of(k.n);
     let g = records::index_of(k.g);
     let m = records::index_of(k.m);
-    (10475 * s + 18103 * n + 12499 * g + 931 * m) / 16 % 4096
+    (5003 * s + n + 3571 * g + 2741 * m) % 8192
 }
 
 // A mark as an index.
@@ -57,7 +57,7 @@ fn put_mark(marks: &mut [u16], k: Key, i: usize)
             set_mark(marks, at, i);
             return;
         }
-        at = (at + 1) % 4096;
+        at = (at + 1021) % 8192;
         left -= 1;
     }
 }
@@ -91,7 +91,7 @@ pub fn shown(b: &[u32], marks: &[u16], k: Key) -> bool
         if i == 0 {
             return false;
         }
-        at = (at + 1) % 4096;
+        at = (at + 1021) % 8192;
         left -= 1;
     }
     false
