@@ -8,3 +8,5 @@ pub mod KeyTests
 pub mod Support
 pub mod Hints
 pub mod Parts
+pub mod Shows
+pub mod OneWalk

@@ -4,16 +4,17 @@ use mathlib.Core.Bool.{Bool, true, false, cond, not, _&&_, _||_}
 use mathlib.Core.List.{List, _++_, map}
 use mathlib.Core.Logic.{_≢_}
 use mathlib.Core.Path.{_≡_}
-use Prim.Native.Nat.{ℕ, zero, suc, _+_, _*_, _/_, _%_, _≤_}
-use lib.Dec.{eqb, leb}
+use Prim.Native.Nat.{ℕ, zero, suc, _+_, _-_, _*_, _%_, _≤_, _<_}
+use lib.Dec.{eqb, leb, ltb}
 use lib.ListN.{length, getD, set}
 use Rattle.model.specs.declared.Key.{Key}
 use Rattle.model.specs.Ordered.{isLess, Ascending}
-use Rattle.model.specs.Keys.{keyOf, compareKeys, sameKey}
+use Rattle.model.specs.Keys.{keyOf, spaceKey, nodeKey, edgeKey, isEdge, compareKeys, sameKey}
 use Rattle.model.specs.Tuples.{Tuples, present}
 use Rattle.model.specs.Buffer.{word, leastLength, mostLength, fitsLength, capacityOf, sizeWord, next, keyAt, tupleAt, walk, ends, orNothing, usedChain, freeChain, usedOf, freeOf, tuplesOf, count, everyRecord, ascendsFromUniverse, smallKey, noEdgeWithoutNode, edgeHasEnd, nodeSupported, edgeSupported, everyKey}
 use Rattle.model.specs.Rules.{Chain}
 use Rattle.verify.specs.declared.chains.Walked.{Walked}
+use Rattle.verify.specs.declared.keys.Used.{Used}
 
 -- ---- words and nexts
 
@@ -107,6 +108,17 @@ keyFollows j k = isLess (compareKeys j k) && goodKey k
 abbrev pub stoppedWalk : Walked
 stoppedWalk = record { ended = false; count = 0; last = 0 }
 
+abbrev pub stoppedUsed : Used
+stoppedUsed = record { ended = false; count = 0; last = 0; sure = false; kept = 0 }
+
+-- what a walk of the used chain finds of the chain
+abbrev pub walkedOf : Used → Walked
+walkedOf u = record { ended = u .ended; count = u .count; last = u .last }
+
+-- is there a first used record, with UNIVERSE's key
+unfoldable pub startsRight : List ℕ → Bool
+startsRight b = not (eqb (word b 1) 0) && sameKey (keyAt b (word b 1)) (spaceKey 0)
+
 -- the walk of the used chain, given up where its keys are not right
 unfoldable pub usedWalk : List ℕ → Walked
 usedWalk b = cond (ends (usedChain b) && keysRight (tuplesOf b)) (walkedFrom b (word b 1)) stoppedWalk
@@ -150,7 +162,7 @@ pub record Held (b : List ℕ) (i : ℕ) : Type 0 where
   pub has : i ≢ 0 → present (keyAt b i) (tuplesOf b) ≡ true
 
 abbrev pub markCount : ℕ
-markCount = 4096
+markCount = 8192
 
 -- what is known of marks: each names no record or one that is held
 pub record Marks (b marks : List ℕ) : Type 0 where
@@ -159,13 +171,66 @@ pub record Marks (b marks : List ℕ) : Type 0 where
 
 -- the place where the mark of a key is sought first
 unfoldable pub slotOf : Key → ℕ
-slotOf k = (10475 * k .s + 18103 * k .n + 12499 * k .g + 931 * k .m) / 16 % markCount
+slotOf k = (5003 * k .s + k .n + 3571 * k .g + 2741 * k .m) % markCount
 
 -- the marks with a record put at the first place without a mark, of so many from a place on
 unfoldable pub withMark : ℕ → List ℕ → ℕ → ℕ → List ℕ
 withMark zero marks at i = marks
-withMark (suc left) marks at i = cond (eqb (getD marks at 0) 0) (set marks at i) (withMark left marks ((at + 1) % markCount) i)
+withMark (suc left) marks at i = cond (eqb (getD marks at 0) 0) (set marks at i) (withMark left marks ((at + 1021) % markCount) i)
 
 -- the marks with a record put where tuples may name its key: a tuple of 0, a node, a space
 unfoldable pub withNamed : List ℕ → Key → ℕ → List ℕ
 withNamed marks k i = cond (eqb (k .s) 0 || eqb (k .g) 0) (withMark 64 marks (slotOf k) i) marks
+
+-- marks that name records, whatever their keys
+pub record MarksFit (b marks : List ℕ) : Type 0 where
+  pub size : length marks ≡ markCount
+  pub low : (j : ℕ) → getD marks j 0 ≤ capacityOf b
+
+-- is a key that of one of the records marked at so many places from a place on, up to one without a mark
+unfoldable pub shownFrom : ℕ → List ℕ → List ℕ → ℕ → Key → Bool
+shownFrom zero b marks at k = false
+shownFrom (suc left) b marks at k =
+    isAt b (getD marks at 0) k || (not (eqb (getD marks at 0) 0) && shownFrom left b marks ((at + 1021) % markCount) k)
+
+-- do the marks show a key
+unfoldable pub isShown : List ℕ → List ℕ → Key → Bool
+isShown b marks k = shownFrom 64 b marks (slotOf k) k
+
+-- ---- what a tuple names, looked for while the used chain is walked
+
+-- is a key in the space of the key before it, and if it is an edge's, with the same first end
+unfoldable pub beside : Key → Key → Bool
+beside j k = eqb (k .s) (j .s) && (eqb (k .g) 0 || eqb (k .n) (j .n))
+
+-- is all there that a key names, but the second end of an edge, as far as the key before it and the marks show
+unfoldable pub settled : List ℕ → List ℕ → Key → Key → Bool
+settled b marks j k = eqb (k .n) 0 || (beside j k && (eqb (k .s) 0 || isShown b marks (edgeKey 0 (k .n) (k .g) (k .m))))
+
+-- is the second end there; other keys have none
+unfoldable pub endThere : Tuples → Key → Bool
+endThere ts k = not (isEdge k) || present (nodeKey (k .s) (k .m)) ts
+
+-- is it, as far as the marks show; a node after the first end is not marked yet
+unfoldable pub endShown : List ℕ → List ℕ → Key → Bool
+endShown b marks k = eqb (k .g) 0 || (not (ltb (k .n) (k .m)) && isShown b marks (nodeKey (k .s) (k .m)))
+
+-- most records whose second ends are kept for later
+abbrev pub keptCount : ℕ
+keptCount = 2048
+
+-- are the second ends there of the first so many kept records
+unfoldable pub everyEnd : List ℕ → List ℕ → ℕ → Bool
+everyEnd b list kept = everyRecord (λ (j : ℕ). endThere (tuplesOf b) (keyAt b (getD list (j - 1) 0))) kept
+
+-- the first so many places of a list name records
+pub record Listed (b list : List ℕ) (kept : ℕ) : Type 0 where
+  pub size : length list ≡ keptCount
+  pub few : kept ≤ keptCount
+  pub named : (j : ℕ) → j < kept → (getD list j 0 ≢ 0) × (getD list j 0 ≤ capacityOf b)
+
+-- what a walk of the used chain leaves where it is not given up: marks, and records whose second ends decide where it is sure
+pub record UsedFound (b marks list : List ℕ) (u : Used) : Type 0 where
+  pub shows : Marks b marks
+  pub listed : Listed b list (u .kept)
+  pub decided : u .sure ≡ true → everyKey (supported (tuplesOf b)) (tuplesOf b) ≡ everyEnd b list (u .kept)

@@ -1,13 +1,15 @@
 // The keys of the used chain: do they ascend, and is each one that a store may hold.
-use super::chains::Walked;
+use super::ends::keep_end;
+use super::ends::still_sure;
 use super::layout::capacity;
 use super::layout::node_key;
 use super::marks::mark_named;
 use model::Key;
 ghost use mathlib.Core.Bool.{true};
 ghost use mathlib.Core.Path.{_≡_};
-ghost use Rattle.model.specs.Buffer.{ends, usedChain, smallKey};
-ghost use Rattle.verify.specs.Checks.{Walkable, shapedKey, goodKey, keyFollows, stoppedWalk, usedWalk, Marks};
+ghost use lib.ListN.{length};
+ghost use Rattle.model.specs.Buffer.{smallKey};
+ghost use Rattle.verify.specs.Checks.{Walkable, shapedKey, goodKey, keyFollows, startsRight, stoppedUsed, walkedOf, usedWalk, UsedFound, Marks, keptCount};
 
 // Are the words of a key at most 65,535.
 fn key_small(k: Key) -> bool
@@ -58,53 +60,85 @@ fn key_follows(key: Key, k: Key) -> bool
     key_good(k)
 }
 
+// What the walk of the used chain finds.
+pub struct Used {
+    // Does the chain end, with keys that are right.
+    pub ended: bool,
+    // How many records it meets.
+    pub count: usize,
+    // The last record met.
+    pub last: usize,
+    // Is all there that the tuples name, but for second ends that are kept.
+    pub sure: bool,
+    // How many are kept.
+    pub kept: usize,
+}
+
 // A walk that is given up.
-fn stopped() -> Walked
-    ensures { λ r. ⌜ r ≡ stoppedWalk ⌝ }
+fn stopped() -> Used
+    ensures { λ r. ⌜ r ≡ stoppedUsed ⌝ }
 {
-    Walked {
+    Used {
         ended: false,
         count: 0,
         last: 0,
+        sure: false,
+        kept: 0,
     }
 }
 
-// Walks the used chain over at most C records; gives up where its keys do not ascend from (0,0,0,0) or a store may not hold one.
-// It marks the records whose keys tuples may name, but the first, which is found without.
-pub fn walk_used(b: &[u32], marks: &mut [u16]) -> Walked
-    requires { ⌜ Walkable (now b) × Marks (now b) (now marks) ⌝ }
-    ensures answer { λ r. ⌜ r ≡ usedWalk (now (b .entry)) ⌝ }
-    ensures lent { λ _. ⌜ (ends (usedChain (now (b .entry))) ≡ true → Marks (now (b .entry)) (now (marks .exit))) ⌝ }
+// Is there a first used record, with UNIVERSE's key.
+fn starts_right(b: &[u32]) -> bool
+    requires { ⌜ Walkable (now b) ⌝ }
+    ensures { λ r. ⌜ r ≡ startsRight (now (b .entry)) ⌝ }
 {
     let head = records::head_word(b, 1);
     if head == 0 {
+        return false;
+    }
+    records::key_same(records::key_of(b, head), node_key(0, 0))
+}
+
+// Walks the used chain over at most C records; gives up where its keys do not ascend from (0,0,0,0) or a store may not hold one.
+// It marks the records whose keys tuples may name, but the first, and keeps those whose second ends the marks do not show.
+pub fn walk_used(b: &[u32], marks: &mut [u16], list: &mut [u16]) -> Used
+    requires { ⌜ Walkable (now b) × Marks (now b) (now marks) × (length (now list) ≡ keptCount) ⌝ }
+    ensures answer { λ r. ⌜ walkedOf r ≡ usedWalk (now (b .entry)) ⌝ }
+    ensures lent { λ r. ⌜ (r .ended ≡ true → UsedFound (now (b .entry)) (now (marks .exit)) (now (list .exit)) r) ⌝ }
+{
+    if !starts_right(b) {
         return stopped();
     }
-    let mut key = records::key_of(b, head);
-    if !records::key_same(key, node_key(0, 0)) {
-        return stopped();
-    }
+    let head = records::head_word(b, 1);
     let c = capacity(b);
+    let mut key = node_key(0, 0);
+    let mut sure = true;
+    let mut kept = 0;
     let mut left = c - 1;
     let mut last = head;
     let mut at = records::next_of(b, head);
     while at != 0 {
         let k = records::key_of(b, at);
+        let after = records::next_of(b, at);
         if !key_follows(key, k) {
             return stopped();
         }
         if left == 0 {
             return stopped();
         }
+        sure = still_sure(b, marks, sure, key, k);
+        kept = keep_end(b, marks, list, kept, k, at);
         mark_named(marks, k, at);
         key = k;
         last = at;
-        at = records::next_of(b, at);
+        at = after;
         left -= 1;
     }
-    Walked {
+    Used {
         ended: true,
         count: c - left,
         last,
+        sure,
+        kept,
     }
 }

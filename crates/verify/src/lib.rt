@@ -1,5 +1,6 @@
 // Preparing a buffer, and the exact check of a store.
 mod chains;
+mod ends;
 mod fresh;
 mod keys;
 mod layout;
@@ -7,12 +8,14 @@ mod marks;
 mod named;
 mod seek;
 
+use chains::Walked;
+use keys::Used;
 use model::Preparation;
 ghost use mathlib.Core.Bool.{_&&_};
 ghost use mathlib.Core.Path.{_≡_};
-ghost use Rattle.model.specs.Buffer.{Preparing, tuplesOf, sound, isStore};
+ghost use Rattle.model.specs.Buffer.{Preparing, tuplesOf, everyKey, sound, isStore};
 ghost use Rattle.verify.specs.Prepare.{afterPreparing};
-ghost use Rattle.verify.specs.Checks.{Walkable, chainsRight};
+ghost use Rattle.verify.specs.Checks.{Walkable, chainsRight, Sorted, supported, UsedFound};
 
 // Prepares the buffer as a store that holds UNIVERSE alone, and gives C; a length outside 10 to 12,297 words is refused (1).
 pub fn prepare(buffer: &mut [u32]) -> Preparation
@@ -32,20 +35,37 @@ pub fn prepare(buffer: &mut [u32]) -> Preparation
     Preparation::Capacity(c as u32)
 }
 
-// Are the chains and the tuples of the used chain right; the marks are local to one check.
+// Is all there that the tuples name, after the walk of the used chain.
+fn named_right(b: &[u32], marks: &[u16], list: &[u16], used: Used) -> bool
+    requires { ⌜ Sorted (now b) × UsedFound (now b) (now marks) (now list) used ⌝ }
+    ensures { λ r. ⌜ r ≡ everyKey (supported (tuplesOf (now (b .entry)))) (tuplesOf (now (b .entry))) ⌝ }
+{
+    if used.sure {
+        return ends::all_ends(b, marks, list, used.kept);
+    }
+    named::all_supported(b, marks)
+}
+
+// Are the chains and the tuples of the used chain right; marks and list are local to one check.
 fn records_right(b: &[u32]) -> bool
     requires { ⌜ Walkable (now b) ⌝ }
     ensures { λ r. ⌜ r ≡ (chainsRight (now (b .entry)) && sound (tuplesOf (now (b .entry)))) ⌝ }
 {
-    let mut marks: [u16; 4096] = [0; 4096];
-    let used = keys::walk_used(b, &mut marks);
+    let mut marks: [u16; 8192] = [0; 8192];
+    let mut list: [u16; 2048] = [0; 2048];
+    let used = keys::walk_used(b, &mut marks, &mut list);
     if !used.ended {
         return false;
     }
-    if !chains::chains_right(b, used) {
+    let walked = Walked {
+        ended: used.ended,
+        count: used.count,
+        last: used.last,
+    };
+    if !chains::chains_right(b, walked) {
         return false;
     }
-    named::all_supported(b, &marks)
+    named_right(b, &marks, &list, used)
 }
 
 // Is the buffer, of any length and with any words, a store.

@@ -9,7 +9,7 @@ ghost use lib.ListN.{length, getD, set};
 ghost use Rattle.model.specs.Keys.{edgeKey};
 ghost use Rattle.model.specs.Tuples.{present};
 ghost use Rattle.model.specs.Buffer.{tuplesOf};
-ghost use Rattle.verify.specs.Checks.{Sorted, Held, Marks, markCount, slotOf, withMark, withNamed};
+ghost use Rattle.verify.specs.Checks.{Walkable, Sorted, Held, Marks, MarksFit, markCount, slotOf, withMark, withNamed, isShown};
 
 // The place where the mark of a key is sought first.
 fn slot_of(k: Key) -> usize
@@ -19,7 +19,7 @@ fn slot_of(k: Key) -> usize
     let n = records::index_of(k.n);
     let g = records::index_of(k.g);
     let m = records::index_of(k.m);
-    (10475 * s + 18103 * n + 12499 * g + 931 * m) / 16 % 4096
+    (5003 * s + n + 3571 * g + 2741 * m) % 8192
 }
 
 // A mark as an index.
@@ -30,7 +30,7 @@ fn mark_index(w: u16) -> usize
 }
 
 // The record that a mark names; 0 for none.
-fn mark_at(marks: &[u16], at: usize) -> usize
+pub fn mark_at(marks: &[u16], at: usize) -> usize
     requires { ⌜ at < length (now marks) ⌝ }
     ensures { λ r. ⌜ r ≡ getD (now (marks .entry)) at 0 ⌝ }
 {
@@ -38,7 +38,7 @@ fn mark_at(marks: &[u16], at: usize) -> usize
 }
 
 // A mark that names record i.
-fn set_mark(marks: &mut [u16], at: usize, i: usize)
+pub fn set_mark(marks: &mut [u16], at: usize, i: usize)
     requires { ⌜ (at < length (now marks)) × (i ≤ 4096) ⌝ }
     ensures { λ _. ⌜ now (marks .exit) ≡ set (now (marks .entry)) at i ⌝ }
 {
@@ -57,7 +57,7 @@ fn put_mark(marks: &mut [u16], k: Key, i: usize)
             set_mark(marks, at, i);
             return;
         }
-        at = (at + 1) % 4096;
+        at = (at + 1021) % 8192;
         left -= 1;
     }
 }
@@ -76,10 +76,10 @@ pub fn mark_named(marks: &mut [u16], k: Key, i: usize)
     }
 }
 
-// Is a key in the used chain: the marks from its place on are looked at first.
-pub fn marked(b: &[u32], marks: &[u16], k: Key) -> bool
-    requires { ⌜ Sorted (now b) × Marks (now b) (now marks) ⌝ }
-    ensures { λ r. ⌜ r ≡ present k (tuplesOf (now (b .entry))) ⌝ }
+// Do the marks show a key: those from its place on, up to one that is 0.
+pub fn shown(b: &[u32], marks: &[u16], k: Key) -> bool
+    requires { ⌜ Walkable (now b) × MarksFit (now b) (now marks) ⌝ }
+    ensures { λ r. ⌜ r ≡ isShown (now (b .entry)) (now (marks .entry)) k ⌝ }
 {
     let mut at = slot_of(k);
     let mut left: usize = 64;
@@ -89,10 +89,21 @@ pub fn marked(b: &[u32], marks: &[u16], k: Key) -> bool
             return true;
         }
         if i == 0 {
-            break;
+            return false;
         }
-        at = (at + 1) % 4096;
+        at = (at + 1021) % 8192;
         left -= 1;
+    }
+    false
+}
+
+// Is a key in the used chain: the marks are looked at first.
+pub fn marked(b: &[u32], marks: &[u16], k: Key) -> bool
+    requires { ⌜ Sorted (now b) × Marks (now b) (now marks) ⌝ }
+    ensures { λ r. ⌜ r ≡ present k (tuplesOf (now (b .entry))) ⌝ }
+{
+    if shown(b, marks, k) {
+        return true;
     }
     holds_from(b, records::head_word(b, 1), k)
 }

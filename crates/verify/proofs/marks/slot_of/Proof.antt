@@ -21,20 +21,17 @@ index-of-requires-4 c κs = search needs
 mul-result : tie.Need-mul-result
 mul-result c = search needs
 
-mul-result-2 : tie.Need-mul-result-2
-mul-result-2 c = search needs
-
 add-result : tie.Need-add-result
 add-result c = search needs
 
-mul-result-3 : tie.Need-mul-result-3
-mul-result-3 c = search needs
+mul-result-2 : tie.Need-mul-result-2
+mul-result-2 c = search needs
 
 add-result-2 : tie.Need-add-result-2
 add-result-2 c = search needs
 
-mul-result-4 : tie.Need-mul-result-4
-mul-result-4 c = search needs
+mul-result-3 : tie.Need-mul-result-3
+mul-result-3 c = search needs
 
 add-result-3 : tie.Need-add-result-3
 add-result-3 c = search needs
@@ -51,10 +48,9 @@ slot-of-spec =
     index-of-requires-3
     index-of-requires-4
     mul-result
-    mul-result-2
     add-result
-    mul-result-3
+    mul-result-2
     add-result-2
-    mul-result-4
+    mul-result-3
     add-result-3
     returns)

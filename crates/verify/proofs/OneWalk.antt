@@ -1,0 +1,321 @@
+-- The used chain walked once: its keys are tested and marked, and second ends that the marks do not show are kept.
+use mathlib.Core.Bool.{Bool, true, false, cond, not, _&&_, and-false, and-true, false≢true}
+use mathlib.Core.List.{List, _∷_}
+use mathlib.Core.Logic.{_≢_}
+use mathlib.Core.Path.{_≡_, refl, sym, ap, ap₂, _∙_, subst}
+use Prim.Native.Nat.{ℕ, zero, suc, _+_, _-_, _≤_, _<_}
+use native.Mathlib.Omega.{arith}
+use lib.Dec.{eqb}
+use lib.ListN.{length, getD, set, length-set}
+use lib.Seq.{getD-set-same, getD-set-other}
+use borrow.Author.Tests.{eqb-true, eqb-false, eq-eqb, ne-eqb}
+use Rattle.model.specs.declared.Key.{Key}
+use Rattle.model.specs.Ordered.{isLess}
+use Rattle.model.specs.Keys.{Tuple, sameKey, spaceKey, nodeKey, compareKeys}
+use Rattle.model.specs.Tuples.{Tuples, present}
+use Rattle.model.specs.Buffer.{word, capacityOf, next, ends, usedChain, keyAt, tupleAt, tuplesOf, ascendsFromUniverse, everyRecord, everyKey, smallKey, noEdgeWithoutNode, edgeHasEnd, nodeSupported, edgeSupported}
+use Rattle.model.proofs.Bools.{and-left, and-right, and-both, not-yes}
+use Rattle.model.proofs.Tuples.{same-key}
+use Rattle.verify.specs.Checks.{Walkable, UsedEnds, UsedFound, Held, Marks, MarksFit, withNamed, walkedFrom, tuplesFrom, shapedKey, goodKey, keysRight, keyFollows, stoppedWalk, startsRight, usedWalk, supported, settled, endThere, endShown, everyEnd, Listed, keptCount}
+use Rattle.verify.specs.declared.chains.Walked.{Walked}
+use Rattle.verify.proofs.Capacity.{some-record, few-records}
+use Rattle.verify.proofs.Walks.{Walking, walking-start, walking-on, walking-end, walking-stop}
+use Rattle.verify.proofs.Rest.{AscendsLeft, ascends-empty, ascends-not-first, ascends-start, ascends-next, ascends-no, ascends-end, EveryLeft, every-start, every-next, every-no, every-end, every-held, tuples-next, tuples-none}
+use Rattle.verify.proofs.Hints.{named-marks, named-fit}
+use Rattle.verify.proofs.Shows.{marks-fit, Stands, Settled, settled-all, end-shown-there}
+
+-- ---- the used chain walked, its keys tested and marked
+
+-- what is known of keys and marks where the used chain ends
+pub record Keyed (b : List ℕ) (key : Key) (at : ℕ) (ms : List ℕ) : Type 0 where
+  pub ascends : AscendsLeft b key at
+  pub good : EveryLeft goodKey b at
+  pub marks : Marks b ms
+
+-- the answer of the walk
+module _ (b : List ℕ) where
+  pub not-ascending : false ≡ ascendsFromUniverse (tuplesOf b) → false ≡ keysRight (tuplesOf b)
+  unfolding keysRight
+  not-ascending e = ap (λ (a : Bool). a && everyKey goodKey (tuplesOf b)) e
+
+  pub not-good : false ≡ everyKey goodKey (tuplesOf b) → false ≡ keysRight (tuplesOf b)
+  unfolding keysRight
+  not-good e = sym (and-false (ascendsFromUniverse (tuplesOf b))) ∙ ap (λ (a : Bool). ascendsFromUniverse (tuplesOf b) && a) e
+
+  pub both-right : true ≡ ascendsFromUniverse (tuplesOf b) → true ≡ everyKey goodKey (tuplesOf b) → true ≡ keysRight (tuplesOf b)
+  unfolding keysRight
+  both-right e f = f ∙ ap (λ (a : Bool). a && everyKey goodKey (tuplesOf b)) e
+
+  -- the first key is good
+  pub first-good : (h n : ℕ) → UsedEnds b → h ≡ word b 1 → h ≢ 0 → n ≡ next b h → sameKey (keyAt b h) (spaceKey 0) ≡ true → EveryLeft goodKey b n
+  first-good h n U e h≢ f t =
+      every-next goodKey b h n (U .walkable) (every-start goodKey b h U e) h≢ f
+      (ap goodKey (same-key (keyAt b h) (spaceKey 0) t) ∙ (unfold goodKey smallKey shapedKey noEdgeWithoutNode edgeHasEnd in refl))
+
+module _ (b : List ℕ) (U : UsedEnds b) where
+  pub keyed-start : (h n : ℕ) → h ≡ word b 1 → h ≢ 0 → n ≡ next b h → (k : Key) → k ≡ keyAt b h → sameKey k (spaceKey 0) ≡ true
+      → (ms : List ℕ) → Marks b ms → Keyed b k n ms
+  keyed-start h n e h≢ f k g t ms M =
+      record {
+        ascends = ascends-start b U h n e h≢ f k g t;
+        good = first-good b h n U e h≢ f (ap (λ (j : Key). sameKey j (spaceKey 0)) (sym g) ∙ t);
+        marks = M;
+      }
+
+  pub keyed-next : (key : Key) (at : ℕ) (ms : List ℕ) → Keyed b key at ms → at ≢ 0 → (n : ℕ) → n ≡ next b at
+      → (k : Key) → k ≡ keyAt b at → isLess (compareKeys key k) ≡ true → goodKey k ≡ true
+      → (ms′ : List ℕ) → ms′ ≡ withNamed ms k at → Keyed b k n ms′
+  keyed-next key at ms K at≢ n e k g l t ms′ m =
+      record {
+        ascends = ascends-next b U key at n (K .ascends) at≢ e k g l;
+        good = every-next goodKey b at n (U .walkable) (K .good) at≢ e (ap goodKey (sym g) ∙ t);
+        marks = named-marks b ms k at ms′ m (K .marks) (every-held goodKey b at (U .walkable) (K .good));
+      }
+
+-- ---- records that are kept
+
+-- one record more, where its second end is not shown
+module _ (b : List ℕ) (list : List ℕ) (kept : ℕ) (L : Listed b list kept) (at : ℕ) (at≢ : at ≢ 0) (high : at ≤ capacityOf b) (room : kept < keptCount) where
+  kept-at : getD (set list kept at) kept 0 ≡ at
+  kept-at = let h : kept < length list = omega (arith, L .size) in getD-set-same list kept at 0 h
+
+  put-listed : Listed b (set list kept at) (suc kept)
+  put-listed = record { size = length-set list kept at ∙ L .size; few = omega arith; named = λ j h. go j (eqb j kept) refl h }
+    where
+      go : (j : ℕ) (t : Bool) → eqb j kept ≡ t → j < suc kept → (getD (set list kept at) j 0 ≢ 0) × (getD (set list kept at) j 0 ≤ capacityOf b)
+      go j true e h =
+          subst (λ (x : ℕ). (x ≢ 0) × (x ≤ capacityOf b)) (sym (ap (λ (x : ℕ). getD (set list kept at) x 0) (eqb-true j kept e) ∙ kept-at)) (at≢, high)
+      go j false e h =
+          let n : j ≢ kept = eqb-false j kept e in
+          let l : j < kept = omega arith in
+          subst (λ (x : ℕ). (x ≢ 0) × (x ≤ capacityOf b)) (sym (getD-set-other list kept j at 0 n)) (L .named j l)
+
+  pub keep-listed : (t : Bool) (list′ : List ℕ) (kept′ : ℕ) → list′ ≡ cond t list (set list kept at) → kept′ ≡ cond t kept (suc kept) → Listed b list′ kept′
+  keep-listed true list′ kept′ e f = subst (λ (x : ℕ). Listed b list′ x) (sym f) (subst (λ (xs : List ℕ). Listed b xs kept) (sym e) L)
+  keep-listed false list′ kept′ e f = subst (λ (x : ℕ). Listed b list′ x) (sym f) (subst (λ (xs : List ℕ). Listed b xs (suc kept)) (sym e) put-listed)
+
+-- the ends of the records before it are the same
+same-before : (b list : List ℕ) (kept at m : ℕ) → m ≤ kept
+    → everyRecord (λ (j : ℕ). endThere (tuplesOf b) (keyAt b (getD (set list kept at) (j - 1) 0))) m
+    ≡ everyRecord (λ (j : ℕ). endThere (tuplesOf b) (keyAt b (getD list (j - 1) 0))) m
+unfolding everyRecord
+same-before b list kept at zero h = refl
+same-before b list kept at (suc m) h =
+    let n : suc m - 1 ≢ kept = λ z. omega arith in
+    ap₂ (λ (x : ℕ) (y : Bool). endThere (tuplesOf b) (keyAt b x) && y) (getD-set-other list kept (suc m - 1) at 0 n)
+    (same-before b list kept at m (omega arith))
+
+one-end-more : (b list : List ℕ) (kept at : ℕ) → kept < length list → everyEnd b (set list kept at) (suc kept) ≡ (endThere (tuplesOf b) (keyAt b at) && everyEnd b list kept)
+unfolding everyEnd everyRecord
+one-end-more b list kept at h =
+    let z : suc kept - 1 ≡ kept = omega arith in
+    ap₂ (λ (x : ℕ) (y : Bool). endThere (tuplesOf b) (keyAt b x) && y)
+    (ap (λ (x : ℕ). getD (set list kept at) x 0) z ∙ getD-set-same list kept at 0 h) (same-before b list kept at kept (omega arith))
+
+-- ---- what is left to decide
+
+-- at a record, where all before it is settled: the second ends that are kept, and the records from there on
+pub record Open (b list : List ℕ) (key : Key) (at kept : ℕ) : Type 0 where
+  pub stands : Stands (tuplesOf b) key
+  pub left : everyKey (supported (tuplesOf b)) (tuplesOf b) ≡ (everyEnd b list kept && everyKey (supported (tuplesOf b)) (tuplesFrom b at))
+
+every-tuple : (p : Key → Bool) (b : List ℕ) (i : ℕ) (ts : List Tuple) → everyKey p (tupleAt b i ∷ ts) ≡ (p (keyAt b i) && everyKey p ts)
+unfolding everyKey tupleAt
+every-tuple p b i ts = refl
+
+module _ (b : List ℕ) (U : UsedEnds b) where
+  pub open-start : (h n : ℕ) → h ≡ word b 1 → h ≢ 0 → n ≡ next b h → (k : Key) → k ≡ keyAt b h → sameKey k (spaceKey 0) ≡ true → (list : List ℕ) → Open b list k n 0
+  unfolding everyEnd everyRecord supported nodeSupported edgeSupported
+  open-start h n e h≢ f k g t list =
+      let z : k ≡ spaceKey 0 = same-key k (spaceKey 0) t in
+      let H : Held b h = every-held (supported (tuplesOf b)) b h (U .walkable) (every-start (supported (tuplesOf b)) b h U e) in
+      let own : present (spaceKey 0) (tuplesOf b) ≡ true = ap (λ (x : Key). present x (tuplesOf b)) (sym z ∙ g) ∙ H .has h≢ in
+      let yes′ : supported (tuplesOf b) (keyAt b h) ≡ true = ap (supported (tuplesOf b)) (sym g ∙ z) in
+      let E : EveryLeft (supported (tuplesOf b)) b n = every-next (supported (tuplesOf b)) b h n (U .walkable) (every-start (supported (tuplesOf b)) b h U e) h≢ f yes′ in
+      record { stands = subst (Stands (tuplesOf b)) (sym z) (record { space = own; node = own }); left = E .left }
+
+  pub open-next : (list : List ℕ) (key : Key) (at kept : ℕ) (ms : List ℕ) → Open b list key at kept → Keyed b key at ms → at ≢ 0 → (n : ℕ) → n ≡ next b at
+      → (k : Key) → k ≡ keyAt b at → goodKey k ≡ true → settled b ms key k ≡ true → kept < length list
+      → (list′ : List ℕ) (kept′ : ℕ) → list′ ≡ cond (endShown b ms k) list (set list kept at) → kept′ ≡ cond (endShown b ms k) kept (suc kept) → Open b list′ k n kept′
+  open-next list key at kept ms O K at≢ n e k g good t room list′ kept′ f h =
+      record { stands = S .stands; left = start ∙ go (endShown b ms k) refl (endThere (tuplesOf b) k) refl f h }
+    where
+      own : present k (tuplesOf b) ≡ true
+      own = ap (λ (x : Key). present x (tuplesOf b)) g ∙ every-held goodKey b at (U .walkable) (K .good) .has at≢
+
+      S : Settled (tuplesOf b) k
+      S = settled-all b ms key k (K .marks) (O .stands) own good t
+
+      start : everyKey (supported (tuplesOf b)) (tuplesOf b) ≡ (everyEnd b list kept && (endThere (tuplesOf b) k && everyKey (supported (tuplesOf b)) (tuplesFrom b n)))
+      start =
+          O .left
+          ∙ ap (λ (x : Bool). everyEnd b list kept && x)
+          (ap (everyKey (supported (tuplesOf b))) (tuples-next b at n (U .walkable) (K .good .on) at≢ e)
+          ∙ every-tuple (supported (tuplesOf b)) b at (tuplesFrom b n)
+          ∙ ap (λ (x : Bool). x && everyKey (supported (tuplesOf b)) (tuplesFrom b n)) (ap (supported (tuplesOf b)) (sym g) ∙ S .end))
+
+      swap : (x y z : Bool) → (x && (y && z)) ≡ ((y && x) && z)
+      swap true true z = refl
+      swap true false z = refl
+      swap false true z = refl
+      swap false false z = refl
+
+      go : (s : Bool) → endShown b ms k ≡ s → (d : Bool) → endThere (tuplesOf b) k ≡ d
+          → list′ ≡ cond s list (set list kept at) → kept′ ≡ cond s kept (suc kept)
+          → (everyEnd b list kept && (endThere (tuplesOf b) k && everyKey (supported (tuplesOf b)) (tuplesFrom b n)))
+          ≡ (everyEnd b list′ kept′ && everyKey (supported (tuplesOf b)) (tuplesFrom b n))
+      go true a d c p q =
+          ap (λ (x : Bool). everyEnd b list kept && (x && everyKey (supported (tuplesOf b)) (tuplesFrom b n))) (end-shown-there b ms k (K .marks) a)
+          ∙ ap₂ (λ (xs : List ℕ) (x : ℕ). everyEnd b xs x && everyKey (supported (tuplesOf b)) (tuplesFrom b n)) (sym p) (sym q)
+      go false a d c p q =
+          swap (everyEnd b list kept) (endThere (tuplesOf b) k) (everyKey (supported (tuplesOf b)) (tuplesFrom b n))
+          ∙ ap (λ (x : Bool). x && everyKey (supported (tuplesOf b)) (tuplesFrom b n))
+          (ap (λ (x : Key). endThere (tuplesOf b) x && everyEnd b list kept) g ∙ sym (one-end-more b list kept at room)
+          ∙ ap₂ (λ (xs : List ℕ) (x : ℕ). everyEnd b xs x) (sym p) (sym q))
+
+-- ---- the walk
+
+-- what is left of the walk
+pub record Using (b ms list : List ℕ) (key : Key) (sure : Bool) (kept left last at : ℕ) : Type 0 where
+  pub walking : Walking b (word b 1) left at last
+  pub fit : MarksFit b ms
+  pub listed : Listed b list kept
+  pub room : kept + left < capacityOf b
+  pub keyed : ends (usedChain b) ≡ true → Keyed b key at ms
+  pub undecided : ends (usedChain b) ≡ true → sure ≡ true → Open b list key at kept
+
+module _ (b : List ℕ) where
+  pub starts-none : (h : ℕ) → h ≡ word b 1 → h ≡ 0 → false ≡ startsRight b
+  unfolding startsRight
+  starts-none h e z = simp (eq-eqb (word b 1) 0 (sym e ∙ z))
+
+  pub starts-some : (h : ℕ) → h ≡ word b 1 → h ≢ 0 → (k u : Key) → k ≡ keyAt b h → u ≡ nodeKey 0 0 → (r : Bool) → r ≡ sameKey k u → r ≡ startsRight b
+  unfolding startsRight
+  starts-some h e h≢ k u f g r t =
+      let n : word b 1 ≢ 0 = λ z. h≢ (e ∙ z) in
+      t ∙ ap₂ sameKey (f ∙ ap (keyAt b) e) g ∙ simp (ne-eqb (word b 1) 0 n)
+
+  module _ (r : Bool) (e : r ≡ startsRight b) (y : r ≡ true) where
+    yes-starts : (not (eqb (word b 1) 0) && sameKey (keyAt b (word b 1)) (spaceKey 0)) ≡ true
+    unfolding startsRight
+    yes-starts = sym e ∙ y
+
+    pub head-some : (h : ℕ) → h ≡ word b 1 → h ≢ 0
+    head-some h f = λ z. eqb-false (word b 1) 0 (not-yes (eqb (word b 1) 0) (and-left (not (eqb (word b 1) 0)) _ yes-starts)) (sym f ∙ z)
+
+    pub head-key : (h : ℕ) → h ≡ word b 1 → sameKey (keyAt b h) (spaceKey 0) ≡ true
+    head-key h f = ap (λ (i : ℕ). sameKey (keyAt b i) (spaceKey 0)) f ∙ and-right (not (eqb (word b 1) 0)) _ yes-starts
+
+module _ (b : List ℕ) (w : Walkable b) where
+  used-ends : ends (usedChain b) ≡ true → UsedEnds b
+  used-ends e = record { walkable = w; ended = e }
+
+  -- given up: the chain does not end, or its keys are not right
+  pub given-up : (ends (usedChain b) ≡ true → false ≡ keysRight (tuplesOf b)) → stoppedWalk ≡ usedWalk b
+  unfolding usedWalk
+  given-up h = sym (ap (λ (t : Bool). cond t (walkedFrom b (word b 1)) stoppedWalk) (go (ends (usedChain b)) refl))
+    where
+      go : (e : Bool) → ends (usedChain b) ≡ e → (e && keysRight (tuplesOf b)) ≡ false
+      go true f = sym (h f)
+      go false f = refl
+
+  pub not-started : (r : Bool) → r ≡ startsRight b → r ≡ false → stoppedWalk ≡ usedWalk b
+  unfolding startsRight
+  not-started r e f = go (eqb (word b 1) 0) refl (sym e ∙ f)
+    where
+      go : (z : Bool) → eqb (word b 1) 0 ≡ z → (not z && sameKey (keyAt b (word b 1)) (spaceKey 0)) ≡ false → stoppedWalk ≡ usedWalk b
+      go true z t = given-up (λ u. not-ascending b (ascends-empty b (used-ends u) (word b 1) refl (eqb-true (word b 1) 0 z)))
+      go false z t =
+          given-up (λ u. not-ascending b (ascends-not-first b (used-ends u) (word b 1) refl (eqb-false (word b 1) 0 z) (keyAt b (word b 1)) refl t))
+
+  pub using-start : (r : Bool) → r ≡ startsRight b → r ≡ true → (h : ℕ) → h ≡ word b 1 → (k : Key) → k ≡ nodeKey 0 0
+      → (C n : ℕ) → C ≡ capacityOf b → n ≡ next b h → (ms : List ℕ) → Marks b ms → (list : List ℕ) → length list ≡ keptCount
+      → Using b ms list k true 0 (C - 1) h n
+  using-start r s y h e k g C n d f ms M list size =
+      let high : word b 1 ≤ capacityOf b = w .usedHead in
+      let h≢ : h ≢ 0 = head-some b r s y h e in
+      let t : sameKey (keyAt b h) (spaceKey 0) ≡ true = head-key b r s y h e in
+      let same : k ≡ keyAt b h = g ∙ sym (same-key (keyAt b h) (spaceKey 0) t) in
+      let t′ : sameKey k (spaceKey 0) ≡ true = ap (λ (x : Key). sameKey x (spaceKey 0)) same ∙ t in
+      record {
+        walking =
+            subst (λ (i : ℕ). Walking b i (C - 1) n h) e
+            (walking-on b h C h 0 n w (walking-start b h C d (omega arith)) h≢ (λ z. omega (arith, some-record b (w .least) (w .most))) f);
+        fit = marks-fit b ms M;
+        listed = record { size = size; few = omega arith; named = λ j l. absurd (omega arith) };
+        room = omega (arith, some-record b (w .least) (w .most));
+        keyed = λ u. keyed-start b (used-ends u) h n e h≢ f k same t′ ms M;
+        undecided = λ u v. open-start b (used-ends u) h n e h≢ f k same t′ list;
+      }
+
+  module _ (ms list : List ℕ) (key : Key) (sure : Bool) (kept left last at : ℕ) (W : Using b ms list key sure kept left last at) where
+    -- a record of the walk is one of 2,048 at most
+    pub using-low : at ≤ 4096
+    using-low = omega (arith, W .walking .high, few-records b (w .least) (w .most))
+
+    pub using-room : left ≢ 0 → kept < keptCount
+    using-room h = omega (arith, W .room, few-records b (w .least) (w .most))
+
+    ended : at ≡ 0 → ends (usedChain b) ≡ true
+    unfolding walkedFrom usedChain
+    ended z = sym (ap (λ (x : Walked). x .ended) (walking-end b (word b 1) left at last (W .walking) z))
+
+    pub using-end : at ≡ 0 → record { ended = true; count = capacityOf b - left; last = last } ≡ usedWalk b
+    unfolding usedWalk
+    using-end z =
+        let u = ended z in
+        let K = W .keyed u in
+        let k : true ≡ keysRight (tuplesOf b)
+        = both-right b (ascends-end b (used-ends u) key at (K .ascends) z) (every-end goodKey b at (K .good) z) in
+        walking-end b (word b 1) left at last (W .walking) z
+        ∙ sym (ap (λ (t : Bool). cond t (walkedFrom b (word b 1)) stoppedWalk) (and-both (ends (usedChain b)) _ u (sym k)))
+
+    pub using-found : at ≡ 0 → (count : ℕ) → UsedFound b ms list (record { ended = true; count = count; last = last; sure = sure; kept = kept })
+    unfolding everyKey
+    using-found z count =
+        let u = ended z in
+        record {
+          shows = W .keyed u .marks;
+          listed = W .listed;
+          decided = λ y. W .undecided u y .left ∙ ap (λ (ts : Tuples). everyEnd b list kept && everyKey (supported (tuplesOf b)) ts) (tuples-none b at z) ∙ and-true (everyEnd b list kept);
+        }
+
+    module _ (at≢ : at ≢ 0) where
+      pub using-stop : left ≡ 0 → stoppedWalk ≡ usedWalk b
+      using-stop z =
+          given-up
+          (λ u. absurd (false≢true (unfold walkedFrom usedChain in ap (λ (x : Walked). x .ended) (walking-stop b (word b 1) left at last (W .walking) at≢ z) ∙ u)))
+
+      module _ (k : Key) (g : k ≡ keyAt b at) where
+        pub using-no : keyFollows key k ≡ false → stoppedWalk ≡ usedWalk b
+        unfolding keyFollows
+        using-no t = given-up (λ u. go (W .keyed u) (used-ends u) (isLess (compareKeys key k)) refl t)
+          where
+            go : Keyed b key at ms → UsedEnds b → (l : Bool) → isLess (compareKeys key k) ≡ l → (l && goodKey k) ≡ false → false ≡ keysRight (tuplesOf b)
+            go K U false e h = not-ascending b (ascends-no b U key at (K .ascends) at≢ k g e)
+            go K U true e h = not-good b (every-no goodKey b at w (K .good) at≢ (ap goodKey (sym g) ∙ h))
+
+        pub using-next : keyFollows key k ≡ true → left ≢ 0 → (sure′ : Bool) → sure′ ≡ (sure && settled b ms key k)
+            → (kept′ : ℕ) → kept′ ≡ cond (endShown b ms k) kept (suc kept) → (list′ : List ℕ) → list′ ≡ cond (endShown b ms k) list (set list kept at)
+            → (ms′ : List ℕ) → ms′ ≡ withNamed ms k at → (n : ℕ) → n ≡ next b at → Using b ms′ list′ k sure′ kept′ (left - 1) at n
+        unfolding keyFollows
+        using-next t left≢ sure′ y kept′ p list′ q ms′ m n f =
+            let good : goodKey k ≡ true = and-right (isLess (compareKeys key k)) _ t in
+            let room : kept < keptCount = using-room left≢ in
+            record {
+              walking = walking-on b (word b 1) left at last n w (W .walking) at≢ left≢ f;
+              fit = named-fit b ms k at ms′ m (W .fit) (W .walking .high);
+              listed = keep-listed b list kept (W .listed) at at≢ (W .walking .high) room (endShown b ms k) list′ kept′ q p;
+              room = more (endShown b ms k) p;
+              keyed =
+                  λ u. keyed-next b (used-ends u) key at ms (W .keyed u) at≢ n f k g (and-left (isLess (compareKeys key k)) _ t) good ms′ m;
+              undecided =
+                  λ u v.
+                  let both : (sure && settled b ms key k) ≡ true = sym y ∙ v in
+                  open-next b (used-ends u) list key at kept ms (W .undecided u (and-left sure _ both)) (W .keyed u) at≢ n f k g good
+                  (and-right sure _ both) (omega (arith, W .listed .size)) list′ kept′ q p;
+            }
+          where
+            more : (s : Bool) → kept′ ≡ cond s kept (suc kept) → kept′ + (left - 1) < capacityOf b
+            more true e = omega (arith, W .room)
+            more false e = omega (arith, W .room)
