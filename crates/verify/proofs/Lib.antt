@@ -6,6 +6,7 @@ pub mod Walks
 pub mod Rest
 pub mod KeyTests
 pub mod Support
+pub mod EdgeEnds
 pub mod Hints
 pub mod Parts
 pub mod Shows

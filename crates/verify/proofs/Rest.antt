@@ -91,7 +91,7 @@ tuples-none b at e =
     ∙ ap (λ (r : Option (List ℕ)). map (tupleAt b) (orNothing r)) (walk-none (next b) (capacityOf b))
 
 -- is a key there, at one tuple and after it
-present-cons : (k : Key) (b : List ℕ) (i : ℕ) (ts : Tuples) → present k (tupleAt b i ∷ ts) ≡ (sameKey k (keyAt b i) || present k ts)
+pub present-cons : (k : Key) (b : List ℕ) (i : ℕ) (ts : Tuples) → present k (tupleAt b i ∷ ts) ≡ (sameKey k (keyAt b i) || present k ts)
 unfolding holds tupleAt
 present-cons k b i ts = refl
 

@@ -150,9 +150,21 @@ pub record Sorted (b : List ℕ) : Type 0 where
 unfoldable pub supported : Tuples → Key → Bool
 supported ts k = nodeSupported ts k && edgeSupported ts k
 
--- the record where a name is 0, else the last such record
-unfoldable pub orLast : ℕ → ℕ → ℕ → ℕ
-orLast name at last = cond (eqb name 0) at last
+-- "each edge tuple has .. its tuple in 0"
+unfoldable pub edgeInUniverse : Tuples → Key → Bool
+edgeInUniverse ts k = not (isEdge k) || present (edgeKey 0 (k .n) (k .g) (k .m)) ts
+
+-- all that a tuple names but the ends of an edge
+unfoldable pub namedPresent : Tuples → Key → Bool
+namedPresent ts k = nodeSupported ts k && edgeInUniverse ts k
+
+-- "each edge tuple has its two node tuples in s"
+unfoldable pub endsPresent : Tuples → Key → Bool
+endsPresent ts k = not (isEdge k) || (present (nodeKey (k .s) (k .n)) ts && present (nodeKey (k .s) (k .m)) ts)
+
+-- the first record of the space of record i, where `first` is that of the record before it
+unfoldable pub spaceStart : List ℕ → ℕ → ℕ → ℕ
+spaceStart b first i = cond (eqb (keyAt b first .s) (keyAt b i .s)) first i
 
 -- ---- marks: for a key that tuples may name, a record that has it
 

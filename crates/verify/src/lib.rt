@@ -1,5 +1,6 @@
 // Preparing a buffer, and the exact check of a store.
 mod chains;
+mod edge_ends;
 mod ends;
 mod fresh;
 mod keys;
@@ -36,14 +37,20 @@ pub fn prepare(buffer: &mut [u32]) -> Preparation
 }
 
 // Is all there that the tuples name, after the walk of the used chain.
+// What the walk found can only say yes; where it does not, the whole chain is searched again, and the first edge tuple without both ends ends the check.
 fn named_right(b: &[u32], marks: &[u16], list: &[u16], used: Used) -> bool
     requires { ⌜ Sorted (now b) × UsedFound (now b) (now marks) (now list) used ⌝ }
     ensures { λ r. ⌜ r ≡ everyKey (supported (tuplesOf (now (b .entry)))) (tuplesOf (now (b .entry))) ⌝ }
 {
     if used.sure {
-        return ends::all_ends(b, marks, list, used.kept);
+        if ends::all_ends(b, marks, list, used.kept) {
+            return true;
+        }
     }
-    named::all_supported(b, marks)
+    if !named::all_named(b) {
+        return false;
+    }
+    edge_ends::edges_ended(b)
 }
 
 // Are the chains and the tuples of the used chain right; marks and list are local to one check.

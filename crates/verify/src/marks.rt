@@ -6,10 +6,9 @@ use model::Key;
 ghost use mathlib.Core.Path.{_≡_};
 ghost use Prim.Native.Nat.{_≤_, _<_};
 ghost use lib.ListN.{length, getD, set};
-ghost use Rattle.model.specs.Keys.{edgeKey};
 ghost use Rattle.model.specs.Tuples.{present};
 ghost use Rattle.model.specs.Buffer.{tuplesOf};
-ghost use Rattle.verify.specs.Checks.{Walkable, Sorted, Held, Marks, MarksFit, markCount, slotOf, withMark, withNamed, isShown};
+ghost use Rattle.verify.specs.Checks.{Walkable, Sorted, Marks, MarksFit, markCount, slotOf, withMark, withNamed, isShown};
 
 // The place where the mark of a key is sought first.
 fn slot_of(k: Key) -> usize
@@ -106,15 +105,4 @@ pub fn marked(b: &[u32], marks: &[u16], k: Key) -> bool
         return true;
     }
     holds_from(b, records::head_word(b, 1), k)
-}
-
-// Is the key (s,n,g,m) in the used chain: a record that may have it is looked at first, then the marks.
-pub fn known(b: &[u32], marks: &[u16], hint: usize, s: u32, n: u32, g: u32, m: u32) -> bool
-    requires { ⌜ Sorted (now b) × Marks (now b) (now marks) × Held (now b) hint ⌝ }
-    ensures { λ r. ⌜ r ≡ present (edgeKey s n g m) (tuplesOf (now (b .entry))) ⌝ }
-{
-    if is_at(b, hint, Key { s, n, g, m }) {
-        return true;
-    }
-    marked(b, marks, Key { s, n, g, m })
 }
