@@ -18,10 +18,10 @@ use Rattle.model.specs.declared.Removal.{Removal}
 use Rattle.model.specs.Operators.{operatorOf, readsOf}
 use Rattle.model.specs.Tuples.{Tuples, missing}
 use Rattle.model.specs.Buffer.{capacityOf, tuplesOf, isStore}
-use Rattle.model.specs.Steps.{wouldList, wouldAdd, created}
-use Rattle.model.specs.Refusals.{noOperator, zeroName, destroysUniverse, listShort, full, refusalOf}
+use Rattle.model.specs.Steps.{wouldList, wouldAdd}
+use Rattle.model.specs.Refusals.{zeroName, destroysUniverse, listShort, full, refusalOf}
 use Rattle.model.specs.Machine.{FieldsFit, outcomeOf, machine}
-use Rattle.model.specs.OneCall.{answerOf, listAfter, OnNoStore, OnStore, OneCall}
+use Rattle.model.specs.OneCall.{answerOf, listAfter, OnStore, OneCall}
 use Rattle.model.proofs.Bools.{and-left, and-right}
 use Rattle.model.proofs.Steps.{Passed, passed, agrees, agree, n-named, g-named, m-named, s-named, after-rules}
 use Rattle.model.proofs.Refusals.{stopped}

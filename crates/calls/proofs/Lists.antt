@@ -2,7 +2,7 @@
 -- It rests on what a caller of these functions learns from their own contracts (`Learnt`), so a weaker contract breaks it.
 use mathlib.Core.Bool.{Bool, true, false}
 use mathlib.Core.List.{List, [], _∷_}
-use mathlib.Core.Path.{_≡_, refl, sym, _∙_}
+use mathlib.Core.Path.{_≡_, refl}
 use Prim.Native.Nat.{ℕ, _≤_}
 use native.Mathlib.Omega.{arith}
 use lib.Dec.{leb}
@@ -12,7 +12,7 @@ use contract.Lifetimes.{Lfts}
 use borrow.Fn.Kinds.{Dens, resT, endedOf}
 use denote.Triple.Clauses.{AtExit}
 use Rattle.model.specs.declared.Preparation.{Preparation}
-use Rattle.model.specs.declared.Preparation.the-variants.{Refused, Capacity}
+use Rattle.model.specs.declared.Preparation.the-variants.{Capacity}
 use Rattle.model.specs.Tuples.{fresh}
 use Rattle.model.specs.Buffer.{fitsLength, capacityOf, Prepared, Preparing}
 use Rattle.model.specs.CallLists.{CallMade, Trace, end, then, WholeList}

@@ -29,6 +29,16 @@ abbrev pub lastOf : ℕ → List ℕ → ℕ
 lastOf last [] = last
 lastOf last (i ∷ is) = lastOf i is
 
+-- a list that is not empty ends with its last
+pub snoc : (is : List ℕ) → is ≢ [] → (last : ℕ) → (init : List ℕ) × (is ≡ init ++ (lastOf last is ∷ []))
+snoc [] h last = absurd (h refl)
+snoc (i ∷ []) h last = ([], refl)
+snoc (i ∷ j ∷ js) h last =
+    let r = snoc (j ∷ js) (λ e. absurd (cons≢ e)) i in (i ∷ r .0, ap (λ (ys : List ℕ). i ∷ ys) (r .1))
+  where
+    cons≢ : {x : ℕ} {xs : List ℕ} → x ∷ xs ≡ [] → ⊥
+    cons≢ {x} {xs} e = let z : _≡_ {A = ℕ} 0 1 = cc in omega arith
+
 -- the first of some records, or 0
 abbrev pub headOf : List ℕ → ℕ
 headOf [] = 0

@@ -1,17 +1,17 @@
 -- A search that starts behind a used record whose key is below finds the same place as one from the first record.
-use mathlib.Core.Bool.{Bool, true, false, cond, false≢true}
+use mathlib.Core.Bool.{Bool, true, false, cond}
 use mathlib.Core.List.{List, [], _∷_, _++_, map, append-assoc}
 use mathlib.Core.Logic.{_≢_}
 use mathlib.Core.Path.{_≡_, refl, sym, ap, _∙_, subst}
-use Prim.Native.Nat.{ℕ, _+_, _≤_, Ordering, Ordering·lt}
+use Prim.Native.Nat.{ℕ, Ordering, Ordering·lt}
 use native.Mathlib.Omega.{arith}
 use lib.Dec.{eqb}
 use lib.ListN.{length, length-append}
-use borrow.Author.Tests.{eq-eqb, ne-eqb, eqb-true, eqb-false}
+use borrow.Author.Tests.{eq-eqb, ne-eqb, eqb-false}
 use Rattle.model.specs.declared.Key.{Key}
 use Rattle.model.specs.Ordered.{isLess, Above, Ascending}
-use Rattle.model.specs.Keys.{Tuple, keyOf, compareKeys}
-use Rattle.model.specs.Buffer.{word, capacityOf, next, keyAt, tupleAt, usedOf, freeOf, tuplesOf}
+use Rattle.model.specs.Keys.{keyOf, compareKeys}
+use Rattle.model.specs.Buffer.{word, capacityOf, next, keyAt, tupleAt, usedOf, tuplesOf}
 use Rattle.model.specs.Rules.{Chain}
 use Rattle.model.proofs.Order.{keys}
 use Rattle.model.proofs.Chains.{Within}
@@ -22,7 +22,7 @@ use Rattle.chain.specs.Links.{Linked, Reached, Hint, startOf, afterIn, p
 use Rattle.chain.proofs.Walks.{Rest, used-rest}
 use Rattle.chain.proofs.Paths.{chain-split, within-right}
 use Rattle.chain.proofs.Places.{Seeking, seek-start}
-use Rattle.chain.proofs.Found.{is-less, lastOf, AtPlace, at-place}
+use Rattle.chain.proofs.Found.{is-less, lastOf, snoc, at-place}
 
 pub no-hint : (b : List ℕ) → Hint b 0
 no-hint b h = absurd (h refl)
@@ -146,23 +146,16 @@ module _ (b : List ℕ) where
 
   -- ---- the record before a key's place is a hint
 
-  last-split : (i : ℕ) (is : List ℕ) → (js : List ℕ) × ((i ∷ is) ≡ js ++ (lastOf i is ∷ []))
-  last-split i [] = ([], refl)
-  last-split i (x ∷ is) = let r = last-split x is in (i ∷ r .0, ap (λ (js : List ℕ). i ∷ js) (r .1))
-
   pub place-hint : (k : Key) (p : Place) → Linked b → p ≡ placeIn (keyAt b) k 0 (usedOf b) → Hint b (p .before)
-  place-hint k p L e = let A = at-place b k p L e in go (A .pre) (A .post) (A .split) (A .last)
-    where
-      go : (is js : List ℕ) → usedOf b ≡ is ++ js → p .before ≡ lastOf 0 is → Hint b (p .before)
-      go [] js split last = subst (Hint b) (sym last) (no-hint b)
-      go (x ∷ is) js split last =
-          let r = last-split x is in
-          λ h. record {
-            before = r .0;
-            after = js;
-            split =
-                split
-                ∙ ap (λ (ks : List ℕ). ks ++ js) (r .1)
-                ∙ append-assoc (r .0) (lastOf x is ∷ []) js
-                ∙ ap (λ (l : ℕ). r .0 ++ (l ∷ js)) (sym last);
-          }
+  place-hint k p L e h =
+      let A = at-place b k p L e in
+      let s = snoc (A .pre) (λ z. h (A .last ∙ ap (lastOf 0) z)) 0 in
+      record {
+        before = s .0;
+        after = A .post;
+        split =
+            A .split
+            ∙ ap (λ (is : List ℕ). is ++ A .post) (s .1)
+            ∙ append-assoc (s .0) (lastOf 0 (A .pre) ∷ []) (A .post)
+            ∙ ap (λ (i : ℕ). s .0 ++ (i ∷ A .post)) (sym (A .last));
+      }

@@ -9,16 +9,14 @@ use Rattle.model.specs.declared.Call.{Call}
 use Rattle.model.specs.declared.Direction.{Direction}
 use Rattle.model.specs.declared.Listing.{Listing}
 use Rattle.model.specs.declared.Pair.{Pair}
-use Rattle.model.specs.Ordered.{holds}
-use Rattle.model.specs.Pairs.{edgeOf, nodeOf, member, pairsOf, nodeNames, withEdge}
+use Rattle.model.specs.Pairs.{edgeOf, nodeOf, pairsOf, nodeNames, withEdge}
 use Rattle.model.specs.OneCall.{nameCount, pack}
 use Rattle.model.specs.Tuples.{Tuples, remove}
 use Rattle.model.specs.Buffer.{tuplesOf}
 use Rattle.model.specs.Rules.{TupleRules}
 use Rattle.model.specs.Steps.{nOf, gOf, sOf, nodeTaken, removeNodes, listed}
-use Rattle.model.proofs.Bools.{or-left, or-right}
-use Rattle.model.proofs.Entries.{Member, samePair, own-pair, pairs-sound, nodes-sound, only-sound}
-use Rattle.model.proofs.Steps.{pair-named}
+use Rattle.model.proofs.Entries.{Member, pairs-sound, nodes-sound, only-sound}
+use Rattle.model.proofs.Steps.{every-member, pair-named}
 use Rattle.chain.specs.Links.{Linked, Edited}
 use Rattle.edit.proofs.Built.{unedited}
 use Rattle.list.specs.Queries.{Readable, written}
@@ -28,7 +26,7 @@ use Rattle.operate.specs.Operate.{fieldsOf}
 use Rattle.operate.proofs.Named.{edited-twice}
 use Rattle.listing.specs.Lists.{queryOf, NamesAsked}
 use Rattle.listing.proofs.Asked.{asked-listed}
-use Rattle.collect.specs.Collected.{removeEach, NamedBelow, NodesListed}
+use Rattle.collect.specs.Collected.{removeEach, NamedBelow, NodeEntry, NodesListed}
 
 -- one more word of a list
 take-next : (i : ℕ) (ns : List ℕ) → i < length ns → take (suc i) ns ≡ take i ns ++ (getD ns i 0 ∷ [])
@@ -120,15 +118,9 @@ listed-most {b} l c R asked = subst (λ (ps : List Pair). length ps ≤ 4096) (a
 
 -- ---- the nodes of pairs
 
-every-node : (ps : List Pair) → ((q : Pair) → Member q ps → (edgeOf q ≡ 0) × (nodeOf q ≢ 0)) → NodesListed ps
-unfolding holds
-every-node [] h = tt
-every-node (p ∷ ps) h =
-    (h p (or-left (samePair p p) (member p ps) (own-pair p)), every-node ps (λ q e. h q (or-right (samePair q p) (member q ps) e)))
-
 names-listed : (ps : List Pair) → ((p : Pair) → Member p ps → nodeOf p ≢ 0) → NodesListed (nodeNames ps)
 names-listed ps h =
-    every-node (nodeNames ps)
+    every-member NodeEntry (nodeNames ps)
     (λ q e.
     let r = nodes-sound ps q e in (ap edgeOf (r .2), subst (λ (p : Pair). nodeOf p ≢ 0) (sym (r .2)) (h (r .0) (r .1))))
 

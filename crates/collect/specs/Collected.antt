@@ -8,6 +8,7 @@ use Rattle.model.specs.declared.Pair.{Pair}
 use Rattle.model.specs.Pairs.{edgeOf, nodeOf}
 use Rattle.model.specs.Tuples.{Tuples, remove}
 use Rattle.model.specs.Steps.{nodeTaken}
+use Rattle.model.proofs.Taken.{EveryPair}
 
 -- "each is removed as by DUN" (`removeNodes`, of words)
 unfoldable pub removeEach : ℕ → List ℕ → Tuples → Tuples
@@ -18,7 +19,10 @@ removeEach s (n ∷ ns) ts = removeEach s ns (remove (nodeTaken s n) ts)
 abbrev pub NamedBelow : List ℕ → ℕ → Type 0
 NamedBelow ns count = (i : ℕ) → i < count → getD ns i 0 ≢ 0
 
--- a list of nodes: each entry has edge 0 and the name of a node
+-- an entry for a node: edge 0 and the name of a node
+abbrev pub NodeEntry : Pair → Type 0
+NodeEntry p = (edgeOf p ≡ 0) × (nodeOf p ≢ 0)
+
+-- a list of nodes
 abbrev pub NodesListed : List Pair → Type 0
-NodesListed [] = Unit {0}
-NodesListed (p ∷ ps) = ((edgeOf p ≡ 0) × (nodeOf p ≢ 0)) × NodesListed ps
+NodesListed ps = EveryPair NodeEntry ps

@@ -13,7 +13,6 @@ use Rattle.model.specs.Keys.{nodeKey}
 use Rattle.model.specs.Operators.{within, readsOf}
 use Rattle.model.specs.Steps.{nOf, mOf, sOf}
 use Rattle.model.specs.Buffer.{keyAt, usedOf}
-use Rattle.model.proofs.Bools.{not-yes, not-no}
 use Rattle.chain.specs.declared.Place.{Place}
 use Rattle.chain.specs.Links.{Linked, Hint, placeIn}
 use Rattle.chain.proofs.Hints.{no-hint, place-hint}

@@ -25,7 +25,7 @@ use Rattle.records.specs.Words.{Inside}
 use Rattle.records.proofs.Words.{inside}
 use Rattle.chain.specs.declared.Place.{Place}
 use Rattle.chain.specs.Links.{Linked, placeIn, Edited, Linking, insertAfter, KeepsHints}
-use Rattle.chain.proofs.Found.{lastOf, NotBelow, AtPlace, at-place, above-all, find-at, present-found, place-inside}
+use Rattle.chain.proofs.Found.{snoc, NotBelow, AtPlace, at-place, above-all, find-at, present-found, place-inside}
 use Rattle.chain.proofs.Paths.{map-append}
 use Rattle.chain.proofs.Relinked.{Inserted, insert-reads, Parts, inserting, apart, inserted-rules, inserted-tuples}
 use Rattle.edit.specs.Edits.{Adding}
@@ -63,16 +63,6 @@ module _ (b : List ℕ) (k : Key) (L : Linked b) (at : ℕ) (e : at ≡ placeIn 
       go false = refl
 
 -- ---- the key is missing
-
--- a list that is not empty ends with its last
-pub snoc : (is : List ℕ) → is ≢ [] → (last : ℕ) → (init : List ℕ) × (is ≡ init ++ (lastOf last is ∷ []))
-snoc [] h last = absurd (h refl)
-snoc (i ∷ []) h last = ([], refl)
-snoc (i ∷ j ∷ js) h last =
-    let r = snoc (j ∷ js) (λ e. absurd (cons≢ e)) i in (i ∷ r .0, ap (λ (ys : List ℕ). i ∷ ys) (r .1))
-  where
-    cons≢ : {x : ℕ} {xs : List ℕ} → x ∷ xs ≡ [] → ⊥
-    cons≢ {x} {xs} e = let z : _≡_ {A = ℕ} 0 1 = cc in omega arith
 
 -- a record put into a list leaves the others in it
 still-there : (xs ys us vs : List ℕ) (before taken i : ℕ) → xs ++ (before ∷ ys) ≡ us ++ (i ∷ vs)

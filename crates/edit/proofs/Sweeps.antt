@@ -26,7 +26,7 @@ use Rattle.records.specs.Words.{Inside}
 use Rattle.records.proofs.Words.{inside}
 use Rattle.chain.specs.declared.Place.{Place}
 use Rattle.chain.specs.Links.{Linked, placeIn, Edited, Unlinking, removeAfter}
-use Rattle.chain.proofs.Found.{lastOf, at-place}
+use Rattle.chain.proofs.Found.{lastOf, snoc, at-place}
 use Rattle.chain.proofs.Walks.{Rest, remaining, remaining-is, at-end}
 use Rattle.chain.proofs.Paths.{chain-split, within-right, map-append}
 use Rattle.chain.proofs.Relinked.{Removed, remove-reads, Parts, removing, apart, removed-rules}
@@ -35,7 +35,6 @@ use Rattle.select.specs.declared.Span.{Span}
 use Rattle.select.specs.Selections.{takenBy, spanOf, spanStart, beyond}
 use Rattle.select.proofs.Spans.{below-not-taken, beyond-not-taken, after-not-taken}
 use Rattle.edit.specs.Edits.{Turned, orFirst, sweepStart}
-use Rattle.edit.proofs.Adds.{snoc}
 use Rattle.edit.proofs.Built.{edited}
 
 -- the answer of one turn

@@ -5,21 +5,21 @@ use mathlib.Core.Logic.{⊎-elim, _≢_}
 use mathlib.Core.Path.{_≡_, refl, sym, ap, ap₂, _∙_, subst}
 use mir.Syntax.{w64}
 use mir.Val.{Fits}
-use Prim.Native.Nat.{ℕ, suc, _+_, _-_, _/_, _≤_, _<_}
+use Prim.Native.Nat.{ℕ, suc, _+_, _≤_, _<_}
 use native.Mathlib.Omega.{arith}
 use lib.ListN.{length}
 use Rattle.model.specs.declared.Call.{Call}
-use Rattle.model.specs.declared.Direction.{Direction}
 use Rattle.model.specs.declared.Direction.the-variants.{Outpointing, Inpointing, Adjacent}
 use Rattle.model.specs.declared.Key.{Key}
 use Rattle.model.specs.declared.Object.{Object}
 use Rattle.model.specs.Ordered.{Ascending, holds}
 use Rattle.model.specs.Keys.{keyOf, compareKeys, sameKey, edgeKey}
 use Rattle.model.specs.Tuples.{Tuples, present, add, addAll, missing}
-use Rattle.model.specs.Buffer.{headWords, recordWords, capacityOf, tuplesOf}
+use Rattle.model.specs.Buffer.{capacityOf, tuplesOf}
 use Rattle.model.specs.Steps.{sOf, objectKeys, created}
 use Rattle.model.proofs.Bools.{or-cases, or-left, or-right, clash, failed}
-use Rattle.model.proofs.Tuples.{same-key, own-key, among, present-add, present-addAll, add-ascending, length-addAll}
+use Rattle.model.proofs.Tuples.{same-key, own-key, among, present-add, present-addAll, addAll-ascending, length-addAll}
+use Rattle.records.proofs.Words.{capacity-length}
 use Rattle.chain.specs.Links.{Linked, Edited}
 use Rattle.edit.specs.Edits.{Adding}
 use Rattle.operate.specs.declared.Fields.{Fields}
@@ -112,10 +112,10 @@ missing-two o s f k j ts a x y K X A e apart same Y =
     ap₂ _+_ (X ∙ ap (λ (i : Key). length (missing (i ∷ []) ts)) K) (Y ∙ ap (λ (i : Key). length (missing (i ∷ []) ts)) same)
     ∙ both-apart main second ts other ∙ ap (λ (ks : List Key). length (missing ks ts)) (sym (keys-two o s f (sym A ∙ e)))
 
--- at most one for a key
-pub at-most-one : (k : Key) (ts : Tuples) → length (missing (k ∷ []) ts) ≤ 2
+-- for one key, at most as many as `small-sum` asks
+pub one-key-at-most-two : (k : Key) (ts : Tuples) → length (missing (k ∷ []) ts) ≤ 2
 unfolding missing
-at-most-one k ts = go (present k ts)
+one-key-at-most-two k ts = go (present k ts)
   where
     go : (b : Bool) → length (cond b [] (k ∷ [])) ≤ 2
     go true = omega arith
@@ -132,11 +132,6 @@ unfolding addAll
 addAll-append [] ys ts = refl
 addAll-append (x ∷ xs) ys ts = addAll-append xs ys (add x ts)
 
-addAll-ascends : (ks : List Key) (ts : Tuples) → Ascending keyOf compareKeys ts → Ascending keyOf compareKeys (addAll ks ts)
-unfolding addAll
-addAll-ascends [] ts h = h
-addAll-ascends (k ∷ ks) ts h = addAll-ascends ks (add k ts) (add-ascending k ts h)
-
 sums : (t x y z u : ℕ) → z ≡ t + u → z ≡ (t + x) + y → u ≡ x + y
 sums t x y z u e f = omega (arith, e, f)
 
@@ -145,7 +140,7 @@ missing-append : (xs ys : List Key) (ts : Tuples) → Ascending keyOf compareKey
 missing-append xs ys ts h =
     sums (length ts) (length (missing xs ts)) (length (missing ys (addAll xs ts))) (length (addAll (xs ++ ys) ts)) (length (missing (xs ++ ys) ts))
     (length-addAll (xs ++ ys) ts h)
-    (ap length (addAll-append xs ys ts) ∙ length-addAll ys (addAll xs ts) (addAll-ascends xs ts h)
+    (ap length (addAll-append xs ys ts) ∙ length-addAll ys (addAll xs ts) (addAll-ascending xs ts h)
     ∙ ap (λ (n : ℕ). n + length (missing ys (addAll xs ts))) (length-addAll xs ts h))
 
 -- keys that are all present add nothing
@@ -292,10 +287,6 @@ at-most-two o s f ts = go (isAdjacent o) (present (mainKey o s f) ts)
 
 -- ---- room for each
 
-same-capacity : (b b′ : List ℕ) → length b′ ≡ length b → capacityOf b′ ≡ capacityOf b
-unfolding capacityOf
-same-capacity b b′ e = ap (λ (n : ℕ). (n - headWords) / recordWords) e
-
 pub room-first : {b : List ℕ} (k : Key) (ks : List Key) → Linked b → Room b (k ∷ ks) → Adding b k
 unfolding missing
 room-first {b} k ks L h = record { linked = L; room = λ e. below e }
@@ -315,11 +306,11 @@ room-rest {b} {b′} xs ys L h E =
     let ts : Tuples = tuplesOf b in
     let all : length (addAll (xs ++ ys) ts) ≡ length ts + length (missing (xs ++ ys) ts) = length-addAll (xs ++ ys) ts (L .ascends) in
     let rest : length (addAll (xs ++ ys) ts) ≡ length (addAll xs ts) + length (missing ys (addAll xs ts)) =
-    ap length (addAll-append xs ys ts) ∙ length-addAll ys (addAll xs ts) (addAll-ascends xs ts (L .ascends)) in
+    ap length (addAll-append xs ys ts) ∙ length-addAll ys (addAll xs ts) (addAll-ascending xs ts (L .ascends)) in
     let fits : length (addAll xs ts) + length (missing ys (addAll xs ts)) ≤ capacityOf b =
     subst (λ (n : ℕ). n ≤ capacityOf b) (sym all ∙ rest) h in
     subst (λ (us : Tuples). length us + length (missing ys us) ≤ capacityOf b′) (sym (E .tuples))
-    (subst (λ (n : ℕ). length (addAll xs ts) + length (missing ys (addAll xs ts)) ≤ n) (sym (same-capacity b b′ (E .size))) fits)
+    (subst (λ (n : ℕ). length (addAll xs ts) + length (missing ys (addAll xs ts)) ≤ n) (sym (capacity-length b b′ (E .size))) fits)
 
 -- room for all is room for the first of them
 pub room-some : {b : List ℕ} (xs ys : List Key) → Linked b → Room b (xs ++ ys) → Room b xs

@@ -1,5 +1,5 @@
 -- What a call names, key by key (specs/Operate.antt), is what the steps work on (`objectKeys`).
-use mathlib.Core.Bool.{Bool, true, false, cond, not, _&&_, _||_, or-false}
+use mathlib.Core.Bool.{Bool, true, false, cond, _||_, or-false}
 use mathlib.Core.List.{List, [], _∷_}
 use mathlib.Core.Path.{_≡_, refl, sym, ap, ap₂, _∙_, subst}
 use Prim.Native.Nat.{ℕ}
@@ -11,8 +11,7 @@ use Rattle.model.specs.declared.Object.{Object}
 use Rattle.model.specs.Keys.{Value, edgeKey}
 use Rattle.model.specs.Tuples.{Tuples, present, anyPresent, valueAt, assign, assignAll}
 use Rattle.model.specs.Buffer.{tuplesOf}
-use Rattle.model.specs.Steps.{nOf, gOf, mOf, vOf, sOf, objectKeys, firstValue}
-use Rattle.model.proofs.Bools.{not-yes, not-no}
+use Rattle.model.specs.Steps.{vOf, sOf, objectKeys, firstValue}
 use Rattle.chain.specs.Links.{Hint, KeepsHints, Edited}
 use Rattle.operate.specs.declared.Fields.{Fields}
 use Rattle.operate.specs.declared.Near.{Near}

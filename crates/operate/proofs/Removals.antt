@@ -1,8 +1,7 @@
 -- One removal with 0 for "any" is what each D operator takes (`destroyed`).
-use mathlib.Core.Bool.{Bool, true, false, _&&_, _||_, and-true}
-use mathlib.Core.List.{List}
+use mathlib.Core.Bool.{Bool, true, _&&_, _||_, and-true}
 use mathlib.Core.Logic.{_≢_}
-use mathlib.Core.Path.{_≡_, refl, sym, ap, ap₂, _∙_, subst}
+use mathlib.Core.Path.{_≡_, refl, ap, ap₂, _∙_}
 use Prim.Native.Nat.{ℕ}
 use lib.Dec.{eqb}
 use borrow.Author.Tests.{ne-eqb}
@@ -12,9 +11,7 @@ use Rattle.model.specs.declared.Pair.{Pair}
 use Rattle.model.specs.declared.Removal.{Removal}
 use Rattle.model.specs.Pairs.{edgeOf, nodeOf}
 use Rattle.model.specs.Tuples.{Tuples, remove}
-use Rattle.model.specs.Buffer.{tuplesOf}
 use Rattle.model.specs.Steps.{nOf, gOf, mOf, sOf, edgesTaken, nodeTaken, spaceTaken, destroyed}
-use Rattle.chain.specs.Links.{Edited}
 use Rattle.select.specs.Selections.{passes}
 use Rattle.operate.specs.declared.Fields.{Fields}
 use Rattle.select.specs.declared.EdgesOf.{EdgesOf}

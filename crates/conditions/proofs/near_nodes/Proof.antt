@@ -1,5 +1,4 @@
 use Rattle.conditions.proofs.Nearby.{before-hint, nodes-told}
-use borrow.Author.Needs.{needs}
 use Rattle.conditions.proofs.near_nodes.Statement.{statement}
 use Rattle.conditions.proofs.near_nodes.Tie as tie
 use Rattle.conditions.proofs.near_nodes.Reads as reads

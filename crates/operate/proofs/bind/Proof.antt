@@ -1,4 +1,4 @@
-use Rattle.operate.proofs.Named.{bind-one, bind-two, main-hint, near-kept}
+use Rattle.operate.proofs.Named.{bind-one, bind-two, main-hint}
 use Rattle.model.proofs.Bools.{not-yes, not-no}
 use borrow.Author.Needs.{needs}
 use Rattle.operate.proofs.bind.Statement.{statement}

@@ -1,5 +1,4 @@
 use Rattle.operate.proofs.Creates.{one-present, one-absent}
-use borrow.Author.Needs.{needs}
 use Rattle.operate.proofs.count_absent.Statement.{statement}
 use Rattle.operate.proofs.count_absent.Tie as tie
 use Rattle.operate.proofs.count_absent.Reads as reads

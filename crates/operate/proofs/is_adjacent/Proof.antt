@@ -1,5 +1,5 @@
 use Rattle.operate.specs.Operate.{isAdjacent}
-use mathlib.Core.Path.{_≡_, sym, ap, _∙_}
+use mathlib.Core.Path.{sym, ap, _∙_}
 use borrow.Author.Needs.{needs}
 use Rattle.operate.proofs.is_adjacent.Statement.{statement}
 use Rattle.operate.proofs.is_adjacent.Tie as tie

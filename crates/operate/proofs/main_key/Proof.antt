@@ -1,6 +1,6 @@
 use Rattle.operate.specs.Operate.{mainKey}
 use Rattle.model.specs.declared.Object.{Object}
-use mathlib.Core.Path.{_≡_, sym, ap, _∙_}
+use mathlib.Core.Path.{sym, ap, _∙_}
 use borrow.Author.Needs.{needs}
 use Rattle.operate.proofs.main_key.Statement.{statement}
 use Rattle.operate.proofs.main_key.Tie as tie

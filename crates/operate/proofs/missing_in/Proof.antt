@@ -1,4 +1,4 @@
-use Rattle.operate.proofs.Creates.{missing-one, missing-loop, missing-two, at-most-one, small-sum}
+use Rattle.operate.proofs.Creates.{missing-one, missing-loop, missing-two, one-key-at-most-two, small-sum}
 use Rattle.operate.proofs.Named.{main-hint}
 use Rattle.model.proofs.Bools.{not-yes, not-no}
 use borrow.Author.Needs.{needs}
@@ -46,7 +46,7 @@ count-absent-requires-2 c κs = (c .before .before .before .before .before .befo
 
 -- src/lib.rt:240:5
 add-result : tie.Need-add-result
-add-result c = small-sum _ _ _ _ (c .before .before .before .before .before .before .count-absent .ensures) (c .count-absent2 .ensures) (at-most-one _ _) (at-most-one _ _)
+add-result c = small-sum _ _ _ _ (c .before .before .before .before .before .before .count-absent .ensures) (c .count-absent2 .ensures) (one-key-at-most-two _ _) (one-key-at-most-two _ _)
 
 -- src/lib.rt:229:1
 returns-3 : tie.Need-returns-3

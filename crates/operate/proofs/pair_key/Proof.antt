@@ -1,6 +1,6 @@
 use Rattle.operate.specs.Operate.{pairKey}
 use Rattle.model.specs.declared.Direction.{Direction}
-use mathlib.Core.Path.{_≡_, sym, ap, _∙_}
+use mathlib.Core.Path.{sym, ap, _∙_}
 use borrow.Author.Needs.{needs}
 use Rattle.operate.proofs.pair_key.Statement.{statement}
 use Rattle.operate.proofs.pair_key.Tie as tie

@@ -1,5 +1,5 @@
 use Rattle.model.specs.Steps.{spaceNumber}
-use mathlib.Core.Path.{_≡_, sym, ap, _∙_, subst}
+use mathlib.Core.Path.{sym, ap, _∙_, subst}
 use Prim.Native.Nat.{ℕ, _≤_}
 use native.Mathlib.Omega.{arith}
 use Rattle.model.specs.Keys.{mostName}
