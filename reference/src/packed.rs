@@ -2,7 +2,7 @@
 //! takes them.
 
 use crate::chained;
-use crate::machine::{Answer, Call, Space};
+use crate::machine::{Answer, Call, Edge, Node, Space, SpaceName};
 
 /// operator, n + 65,536 × g, m + 65,536 × s, v, the form of the space (0 is
 /// UNIVERSE), the length of the answer list.
@@ -32,6 +32,25 @@ pub fn call(call: &Call) -> [u32; WORDS_IN_A_CALL] {
         form,
         call.list_length as u32,
     ]
+}
+
+/// The call that six words give.
+pub fn call_of(words: &[u32; WORDS_IN_A_CALL]) -> Call {
+    let [operator, node_and_edge, node_and_space, v, form, list_length] = *words;
+    let low = |word: u32| word as u16;
+    let high = |word: u32| (word >> 16) as u16;
+    Call {
+        operator,
+        n: Node(low(node_and_edge)),
+        g: Edge(high(node_and_edge)),
+        m: Node(low(node_and_space)),
+        v,
+        space: match form {
+            0 => Space::Universe,
+            _ => Space::Numbered(SpaceName(high(node_and_space))),
+        },
+        list_length: list_length as usize,
+    }
 }
 
 /// An answer of the hand-written store, whose list stands elsewhere.
@@ -77,4 +96,18 @@ pub fn answer([kind, number]: [u32; WORDS_IN_AN_ANSWER], list: &[u32]) -> Option
         _ => return None,
     };
     Some(answer)
+}
+
+#[cfg(test)]
+mod tests {
+    use super::*;
+
+    #[test]
+    fn a_call_comes_back_from_its_words() {
+        for (k, count) in [(20, 2_000), (1_000, 2_000)] {
+            for drawn in crate::load::Drawn::new(7, k).take(count) {
+                assert_eq!(call_of(&call(&drawn)), drawn);
+            }
+        }
+    }
 }

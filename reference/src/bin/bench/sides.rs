@@ -1,7 +1,7 @@
 //! What is measured: each side makes the same calls and writes the same words.
 
 use gaffdamson_reference::machine::{Call, Key, Machine, Value};
-use gaffdamson_reference::packed::{self, WORDS_IN_AN_ANSWER};
+use gaffdamson_reference::packed::{self, WORDS_IN_AN_ANSWER, WORDS_IN_A_CALL};
 use gaffdamson_reference::{buffer, chained};
 
 /// C of every load.
@@ -11,7 +11,6 @@ pub const CAPACITY: usize = 2_048;
 /// them; of the lists, one stands after the other.
 pub struct Run<'a> {
     pub calls: &'a [Call],
-    #[cfg_attr(not(feature = "rattle"), allow(dead_code))]
     pub packed: &'a [u32],
     pub answers: &'a mut [u32],
     pub lists: &'a mut [u32],
@@ -101,8 +100,18 @@ impl Side for HandWritten {
         if !chained::is_store(&self.0) {
             return;
         }
-        for (call, answer, list) in parts(run.calls, run.answers, run.lists) {
-            let words = packed::words_of(chained::execute_known(&mut self.0, call, list));
+        let mut rest = run.lists;
+        for (words, answer) in run
+            .packed
+            .as_chunks::<WORDS_IN_A_CALL>()
+            .0
+            .iter()
+            .zip(run.answers.chunks_exact_mut(WORDS_IN_AN_ANSWER))
+        {
+            let call = packed::call_of(words);
+            let (list, others) = rest.split_at_mut(call.list_length);
+            rest = others;
+            let words = packed::words_of(chained::execute_known(&mut self.0, &call, list));
             answer.copy_from_slice(&words);
         }
     }
