@@ -69,3 +69,33 @@ fn buffers_are_judged_alike() {
         assert_eq!(words, before);
     }
 }
+
+/// 9 where the answers or the lists have one word too few, and 1 before 9; no
+/// word changes.
+#[test]
+fn a_run_without_room_is_refused() {
+    let calls = load::lists_of_nodes(3);
+    let packed: Vec<u32> = calls.iter().flat_map(packed::call).collect();
+    let room: usize = calls.iter().map(|call| call.list_length).sum();
+    let words_of_answers = WORDS_IN_AN_ANSWER * calls.len();
+    let mut store = vec![0; 4 + 6 * 10];
+    assert_eq!(buffer::prepare(&mut store), Ok(10));
+    let none = vec![0; 4 + 6 * 10];
+    for (words, answers, lists, expected) in [
+        (&store, words_of_answers - 1, room, 9),
+        (&store, words_of_answers, room - 1, 9),
+        (&none, words_of_answers - 1, room - 1, 1),
+        (&store, words_of_answers, room, 0),
+    ] {
+        let mut words_left = words.clone();
+        let mut answers_left = vec![UNWRITTEN; answers];
+        let mut lists_left = vec![UNWRITTEN; lists];
+        let given = run_calls(&mut words_left, &packed, &mut answers_left, &mut lists_left);
+        assert_eq!(given, expected);
+        if expected != 0 {
+            assert_eq!(&words_left, words);
+            assert_eq!(answers_left, vec![UNWRITTEN; answers]);
+            assert_eq!(lists_left, vec![UNWRITTEN; lists]);
+        }
+    }
+}

@@ -32,9 +32,9 @@ pub trait Side {
 pub fn all() -> Vec<Box<dyn Side>> {
     vec![
         Box::new(OrderedMap(Machine::new(CAPACITY))),
-        Box::new(HandWritten(fresh_buffer())),
+        Box::new(InBuffer("hand-written", hand_written, fresh_buffer())),
         #[cfg(feature = "rattle")]
-        Box::new(Proved(fresh_buffer())),
+        Box::new(InBuffer("proved", proved, fresh_buffer())),
     ]
 }
 
@@ -85,68 +85,52 @@ impl Side for OrderedMap {
     }
 }
 
-struct HandWritten(Vec<u32>);
+/// A store in a buffer: what it is called, how it makes a run of calls, and
+/// its words.
+struct InBuffer(&'static str, fn(&mut [u32], Run), Vec<u32>);
 
-impl Side for HandWritten {
+impl Side for InBuffer {
     fn name(&self) -> &'static str {
-        "hand-written"
+        self.0
     }
 
     fn prepare(&mut self) {
-        chained::prepare(&mut self.0).expect("the length is right");
+        chained::prepare(&mut self.2).expect("the length is right");
     }
 
     fn run(&mut self, run: Run) {
-        if !chained::is_store(&self.0) {
-            return;
-        }
-        let mut rest = run.lists;
-        for (words, answer) in run
-            .packed
-            .as_chunks::<WORDS_IN_A_CALL>()
-            .0
-            .iter()
-            .zip(run.answers.chunks_exact_mut(WORDS_IN_AN_ANSWER))
-        {
-            let call = packed::call_of(words);
-            let (list, others) = rest.split_at_mut(call.list_length);
-            rest = others;
-            let words = packed::words_of(chained::execute_known(&mut self.0, &call, list));
-            answer.copy_from_slice(&words);
-        }
+        self.1(&mut self.2, run);
     }
 
     fn tuples(&self) -> Vec<(Key, Value)> {
-        buffer::tuples(&self.0)
+        buffer::tuples(&self.2)
+    }
+}
+
+/// The hand-written store.
+fn hand_written(words: &mut [u32], run: Run) {
+    if !chained::is_store(words) {
+        return;
+    }
+    let mut rest = run.lists;
+    for (packed, answer) in run
+        .packed
+        .as_chunks::<WORDS_IN_A_CALL>()
+        .0
+        .iter()
+        .zip(run.answers.chunks_exact_mut(WORDS_IN_AN_ANSWER))
+    {
+        let call = packed::call_of(packed);
+        let (list, others) = rest.split_at_mut(call.list_length);
+        rest = others;
+        let given = chained::execute_known(words, &call, list);
+        answer.copy_from_slice(&packed::words_of(given));
     }
 }
 
 /// The proved store. What it leaves unwritten after a refusal shows in the
 /// answers.
 #[cfg(feature = "rattle")]
-struct Proved(Vec<u32>);
-
-#[cfg(feature = "rattle")]
-impl Side for Proved {
-    fn name(&self) -> &'static str {
-        "proved"
-    }
-
-    fn prepare(&mut self) {
-        chained::prepare(&mut self.0).expect("the length is right");
-    }
-
-    fn run(&mut self, run: Run) {
-        let Run {
-            packed,
-            answers,
-            lists,
-            ..
-        } = run;
-        gaffdamson_reference::proved::run_calls(&mut self.0, packed, answers, lists);
-    }
-
-    fn tuples(&self) -> Vec<(Key, Value)> {
-        buffer::tuples(&self.0)
-    }
+fn proved(words: &mut [u32], run: Run) {
+    gaffdamson_reference::proved::run_calls(words, run.packed, run.answers, run.lists);
 }
