@@ -1,0 +1,4 @@
+pub mod Lines
+pub mod OperatorWords
+pub mod Calls
+pub mod Places

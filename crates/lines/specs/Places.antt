@@ -1,0 +1,38 @@
+-- Words by their places in a line: what the functions that read arguments answer.
+use mathlib.Core.Bool.{Bool, cond}
+use mathlib.Core.List.{List, [], _∷_}
+use mathlib.Core.Option.{Option, none, some}
+use Prim.Native.Nat.{ℕ, _+_}
+use lib.Dec.{ltb}
+use lib.ListN.{length, drop}
+use Rattle.text.specs.Bytes.{Text, sameText, U}
+use Rattle.text.specs.Numerals.{readNumber}
+use Rattle.lines.specs.declared.Argument.{Argument}
+use Rattle.lines.specs.declared.Argument.the-variants.{Number, Universal, Missing, Unreadable}
+use Rattle.lines.specs.Lines.{wordsOf}
+
+-- the words behind one that ends at a place of the line: at a blank, or at the line's end
+unfoldable pub wordsBehind : Text → ℕ → List Text
+wordsBehind line end = cond (ltb end (length line)) (wordsOf (drop (end + 1) line)) []
+
+-- a number, and where its word ends
+unfoldable pub asNumber : Option ℕ → ℕ → Argument
+asNumber none end = Unreadable
+asNumber (some x) end = Number x end
+
+-- "UNIVERSE is `U`"
+unfoldable pub ofWord : ℕ → Text → ℕ → Argument
+ofWord most w end = cond (sameText w (U ∷ [])) (Universal end) (asNumber (readNumber most w) end)
+
+-- the first of the words behind a place
+unfoldable pub firstOf : ℕ → List Text → ℕ → Argument
+firstOf most [] end = Missing
+firstOf most (w ∷ ws) end = ofWord most w (end + 1 + length w)
+
+-- the argument behind the word that ends at a place
+unfoldable pub argumentAt : ℕ → Text → ℕ → Argument
+argumentAt most line end = firstOf most (wordsBehind line end) end
+
+-- a field that is not read has no argument, and is 0
+unfoldable pub fieldAt : Bool → ℕ → Text → ℕ → Argument
+fieldAt read most line end = cond read (argumentAt most line end) (Number 0 end)

@@ -1,0 +1,46 @@
+-- Document 01: "Output, a line each: `= name`, `V value`, `T` or `NIL`, `L k` then ` edge:node` for each, `R number`."
+use mathlib.Core.Bool.{Bool, true, false}
+use mathlib.Core.List.{List, [], _∷_, _++_}
+use mathlib.Core.Path.{_≡_}
+use Prim.Native.Nat.{ℕ, _+_}
+use lib.ListN.{length}
+use Rattle.model.specs.declared.Pair.{Pair}
+use Rattle.model.specs.Pairs.{edgeOf, nodeOf}
+use Rattle.model.specs.Steps.{Reply, refusal, name, valued, yesNo, pairs}
+use Rattle.text.specs.Bytes.{Text, lineFeed, blank, equalsSign, colon, written, I, L, N, R, T, «V»}
+use Rattle.text.specs.Numerals.{printedNumber}
+
+-- a sign, a blank and a number
+abbrev pub signed : ℕ → ℕ → Text
+signed sign x = sign ∷ blank ∷ printedNumber x
+
+-- "`T` or `NIL`"
+unfoldable pub yesOrNo : Bool → Text
+yesOrNo true = T ∷ []
+yesOrNo false = N ∷ I ∷ L ∷ []
+
+-- "` edge:node`"
+unfoldable pub entryText : Pair → Text
+entryText p = blank ∷ (printedNumber (edgeOf p) ++ (colon ∷ printedNumber (nodeOf p)))
+
+-- ".. for each"
+unfoldable pub entriesText : List Pair → Text
+entriesText [] = []
+entriesText (p ∷ ps) = entryText p ++ entriesText ps
+
+-- "`= name`, `V value`, `T` or `NIL`, `L k` then ` edge:node` for each, `R number`"
+unfoldable pub answerText : Reply → Text
+answerText (refusal number) = signed R number
+answerText (name x) = signed equalsSign x
+answerText (valued v) = signed «V» v
+answerText (yesNo b) = yesOrNo b
+answerText (pairs k ps) = signed L k ++ entriesText ps
+
+-- "Output, a line each": with its line feed
+unfoldable pub answerLine : Reply → Text
+answerLine r = answerText r ++ (lineFeed ∷ [])
+
+-- a text put into lent bytes from a place on: the place behind it, and what the bytes hold
+pub record Put (bs : Text) (out : Text) (at : ℕ) (end : ℕ) (out′ : Text) : Type 0 where
+  pub place : end ≡ at + length bs
+  pub bytes : out′ ≡ written out at bs

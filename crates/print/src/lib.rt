@@ -1,0 +1,1 @@
+// Answers as lines of text in lent bytes.

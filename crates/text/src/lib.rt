@@ -1,0 +1,1 @@
+// Bytes, words and numbers of scripts: definitions in specs/, theorems about them in proofs/. There is no code here.
