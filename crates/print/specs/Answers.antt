@@ -44,3 +44,7 @@ answerLine r = answerText r ++ (lineFeed ∷ [])
 pub record Put (bs : Text) (out : Text) (at : ℕ) (end : ℕ) (out′ : Text) : Type 0 where
   pub place : end ≡ at + length bs
   pub bytes : out′ ≡ written out at bs
+
+-- the longest line: `L 2048`, 2,048 entries of at most twelve bytes, and the line feed
+abbrev pub mostLine : ℕ
+mostLine = 24583

@@ -1,0 +1,77 @@
+-- The lines of a script run on a store: one line, and as many lines as a block of output has room for.
+use mathlib.Core.Bool.{true, cond}
+use mathlib.Core.List.{List, [], _∷_, _++_}
+use mathlib.Core.Path.{_≡_}
+use Prim.Native.Nat.{ℕ, _+_, _-_, _≤_, _<_}
+use lib.Dec.{leb}
+use lib.ListN.{length, drop}
+use Rattle.model.specs.declared.Call.{Call}
+use Rattle.model.specs.Machine.{State, machine}
+use Rattle.model.specs.Buffer.{capacityOf, tuplesOf, isStore, pastRecords}
+use Rattle.model.specs.OneCall.{answerOf, listAfter, OnStore}
+use Rattle.text.specs.Bytes.{Text}
+use Rattle.lines.specs.declared.Reading.{Reading}
+use Rattle.lines.specs.declared.Reading.the-variants.{Read, Refused}
+use Rattle.lines.specs.Lines.{linesOf}
+use Rattle.lines.specs.Calls.{readLine}
+use Rattle.print.specs.Answers.{answerLine, Put, mostLine}
+use Rattle.script.specs.declared.Block.{Block}
+use Rattle.script.specs.Scripts.{scriptRecords, scriptPlaces, lineOutcome}
+
+-- a store and an answer list for a script: "a store with C = 2,048 and an answer list of 2,048 places"
+pub record Ready (b l : List ℕ) : Type 0 where
+  pub store : isStore b ≡ true
+  pub records : capacityOf b ≡ scriptRecords
+  pub places : length l ≡ scriptPlaces
+
+-- ---- one line
+
+-- a line that reads as a call is that call; one that does not makes none
+pub data Called (b l : List ℕ) (b′ l′ : List ℕ) : Reading → Type 0 where
+  call : {c : Call} → OnStore b l c (answerOf (machine (capacityOf b) (tuplesOf b) c (length l) .answer)) b′ l′ → Called b l b′ l′ (Read c)
+  no-call : {number : ℕ} → b′ ≡ b → l′ ≡ l → Called b l b′ l′ (Refused number)
+
+-- a line that is run on a store: what it leaves of the store and the list, and its answer in the output
+pub record LineRun (b l : List ℕ) (line : Text) (out : Text) (at : ℕ) (b′ l′ : List ℕ) (end : ℕ) (out′ : Text) : Type 0 where
+  pub called : Called b l b′ l′ (readLine line)
+  pub put : Put (answerLine (lineOutcome (tuplesOf b) line .answer)) out at end out′
+
+-- ---- as many lines as there is room for
+
+-- what some lines print and leave, and the lines that are left
+pub record Run : Type 0 where
+  pub text : Text
+  pub state : State
+  pub list : List ℕ
+  pub rest : List Text
+
+-- the answer list after a line
+unfoldable pub lineList : State → Reading → List ℕ → List ℕ
+lineList ts (Read c) l = listAfter (machine scriptRecords ts c scriptPlaces .answer) l
+lineList ts (Refused number) l = l
+
+-- a text printed before what a run prints
+abbrev pub printedBefore : Text → Run → Run
+printedBefore bs r = record { text = bs ++ r .text; state = r .state; list = r .list; rest = r .rest }
+
+-- lines are run as long as there is room for the longest line
+unfoldable pub runLines : ℕ → State → List ℕ → List Text → Run
+runLines room ts l [] = record { text = []; state = ts; list = l; rest = [] }
+runLines room ts l (x ∷ xs) =
+    cond (leb mostLine room)
+    (printedBefore (answerLine (lineOutcome ts x .answer))
+    (runLines (room - length (answerLine (lineOutcome ts x .answer))) (lineOutcome ts x .state) (lineList ts (readLine x) l) xs))
+    (record { text = []; state = ts; list = l; rest = x ∷ xs })
+
+-- the lines of a script from place `from` on, run on a store until the output has no room for a line; `r` names where the next line starts and how many bytes were put
+pub record BlockRun (u : Run) (b : List ℕ) (script : Text) (from : ℕ) (out : Text) (r : Block) (b′ l′ : List ℕ) (out′ : Text) : Type 0 where
+  pub ready : Ready b′ l′
+  pub tuples : tuplesOf b′ ≡ u .state
+  pub size : length b′ ≡ length b
+  pub past : pastRecords b′ ≡ pastRecords b
+  pub list : l′ ≡ u .list
+  pub put : Put (u .text) out 0 (r .length) out′
+  pub within : r .next ≤ length script
+  pub rest : linesOf (drop (r .next) script) ≡ u .rest
+  -- at least one line is run, where there is one and the output is long enough
+  pub forward : from < length script → mostLine ≤ length out → from < r .next
