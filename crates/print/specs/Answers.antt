@@ -2,7 +2,7 @@
 use mathlib.Core.Bool.{Bool, true, false}
 use mathlib.Core.List.{List, [], _∷_, _++_}
 use mathlib.Core.Path.{_≡_}
-use Prim.Native.Nat.{ℕ, _+_}
+use Prim.Native.Nat.{ℕ, _+_, _≤_}
 use lib.ListN.{length}
 use Rattle.model.specs.declared.Pair.{Pair}
 use Rattle.model.specs.Pairs.{edgeOf, nodeOf}
@@ -39,6 +39,10 @@ answerText (pairs k ps) = signed L k ++ entriesText ps
 -- "Output, a line each": with its line feed
 unfoldable pub answerLine : Reply → Text
 answerLine r = answerText r ++ (lineFeed ∷ [])
+
+-- lent bytes have room for a text from a place on
+abbrev pub Fits : Text → Text → ℕ → Type 0
+Fits bs out at = at + length bs ≤ length out
 
 -- a text put into lent bytes from a place on: the place behind it, and what the bytes hold
 pub record Put (bs : Text) (out : Text) (at : ℕ) (end : ℕ) (out′ : Text) : Type 0 where

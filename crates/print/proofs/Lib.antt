@@ -1,0 +1,3 @@
+pub mod Puts
+pub mod Copying
+pub mod Filling
