@@ -34,7 +34,7 @@ module _ (text out : Text) (at i : ℕ) (out′ : Text) (fits : at + length text
             ∙ ap (λ (o : Text). written o (at + i) (getD text i 0 ∷ [])) (p .bytes)
             ∙ ap (λ (n : ℕ). written (written out at (take i text)) (at + n) (getD text i 0 ∷ [])) (sym copied)
             ∙ written-twice out at (take i text) (getD text i 0 ∷ []) (omega arith)
-            ∙ ap (written out at) (sym (ap (λ (n : ℕ). take n text) (add-one i) ∙ take-suc text i 0 h))
+            ∙ ap (written out at) (sym (ap (λ (n : ℕ). take n text) (add-one i) ∙ take-suc text i 0 h));
       }
 
   pub copy-end : length text ≤ i → Put text out at (at + i) out′

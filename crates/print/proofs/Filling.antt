@@ -57,7 +57,7 @@ module _ (out : Text) (at x : ℕ) (out′ : Text) (to rest : ℕ) (fits : at + 
         bytes =
             ap (λ (o : Text). set o (to - 1) d) (f .bytes ∙ ap (λ (n : ℕ). written out n (f .behind)) (sym back))
             ∙ written-before out (to - 1) d (f .behind) (omega (arith, fill-fits, fill-place));
-        small = omega (arith, f .small)
+        small = omega (arith, f .small);
       }
 
   pub fill-end : (count d : ℕ) → count ≡ length (printedNumber x) → rest < 10 → d ≡ digit rest → Put (printedNumber x) out at (at + count) (set out′ at d)
@@ -70,5 +70,5 @@ module _ (out : Text) (at x : ℕ) (out′ : Text) (to rest : ℕ) (fits : at + 
         bytes =
             ap (λ (o : Text). set o at d) (f .bytes ∙ ap (λ (n : ℕ). written out n (f .behind)) next)
             ∙ written-before out at d (f .behind) (omega (arith, fill-fits))
-            ∙ ap (written out at) (sym (f .whole ∙ ap (λ (ds : Text). ds ++ f .behind) short))
+            ∙ ap (written out at) (sym (f .whole ∙ ap (λ (ds : Text). ds ++ f .behind) short));
       }

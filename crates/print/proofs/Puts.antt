@@ -24,7 +24,7 @@ pub put-then : {xs ys out : Text} {at mid end : ℕ} {out′ out″ : Text} → 
 put-then {xs} {ys} {out} {at} {mid} {end} {out′} {out″} h p q =
     record {
       place = q .place ∙ ap (λ (n : ℕ). n + length ys) (p .place) ∙ add-assoc at (length xs) (length ys) ∙ ap (λ (n : ℕ). at + n) (sym (length-append xs ys));
-      bytes = q .bytes ∙ ap (λ (o : Text). written o mid ys) (p .bytes) ∙ ap (λ (n : ℕ). written (written out at xs) n ys) (p .place) ∙ written-twice out at xs ys h
+      bytes = q .bytes ∙ ap (λ (o : Text). written o mid ys) (p .bytes) ∙ ap (λ (n : ℕ). written (written out at xs) n ys) (p .place) ∙ written-twice out at xs ys h;
     }
 
 -- the same text, written otherwise

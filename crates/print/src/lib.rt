@@ -1,10 +1,13 @@
 // Answers as lines of text in lent bytes.
-ghost use mathlib.Core.List.{[], _∷_};
+use model::Answer;
+ghost use mathlib.Core.List.{[], _∷_, _++_, map};
 ghost use mathlib.Core.Path.{_≡_};
-ghost use Prim.Native.Nat.{_<_};
-ghost use lib.ListN.{length};
+ghost use Prim.Native.Nat.{_≤_, _<_};
+ghost use lib.ListN.{length, take};
+ghost use Rattle.model.specs.OneCall.{unpack, observed};
+ghost use Rattle.model.specs.Steps.{pairs};
 ghost use Rattle.text.specs.Numerals.{digit, printedNumber};
-ghost use Rattle.print.specs.Answers.{Fits, Put};
+ghost use Rattle.print.specs.Answers.{signed, yesOrNo, entryText, entriesText, answerText, answerLine, Fits, Put, Printable};
 
 // Writes one byte.
 fn put_byte(out: &mut [u8], at: usize, b: u8) -> usize
@@ -85,4 +88,83 @@ fn put_number(out: &mut [u8], at: usize, x: u32) -> usize
     }
     out[at] = digit_of(rest);
     end
+}
+
+// Writes a sign, a blank and a number.
+fn put_signed(out: &mut [u8], at: usize, sign: u8, x: u32) -> usize
+    requires { ⌜ Fits (signed sign x) (now out) at ⌝ }
+    ensures { λ r. ⌜ Put (signed sign x) (now (out .entry)) at r (now (out .exit)) ⌝ }
+{
+    let behind_sign = put_byte(out, at, sign);
+    let behind_blank = put_byte(out, behind_sign, b' ');
+    put_number(out, behind_blank, x)
+}
+
+// Writes T or NIL.
+fn put_yes_or_no(out: &mut [u8], at: usize, yes: bool) -> usize
+    requires { ⌜ Fits (yesOrNo yes) (now out) at ⌝ }
+    ensures { λ r. ⌜ Put (yesOrNo yes) (now (out .entry)) at r (now (out .exit)) ⌝ }
+{
+    if yes {
+        return put_byte(out, at, b'T');
+    }
+    put_text(out, at, b"NIL")
+}
+
+// Writes an entry of the answer list: a blank, its edge, a colon, its node.
+fn put_entry(out: &mut [u8], at: usize, w: u32) -> usize
+    requires { ⌜ Fits (entryText (unpack w)) (now out) at ⌝ }
+    ensures { λ r. ⌜ Put (entryText (unpack w)) (now (out .entry)) at r (now (out .exit)) ⌝ }
+{
+    let behind_blank = put_byte(out, at, b' ');
+    let behind_edge = put_number(out, behind_blank, w / 65536);
+    let behind_colon = put_byte(out, behind_edge, b':');
+    put_number(out, behind_colon, w % 65536)
+}
+
+// Writes the first entries of the answer list.
+fn put_entries(out: &mut [u8], at: usize, list: &[u32], count: usize) -> usize
+    requires { ⌜ (count ≤ length (now list)) × Fits (entriesText (map unpack (take count (now list)))) (now out) at ⌝ }
+    ensures { λ r. ⌜ Put (entriesText (map unpack (take count (now (list .entry))))) (now (out .entry)) at r (now (out .exit)) ⌝ }
+{
+    let mut end = at;
+    let mut i = 0;
+    while i < count {
+        end = put_entry(out, end, list[i]);
+        i += 1;
+    }
+    end
+}
+
+// Writes L, a count and so many entries of the answer list.
+fn put_list(out: &mut [u8], at: usize, list: &[u32], k: usize) -> usize
+    requires { ⌜ (k ≤ length (now list)) × (k ≤ 4294967295) × Fits (answerText (pairs k (map unpack (take k (now list))))) (now out) at ⌝ }
+    ensures { λ r. ⌜ Put (answerText (pairs k (map unpack (take k (now (list .entry)))))) (now (out .entry)) at r (now (out .exit)) ⌝ }
+{
+    let behind_count = put_signed(out, at, b'L', k as u32);
+    put_entries(out, behind_count, list, k)
+}
+
+// Writes the text of an answer.
+fn put_answer_text(out: &mut [u8], at: usize, a: Answer, list: &[u32]) -> usize
+    requires { ⌜ Printable (answerText (observed a (now list))) a (now list) (now out) at ⌝ }
+    ensures { λ r. ⌜ Put (answerText (observed a (now (list .entry)))) (now (out .entry)) at r (now (out .exit)) ⌝ }
+{
+    match a {
+        Answer::Refusal(number) => put_signed(out, at, b'R', number),
+        Answer::Name(x) => put_signed(out, at, b'=', x as u32),
+        Answer::Value(v) => put_signed(out, at, b'V', v),
+        Answer::YesNo(b) => put_yes_or_no(out, at, b),
+        Answer::List(k) => put_list(out, at, list, k),
+    }
+}
+
+// Writes the line of an answer, with the list that was lent to the call, and says where the line ends.
+// It is pub for the crate above, which has proved what it requires.
+pub fn put_answer(out: &mut [u8], at: usize, a: Answer, list: &[u32]) -> usize
+    requires { ⌜ Printable (answerLine (observed a (now list))) a (now list) (now out) at ⌝ }
+    ensures { λ r. ⌜ Put (answerLine (observed a (now (list .entry)))) (now (out .entry)) at r (now (out .exit)) ⌝ }
+{
+    let behind_text = put_answer_text(out, at, a, list);
+    put_byte(out, behind_text, b'\n')
 }
