@@ -1,0 +1,5 @@
+pub mod Puts
+pub mod Copying
+pub mod Filling
+pub mod Parts
+pub mod Entries
