@@ -7,9 +7,10 @@ use mathlib.Core.Option.{Option, none, some}
 use mathlib.Core.Path.{_≡_, refl, sym, ap, ap₂, _∙_, subst}
 use Prim.Native.Nat.{ℕ, _+_, _-_, _*_, _/_, _%_, _≤_}
 use native.Mathlib.Omega.{arith}
-use lib.ListN.{length, drop, length-map}
+use lib.ListN.{length, drop, length-append, length-drop, length-map}
 use lib.Seq.{take-at}
 use Rattle.model.specs.declared.Call.{Call}
+use Rattle.model.specs.declared.Answer.{Answer}
 use Rattle.model.specs.declared.Answer.the-variants.{Refusal}
 use Rattle.model.specs.declared.Pair.{Pair}
 use Rattle.model.specs.Keys.{mostName}
@@ -27,7 +28,7 @@ use Rattle.model.specs.Machine.{State, outcomeOf, machine, answers, fina
 use Rattle.model.specs.Buffer.{capacityOf, tupleAt, usedOf, freeOf, tuplesOf, isStore}
 use Rattle.model.specs.Rules.{TupleRules}
 use Rattle.model.specs.Entries.{PointsOut, PointsIn, IsPair, Entry}
-use Rattle.model.specs.OneCall.{answerOf, nameCount, pack, unpack, listAfter, observed, OneCall}
+use Rattle.model.specs.OneCall.{answerOf, listCount, nameCount, pack, unpack, listAfter, observed, OnStore, OneCall}
 use Rattle.model.specs.CallLists.{CallMade, Trace, end, then, requestOf, requests, FullExactly, WholeList, Demand3}
 use Rattle.model.proofs.Taken.{EveryPair}
 use Rattle.model.proofs.Entries.{listed-sound}
@@ -123,6 +124,31 @@ answer-ten (name x) = (λ e. cc, λ e. cc)
 answer-ten (valued v) = (λ e. cc, λ e. cc)
 answer-ten (yesNo b) = (λ e. cc, λ e. cc)
 answer-ten (pairs k ps) = (λ e. cc, λ e. cc)
+
+-- an answer of the machine lists no more pairs than its list has places
+listed-within : (C : ℕ) (ts : State) (c : Call) (room : ℕ) (l : List ℕ) → length (listAfter (machine C ts c room .answer) l) ≡ length l
+    → listCount (answerOf (machine C ts c room .answer)) ≤ length l
+unfolding machine outcomeOf reply listAfter answerOf listCount
+listed-within C ts c room l = go (refusalOf C ts c room)
+  where
+    of-reply : (op : Operator) → length (listAfter (reply op c ts) l) ≡ length l → listCount (answerOf (reply op c ts)) ≤ length l
+    of-reply (Create o) e = omega arith
+    of-reply (Bind o) e = omega arith
+    of-reply (Values o) e = omega arith
+    of-reply (Exists o) e = omega arith
+    of-reply (Destroy r) e = omega arith
+    of-reply (Lists x) e =
+        let ps : List Pair = listed x c ts in
+        omega (arith, e, length-append (map pack ps) (drop (length ps) l), length-map ps pack, length-drop (length ps) l)
+
+    go : (r : Option ℕ) → length (listAfter (outcomeOf r ts c .answer) l) ≡ length l → listCount (answerOf (outcomeOf r ts c .answer)) ≤ length l
+    go (some number) e = omega arith
+    go none e = of-reply (operatorOf (c .operator)) e
+
+-- .. nor does a call on a store
+pub answer-within : (b l b′ l′ : List ℕ) (c : Call) (a : Answer) → OnStore b l c a b′ l′ → length l′ ≡ length l → listCount a ≤ length l
+answer-within b l b′ l′ c a O e =
+    subst (λ (x : Answer). listCount x ≤ length l) (sym (O .answer)) (listed-within (capacityOf b) (tuplesOf b) c (length l) l (ap length (sym (O .list)) ∙ e))
 
 -- ---- the whole list
 

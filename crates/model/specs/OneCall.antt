@@ -28,6 +28,14 @@ answerOf (valued v) = Value v
 answerOf (yesNo b) = YesNo b
 answerOf (pairs k ps) = Listed k
 
+-- how many pairs an answer lists
+unfoldable pub listCount : Answer → ℕ
+listCount (Refusal number) = 0
+listCount (Name x) = 0
+listCount (Value v) = 0
+listCount (YesNo b) = 0
+listCount (Listed k) = k
+
 -- how many names a half of a word can hold
 abbrev pub nameCount : ℕ
 nameCount = 65536

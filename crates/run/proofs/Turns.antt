@@ -10,24 +10,21 @@ use Rattle.model.specs.declared.Call.{Call}
 use Rattle.model.specs.declared.Answer.{Answer}
 use Rattle.model.specs.Machine.{State, Request, machine}
 use Rattle.model.specs.Buffer.{capacityOf, tuplesOf, isStore, pastRecords}
-use Rattle.model.specs.OneCall.{answerOf, listAfter, OnStore, OneCall}
+use Rattle.model.specs.OneCall.{answerOf, listCount, listAfter, OnStore, OneCall}
 use Rattle.model.specs.CallLists.{CallMade, WholeList}
 use Rattle.model.proofs.Bools.{clash}
-use Rattle.model.proofs.CallLists.{no-calls, one-more}
+use Rattle.model.proofs.CallLists.{answer-within, no-calls, one-more}
 use Rattle.records.proofs.Words.{capacity-length}
-use Rattle.run.specs.Words.{answerWords, callAt, roomAt, requestAt, callsFrom, kindOf, numberOf, listCount, putAnswer}
+use Rattle.run.specs.Words.{answerWords, callAt, roomAt, requestAt, callsFrom, kindOf, numberOf, putAnswer}
 use Rattle.run.specs.Runs.{callMade, callsMade, answersAfter, listsAfter, roomsOf, Left, OneRun}
-use Rattle.run.proofs.WordLaws.{calls-start, calls-next, calls-end, answer-length, answer-first, answer-rest, listed-within}
+use Rattle.run.proofs.WordLaws.{calls-start, calls-next, calls-end, answer-length, answer-first, answer-rest}
 use Rattle.run.proofs.Fits.{rooms-next}
 
 -- ---- one call
 
 -- the number of pairs that a call lists fits a word, since the length of its list does
 pub count-fits : (b l b′ l′ : List ℕ) (c : Call) (a : Answer) → OnStore b l c a b′ l′ → length l′ ≡ length l → length l ≤ 4294967295 → listCount a ≤ 4294967295
-count-fits b l b′ l′ c a O e h =
-    let r = machine (capacityOf b) (tuplesOf b) c (length l) .answer in
-    let k : listCount (answerOf r) ≤ length l = listed-within (capacityOf b) (tuplesOf b) c (length l) l (ap length (sym (O .list)) ∙ e) in
-    subst (λ (x : Answer). listCount x ≤ 4294967295) (sym (O .answer)) (omega arith)
+count-fits b l b′ l′ c a O e h = let k : listCount a ≤ length l = answer-within b l b′ l′ c a O e in omega arith
 
 -- a call and its answer written are what the machine makes of it
 pub one-run : (b ws : List ℕ) (i : ℕ) (answers l b′ answers′ l′ : List ℕ) (c : Call) (a : Answer)

@@ -1,6 +1,5 @@
 -- Calls and answers as words: what the functions on six words and on two words give.
 use mathlib.Core.List.{List, [], _∷_, _++_, map, append-assoc}
-use mathlib.Core.Option.{Option, none, some}
 use mathlib.Core.Path.{_≡_, refl, sym, ap, ap₂, _∙_}
 use Prim.Native.Nat.{ℕ, zero, suc, _+_, _-_, _*_, _≤_, _<_}
 use native.Mathlib.Omega.{arith}
@@ -10,16 +9,8 @@ use Rattle.model.specs.declared.Call.{Call}
 use Rattle.model.specs.declared.Space.{Space}
 use Rattle.model.specs.declared.Space.the-variants.{Universe, Numbered}
 use Rattle.model.specs.declared.Answer.{Answer}
-use Rattle.model.specs.declared.Operator.{Operator}
-use Rattle.model.specs.declared.Operator.the-variants.{Create, Bind, Value as Values, Exists, Destroy, List as Lists}
-use Rattle.model.specs.declared.Pair.{Pair}
-use Rattle.model.specs.Operators.{operatorOf}
-use Rattle.model.specs.Steps.{listed, reply}
-use Rattle.model.specs.Refusals.{refusalOf}
-use Rattle.model.specs.Machine.{State, outcomeOf, machine}
 use Rattle.model.specs.Buffer.{word}
-use Rattle.model.specs.OneCall.{answerOf, pack, listAfter}
-use Rattle.run.specs.Words.{callWords, answerWords, spaceOf, lower, upper, callAt, requestAt, callsFrom, kindOf, numberOf, listCount, putAnswer}
+use Rattle.run.specs.Words.{callWords, answerWords, spaceOf, lower, upper, callAt, requestAt, callsFrom, kindOf, numberOf, putAnswer}
 
 -- ---- a call
 
@@ -117,23 +108,3 @@ module _ (ws : List ℕ) (i : ℕ) (a : Answer) (h : answerWords * i + 2 ≤ len
       ∙ drop-set-lt (answerWords * (i + 1)) ws at (kindOf a) (omega arith)
       ∙ ap (λ (k : ℕ). drop k ws) e
       ∙ sym (drop-drop answerWords at ws)
-
--- an answer of the machine lists no more pairs than its list has places
-pub listed-within : (C : ℕ) (ts : State) (c : Call) (room : ℕ) (l : List ℕ) → length (listAfter (machine C ts c room .answer) l) ≡ length l
-    → listCount (answerOf (machine C ts c room .answer)) ≤ length l
-unfolding machine outcomeOf reply listAfter answerOf listCount
-listed-within C ts c room l = go (refusalOf C ts c room)
-  where
-    of-reply : (op : Operator) → length (listAfter (reply op c ts) l) ≡ length l → listCount (answerOf (reply op c ts)) ≤ length l
-    of-reply (Create o) e = omega arith
-    of-reply (Bind o) e = omega arith
-    of-reply (Values o) e = omega arith
-    of-reply (Exists o) e = omega arith
-    of-reply (Destroy r) e = omega arith
-    of-reply (Lists x) e =
-        let ps : List Pair = listed x c ts in
-        omega (arith, e, length-append (map pack ps) (drop (length ps) l), length-map ps pack, length-drop (length ps) l)
-
-    go : (r : Option ℕ) → length (listAfter (outcomeOf r ts c .answer) l) ≡ length l → listCount (answerOf (outcomeOf r ts c .answer)) ≤ length l
-    go (some number) e = omega arith
-    go none e = of-reply (operatorOf (c .operator)) e

@@ -90,14 +90,6 @@ numberOf (Value v) = v
 numberOf (YesNo b) = bitOf b
 numberOf (Listed k) = k
 
--- how many pairs an answer lists
-unfoldable pub listCount : Answer → ℕ
-listCount (Refusal number) = 0
-listCount (Name x) = 0
-listCount (Value v) = 0
-listCount (YesNo b) = 0
-listCount (Listed k) = k
-
 -- answer i written
 unfoldable pub putAnswer : List ℕ → ℕ → Answer → List ℕ
 putAnswer ws i a = set (set ws (answerWords * i) (kindOf a)) (answerWords * i + 1) (numberOf a)

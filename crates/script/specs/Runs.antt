@@ -34,7 +34,9 @@ pub data Called (b l : List ℕ) (b′ l′ : List ℕ) : Reading → Type 0 whe
 -- a line that is run on a store: what it leaves of the store and the list, and its answer in the output
 pub record LineRun (b l : List ℕ) (line : Text) (out : Text) (at : ℕ) (b′ l′ : List ℕ) (end : ℕ) (out′ : Text) : Type 0 where
   pub called : Called b l b′ l′ (readLine line)
+  pub places : length l′ ≡ length l
   pub put : Put (answerLine (lineOutcome (tuplesOf b) line .answer)) out at end out′
+  pub within : end ≤ length out
 
 -- ---- as many lines as there is room for
 

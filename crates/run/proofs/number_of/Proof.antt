@@ -1,6 +1,7 @@
 use native.Mathlib.Omega.{arith}
 use mathlib.Core.Path.{sym, ap, _∙_}
-use Rattle.run.specs.Words.{numberOf, listCount}
+use Rattle.model.specs.OneCall.{listCount}
+use Rattle.run.specs.Words.{numberOf}
 use borrow.Author.Needs.{needs}
 use Rattle.run.proofs.number_of.Statement.{statement}
 use Rattle.run.proofs.number_of.Tie as tie

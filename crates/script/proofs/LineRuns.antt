@@ -1,0 +1,109 @@
+-- One line on a store: a call and its answer printed, or a refusal printed and no call.
+use mathlib.Core.Bool.{true}
+use mathlib.Core.List.{List}
+use mathlib.Core.Path.{_≡_, refl, sym, _∙_, ap, ap₂, subst}
+use Prim.Native.Nat.{ℕ, _≤_}
+use native.Mathlib.Omega.{arith}
+use lib.ListN.{length}
+use Rattle.model.specs.declared.Call.{Call}
+use Rattle.model.specs.declared.Answer.{Answer}
+use Rattle.model.specs.declared.Answer.the-variants.{Refusal}
+use Rattle.model.specs.Steps.{Reply}
+use Rattle.model.specs.Machine.{State, Outcome, machine}
+use Rattle.model.specs.Buffer.{capacityOf, tuplesOf, isStore, pastRecords}
+use Rattle.model.specs.OneCall.{answerOf, listAfter, observed, OnStore}
+use Rattle.model.proofs.Store.{store-rules}
+use Rattle.model.proofs.CallLists.{observed-machine}
+use Rattle.text.specs.Bytes.{Text}
+use Rattle.lines.specs.declared.Reading.{Reading}
+use Rattle.lines.specs.declared.Reading.the-variants.{Read, Refused}
+use Rattle.lines.specs.Calls.{readLine}
+use Rattle.print.specs.Answers.{answerLine, Put}
+use Rattle.script.specs.Scripts.{scriptRecords, scriptPlaces, outcomeOf, lineOutcome}
+use Rattle.script.specs.Runs.{Ready, Called, call, no-call, LineRun, lineList}
+
+-- ---- what was run
+
+module _ (b l : List ℕ) (line : Text) (out : Text) (at : ℕ) where
+  -- the machine of a script is that of the store and its list
+  as-machine : (c : Call) → Ready b l → machine (capacityOf b) (tuplesOf b) c (length l) ≡ machine scriptRecords (tuplesOf b) c scriptPlaces
+  as-machine c R = ap₂ (λ (C room : ℕ). machine C (tuplesOf b) c room) (R .records) (R .places)
+
+  -- what a caller of the call is told is what the line answers
+  call-reply : (c : Call) (a : Answer) (b′ l′ : List ℕ) → Ready b l → readLine line ≡ Read c → OnStore b l c a b′ l′ → observed a l′ ≡ lineOutcome (tuplesOf b) line .answer
+  unfolding lineOutcome outcomeOf
+  call-reply c a b′ l′ R e O =
+      ap₂ observed (O .answer) (O .list)
+      ∙ observed-machine (capacityOf b) (tuplesOf b) c (length l) l (store-rules b (R .store) .tuples)
+      ∙ ap (λ (o : Outcome). o .answer) (as-machine c R)
+      ∙ ap (λ (r : Reading). outcomeOf (tuplesOf b) r .answer) (sym e)
+
+  pub call-run : (c : Call) (a : Answer) (b′ l′ : List ℕ) (end : ℕ) (out′ : Text) → Ready b l → readLine line ≡ Read c → OnStore b l c a b′ l′ → length l′ ≡ length l
+      → Put (answerLine (observed a l′)) out at end out′ → end ≤ length out → LineRun b l line out at b′ l′ end out′
+  call-run c a b′ l′ end out′ R e O k P w =
+      record {
+        called =
+            subst (Called b l b′ l′) (sym e)
+            (call (subst (λ (x : Answer). OnStore b l c x b′ l′) (O .answer) O));
+        places = k;
+        put = subst (λ (r : Reply). Put (answerLine r) out at end out′) (call-reply c a b′ l′ R e O) P;
+        within = w;
+      }
+
+  -- a line that does not read as a call
+  refused-reply : (number : ℕ) → readLine line ≡ Refused number → observed (Refusal number) l ≡ lineOutcome (tuplesOf b) line .answer
+  unfolding lineOutcome outcomeOf observed
+  refused-reply number e = ap (λ (r : Reading). outcomeOf (tuplesOf b) r .answer) (sym e)
+
+  pub refused-run : (number end : ℕ) (out′ : Text) → readLine line ≡ Refused number → Put (answerLine (observed (Refusal number) l)) out at end out′ → end ≤ length out
+      → LineRun b l line out at b l end out′
+  refused-run number end out′ e P w =
+      record {
+        called = subst (Called b l b l) (sym e) (no-call refl refl);
+        places = refl;
+        put = subst (λ (r : Reply). Put (answerLine r) out at end out′) (refused-reply number e) P;
+        within = w;
+      }
+
+-- ---- what is left
+
+-- what a line leaves of the store and the list
+pub record LineLeft (b l : List ℕ) (line : Text) (b′ l′ : List ℕ) : Type 0 where
+  pub ready : Ready b′ l′
+  pub tuples : tuplesOf b′ ≡ lineOutcome (tuplesOf b) line .state
+  pub size : length b′ ≡ length b
+  pub past : pastRecords b′ ≡ pastRecords b
+  pub list : l′ ≡ lineList (tuplesOf b) (readLine line) l
+
+capacity-kept : (b b′ : List ℕ) → length b′ ≡ length b → capacityOf b′ ≡ capacityOf b
+unfolding capacityOf
+capacity-kept b b′ e = cc
+
+module _ (b l : List ℕ) (R : Ready b l) where
+  left-of : (r : Reading) (line : Text) (b′ l′ : List ℕ) → readLine line ≡ r → length l′ ≡ length l → Called b l b′ l′ r → LineLeft b l line b′ l′
+  unfolding lineOutcome outcomeOf lineList
+  left-of (Read c) line b′ l′ e k (call O) =
+      record {
+        ready = record { store = O .store; records = capacity-kept b b′ (O .size) ∙ R .records; places = k ∙ R .places };
+        tuples =
+            O .tuples
+            ∙ ap (λ (o : Outcome). o .state) (as-machine b l line line 0 c R)
+            ∙ ap (λ (r : Reading). outcomeOf (tuplesOf b) r .state) (sym e);
+        size = O .size;
+        past = O .past;
+        list =
+            O .list
+            ∙ ap (λ (o : Outcome). listAfter (o .answer) l) (as-machine b l line line 0 c R)
+            ∙ ap (λ (r : Reading). lineList (tuplesOf b) r l) (sym e);
+      }
+  left-of (Refused number) line b′ l′ e k (no-call sb sl) =
+      record {
+        ready = subst (λ (x : List ℕ). Ready x l′) (sym sb) (subst (Ready b) (sym sl) R);
+        tuples = ap tuplesOf sb ∙ ap (λ (r : Reading). outcomeOf (tuplesOf b) r .state) (sym e);
+        size = ap length sb;
+        past = ap pastRecords sb;
+        list = sl ∙ ap (λ (r : Reading). lineList (tuplesOf b) r l) (sym e);
+      }
+
+  pub line-left : (line out : Text) (at : ℕ) (b′ l′ : List ℕ) (end : ℕ) (out′ : Text) → LineRun b l line out at b′ l′ end out′ → LineLeft b l line b′ l′
+  line-left line out at b′ l′ end out′ L = left-of (readLine line) line b′ l′ refl (L .places) (L .called)

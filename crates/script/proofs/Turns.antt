@@ -1,0 +1,134 @@
+-- Line after line: what was printed so far, and what the run of the lines that are left gives, is the run of all lines.
+use mathlib.Core.Bool.{Bool, true, false, cond}
+use mathlib.Core.List.{List, [], _∷_, _++_, append-assoc}
+use mathlib.Core.Path.{_≡_, refl, sym, _∙_, ap, subst}
+use Prim.Native.Nat.{ℕ, _+_, _-_, _≤_, _<_}
+use native.Mathlib.Omega.{arith}
+use borrow.Author.Tests.{le-leb, lt-leb}
+use lib.Dec.{leb}
+use lib.ListN.{length, drop, length-append}
+use Rattle.model.specs.Machine.{State}
+use Rattle.model.specs.Buffer.{tuplesOf, pastRecords}
+use Rattle.text.specs.Bytes.{Text, written}
+use Rattle.text.proofs.Written.{written-nil, written-twice, length-written}
+use Rattle.lines.specs.Lines.{linesOf}
+use Rattle.lines.specs.Calls.{readLine}
+use Rattle.print.specs.Answers.{answerLine, Put, mostLine}
+use Rattle.script.specs.declared.Block.{Block}
+use Rattle.script.specs.Scripts.{lineOutcome}
+use Rattle.script.specs.Runs.{Ready, LineRun, Run, lineList, printedBefore, runLines, BlockRun}
+use Rattle.script.proofs.LineRuns.{LineLeft, line-left}
+
+-- no line is run
+abbrev pub unrun : State → List ℕ → List Text → Run
+unrun ts l xs = record { text = []; state = ts; list = l; rest = xs }
+
+-- where there is no room for a line none is run, and none where there is no line
+pub no-room : (room : ℕ) (ts : State) (l : List ℕ) (xs : List Text) → room < mostLine → runLines room ts l xs ≡ unrun ts l xs
+unfolding runLines
+no-room room ts l [] h = refl
+no-room room ts l (x ∷ xs) h = ap (λ (b : Bool). cond b _ (unrun ts l (x ∷ xs))) (lt-leb mostLine room h)
+
+pub no-line : (room : ℕ) (ts : State) (l : List ℕ) (xs : List Text) → xs ≡ [] → runLines room ts l xs ≡ unrun ts l xs
+unfolding runLines
+no-line room ts l xs e = ap (runLines room ts l) e ∙ ap (unrun ts l) (sym e)
+
+-- where there is room for a line, the first is run
+one-line : (room : ℕ) (ts : State) (l : List ℕ) (x : Text) (xs : List Text) → mostLine ≤ room
+    → runLines room ts l (x ∷ xs)
+    ≡ printedBefore (answerLine (lineOutcome ts x .answer)) (runLines (room - length (answerLine (lineOutcome ts x .answer))) (lineOutcome ts x .state) (lineList ts (readLine x) l) xs)
+unfolding runLines
+one-line room ts l x xs h = ap (λ (b : Bool). cond b _ (unrun ts l (x ∷ xs))) (le-leb mostLine room h)
+
+-- two texts printed before a run
+printed-twice : (as bs : Text) (r : Run) → printedBefore as (printedBefore bs r) ≡ printedBefore (as ++ bs) r
+printed-twice as bs r = ap (λ (cs : Text). record { text = cs; state = r .state; list = r .list; rest = r .rest }) (sym (append-assoc as bs (r .text)))
+
+-- the lines of a script from place `from` to place `at`, run on a store and printed to the first `size` bytes of an output
+pub record Running (b₀ l₀ : List ℕ) (script : Text) (from : ℕ) (out₀ : Text) (b l : List ℕ) (at size : ℕ) (out : Text) : Type 0 where
+  pub ready : Ready b l
+  pub words : length b ≡ length b₀
+  pub past : pastRecords b ≡ pastRecords b₀
+  pub within : at ≤ length script
+  pub onward : from ≤ at
+  pub unmoved : at ≡ from → size ≡ 0
+  pub fits : size ≤ length out₀
+  pub done : Text
+  pub put : Put done out₀ 0 size out
+  pub run : runLines (length out₀) (tuplesOf b₀) l₀ (linesOf (drop from script)) ≡ printedBefore done (runLines (length out₀ - size) (tuplesOf b) l (linesOf (drop at script)))
+
+module _ (b₀ l₀ : List ℕ) (script : Text) (from : ℕ) (out₀ : Text) where
+  pub run-start : Ready b₀ l₀ → from ≤ length script → Running b₀ l₀ script from out₀ b₀ l₀ from 0 out₀
+  run-start R h =
+      record {
+        ready = R;
+        words = refl;
+        past = refl;
+        within = h;
+        onward = omega arith;
+        unmoved = λ e. refl;
+        fits = omega arith;
+        done = [];
+        put = record { place = refl; bytes = sym (written-nil out₀ 0) };
+        run = refl;
+      }
+
+  -- one more line
+  pub run-line : (b l : List ℕ) (at size : ℕ) (out line : Text) (b′ l′ : List ℕ) (end : ℕ) (out′ : Text) (next : ℕ)
+      → Running b₀ l₀ script from out₀ b l at size out → mostLine ≤ length out₀ - size
+      → at < next → next ≤ length script → linesOf (drop at script) ≡ line ∷ linesOf (drop next script)
+      → LineRun b l line out size b′ l′ end out′ → Running b₀ l₀ script from out₀ b′ l′ next end out′
+  run-line b l at size out line b′ l′ end out′ next S room onward within split L =
+      let left : LineLeft b l line b′ l′ = line-left b l (S .ready) line out size b′ l′ end out′ L in
+      let a : Text = answerLine (lineOutcome (tuplesOf b) line .answer) in
+      let sized : length out ≡ length out₀
+      = ap length (S .put .bytes) ∙ length-written out₀ 0 (S .done) (omega (arith, S .put .place, S .fits)) in
+      let grown : length (S .done ++ a) ≡ length (S .done) + length a = length-append (S .done) a in
+      let room′ : length out₀ - size - length a ≡ length out₀ - end = omega (arith, L .put .place) in
+      let later : Run = runLines (length out₀ - end) (tuplesOf b′) l′ (linesOf (drop next script)) in
+      let first : runLines (length out₀ - size) (tuplesOf b) l (linesOf (drop at script)) ≡ printedBefore a later
+      = ap (runLines (length out₀ - size) (tuplesOf b) l) split
+        ∙ one-line (length out₀ - size) (tuplesOf b) l line (linesOf (drop next script)) room
+        ∙ ap (λ (n : ℕ). printedBefore a (runLines n (lineOutcome (tuplesOf b) line .state) (lineList (tuplesOf b) (readLine line) l) (linesOf (drop next script)))) room′
+        ∙ ap (λ (ts : State). printedBefore a (runLines (length out₀ - end) ts (lineList (tuplesOf b) (readLine line) l) (linesOf (drop next script)))) (sym (left .tuples))
+        ∙ ap (λ (k : List ℕ). printedBefore a (runLines (length out₀ - end) (tuplesOf b′) k (linesOf (drop next script)))) (sym (left .list)) in
+      record {
+        ready = left .ready;
+        words = left .size ∙ S .words;
+        past = left .past ∙ S .past;
+        within = within;
+        onward = omega (arith, S .onward);
+        unmoved = λ e. absurd (omega (arith, S .onward, e));
+        fits = omega (arith, L .within, sized);
+        done = S .done ++ a;
+        put =
+            record {
+              place = omega (arith, L .put .place, S .put .place, grown);
+              bytes =
+                  L .put .bytes
+                  ∙ ap (λ (o : Text). written o size a) (S .put .bytes)
+                  ∙ ap (λ (n : ℕ). written (written out₀ 0 (S .done)) n a) (S .put .place)
+                  ∙ written-twice out₀ 0 (S .done) a (omega arith);
+            };
+        run = S .run ∙ ap (printedBefore (S .done)) first ∙ printed-twice (S .done) a later;
+      }
+
+  -- where no further line is run
+  pub run-end : (b l : List ℕ) (at size : ℕ) (out : Text) → Running b₀ l₀ script from out₀ b l at size out
+      → runLines (length out₀ - size) (tuplesOf b) l (linesOf (drop at script)) ≡ unrun (tuplesOf b) l (linesOf (drop at script))
+      → (from < length script → mostLine ≤ length out₀ → from < at)
+      → BlockRun (runLines (length out₀) (tuplesOf b₀) l₀ (linesOf (drop from script))) b₀ script from out₀ (record { next = at; length = size }) b l out
+  run-end b l at size out S e forward =
+      let done : runLines (length out₀) (tuplesOf b₀) l₀ (linesOf (drop from script)) ≡ printedBefore (S .done) (unrun (tuplesOf b) l (linesOf (drop at script)))
+      = S .run ∙ ap (printedBefore (S .done)) e in
+      record {
+        ready = S .ready;
+        tuples = sym (ap (λ (u : Run). u .state) done);
+        size = S .words;
+        past = S .past;
+        list = sym (ap (λ (u : Run). u .list) done);
+        put = subst (λ (bs : Text). Put bs out₀ 0 size out) (sym (ap (λ (u : Run). u .text) done ∙ append-nil (S .done))) (S .put);
+        within = S .within;
+        rest = sym (ap (λ (u : Run). u .rest) done);
+        forward = forward;
+      }
