@@ -3,3 +3,4 @@ pub mod Copying
 pub mod Filling
 pub mod Parts
 pub mod Entries
+pub mod Lengths

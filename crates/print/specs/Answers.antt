@@ -43,6 +43,10 @@ answerText (pairs k ps) = signed L k ++ entriesText ps
 unfoldable pub answerLine : Reply → Text
 answerLine r = answerText r ++ (lineFeed ∷ [])
 
+-- the longest line: `L 2048`, 2,048 entries of at most 12 bytes, a line feed
+abbrev pub mostLine : ℕ
+mostLine = 24583
+
 -- lent bytes have room for a text from a place on
 abbrev pub Fits : Text → Text → ℕ → Type 0
 Fits bs out at = at + length bs ≤ length out

@@ -146,8 +146,19 @@ printed-within j x h = of-printed (λ (x : ℕ) (ds : Text). (j : ℕ) → x < 1
     more x ds h ih zero b = absurd (omega arith)
     more x ds h ih (suc j) b = omega (arith, length-append ds (digit (x % 10) ∷ []), ih j (tenth (suc j) x b))
 
-pub printed-ten : (x : ℕ) → x ≤ 4294967295 → length (printedNumber x) ≤ 10
-printed-ten x h = printed-within 9 x h (omega arith)
+-- no number has more digits than there is room for
+most-digits : (k x : ℕ) → length (printedIn k x) ≤ k
+unfolding printedIn
+most-digits zero x = omega arith
+most-digits (suc k) x = go (ltb x 10) refl (most-digits k (x / 10))
+  where
+    go : (b : Bool) → ltb x 10 ≡ b → length (printedIn k (x / 10)) ≤ k → length (printedIn (suc k) x) ≤ suc k
+    go true e ih = omega (arith, ap length (printed-digit k x (ltb-true x 10 e)))
+    go false e ih = omega (arith, ap length (printed-digits k x (ltb-false x 10 e)), length-append (printedIn k (x / 10)) (digit (x % 10) ∷ []))
+
+pub printed-ten : (x : ℕ) → length (printedNumber x) ≤ 10
+unfolding printedNumber
+printed-ten x = most-digits 10 x
 
 pub printed-five : (x : ℕ) → x ≤ 65535 → length (printedNumber x) ≤ 5
 printed-five x h = printed-within 4 x (omega arith) (omega arith)
