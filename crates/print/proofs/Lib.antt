@@ -4,3 +4,4 @@ pub mod Filling
 pub mod Parts
 pub mod Entries
 pub mod Lengths
+pub mod Apart
