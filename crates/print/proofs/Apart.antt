@@ -3,14 +3,13 @@ use mathlib.Core.Bool.{Bool, true, false}
 use mathlib.Core.List.{List, [], _∷_, _++_, append-assoc}
 use mathlib.Core.Path.{_≡_, refl, sym, ap, _∙_, subst}
 use Prim.Native.Nat.{ℕ, _≤_}
-use native.Mathlib.Omega.{arith}
 use lib.Dec.{eqb}
 use lib.ListN.{drop, getD}
 use borrow.Author.Tests.{eqb-false}
 use Rattle.model.specs.declared.Pair.{Pair}
 use Rattle.model.specs.Pairs.{pair, edgeOf, nodeOf}
 use Rattle.model.specs.Steps.{Reply, refusal, name, valued, yesNo, pairs}
-use Rattle.text.specs.Bytes.{Text, lineFeed, blank, equalsSign, colon, I, L, N, R, T, «V»}
+use Rattle.text.specs.Bytes.{Text, lineFeed, blank, equalsSign, colon, L, N, R, T, «V»}
 use Rattle.text.specs.Numerals.{isDigit, printedNumber}
 use Rattle.text.proofs.Printing.{Stop, stop, printed-split}
 use Rattle.print.specs.Answers.{signed, yesOrNo, entryText, entriesText, answerText, answerLine}

@@ -8,7 +8,6 @@ use Rattle.model.specs.declared.Answer.{Answer}
 use Rattle.model.specs.declared.Answer.the-variants.{Refusal, Name, Value, YesNo, List as Listed}
 use Rattle.model.specs.declared.Pair.{Pair}
 use Rattle.model.specs.Pairs.{edgeOf, nodeOf}
-use Rattle.model.specs.OneCall.{observed}
 use Rattle.model.specs.Steps.{Reply, refusal, name, valued, yesNo, pairs}
 use Rattle.text.specs.Bytes.{Text, lineFeed, blank, equalsSign, colon, written, I, L, N, R, T, «V»}
 use Rattle.text.specs.Numerals.{printedNumber}

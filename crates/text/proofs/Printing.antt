@@ -1,13 +1,12 @@
 -- Numbers printed in base ten: they read back, and how long they are.
-use mathlib.Core.Bool.{Bool, true, false, cond, not, _&&_, true≢false}
-use mathlib.Core.List.{List, [], _∷_, _++_}
-use mathlib.Core.Logic.{_↔_}
+use mathlib.Core.Bool.{Bool, true, false, not, _&&_, true≢false}
+use mathlib.Core.List.{[], _∷_, _++_}
 use mathlib.Core.Option.{some}
 use mathlib.Core.Path.{_≡_, refl, sym, ap, _∙_, subst}
 use Prim.Native.Nat.{ℕ, zero, suc, _+_, _-_, _*_, _/_, _%_, _^_, _≤_, _<_}
 use native.Mathlib.Nat.{div-lt-iff-lt-mul, pow-suc}
 use native.Mathlib.Omega.{arith}
-use lib.Dec.{eqb, leb, ltb}
+use lib.Dec.{eqb, ltb}
 use lib.ListN.{length, drop, getD, length-append}
 use borrow.Author.Tests.{ltb-true, ltb-false, lt-ltb, le-ltb, le-leb, ne-eqb}
 use Rattle.text.specs.Bytes.{Text}
