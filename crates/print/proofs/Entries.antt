@@ -1,12 +1,11 @@
 -- The entries of a list put one after the other.
 use mathlib.Core.List.{List, [], _∷_, _++_, map, append-assoc, append-nil}
-use mathlib.Core.Path.{_≡_, refl, sym, ap, _∙_, subst}
+use mathlib.Core.Path.{_≡_, refl, sym, ap, _∙_}
 use Prim.Native.Nat.{ℕ, _+_, _-_, _≤_, _<_}
 use native.Mathlib.Numerals.{add-one}
 use native.Mathlib.Omega.{arith}
 use lib.ListN.{length, take, drop, getD}
 use lib.Seq.{take-suc, take-add}
-use Rattle.model.specs.declared.Pair.{Pair}
 use Rattle.model.specs.OneCall.{unpack}
 use Rattle.text.specs.Bytes.{Text}
 use Rattle.print.specs.Answers.{entryText, entriesText, Put}

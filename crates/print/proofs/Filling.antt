@@ -1,6 +1,6 @@
 -- A number's digits put from the last one backwards.
-use mathlib.Core.List.{List, [], _∷_, _++_, append-nil, append-assoc}
-use mathlib.Core.Path.{_≡_, refl, sym, ap, _∙_, subst}
+use mathlib.Core.List.{[], _∷_, _++_, append-nil, append-assoc}
+use mathlib.Core.Path.{_≡_, sym, ap, _∙_}
 use Prim.Native.Nat.{ℕ, _+_, _-_, _/_, _%_, _≤_, _<_}
 use native.Mathlib.Omega.{arith}
 use lib.ListN.{length, set, length-append, length-set}
@@ -8,7 +8,7 @@ use Rattle.text.specs.Bytes.{Text, written}
 use Rattle.text.specs.Numerals.{digit, printedNumber}
 use Rattle.text.proofs.Written.{written-nil, written-before, length-written}
 use Rattle.text.proofs.Printing.{printed-short, printed-long, printed-some}
-use Rattle.print.specs.Answers.{Fits, Put}
+use Rattle.print.specs.Answers.{Put}
 
 -- the digits behind those of `rest` stand at their places from `to` on
 pub record Filling (out : Text) (at x : ℕ) (out′ : Text) (to rest : ℕ) : Type 0 where

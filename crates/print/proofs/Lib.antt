@@ -3,3 +3,5 @@ pub mod Copying
 pub mod Filling
 pub mod Parts
 pub mod Entries
+pub mod Lengths
+pub mod Apart

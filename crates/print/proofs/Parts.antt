@@ -1,16 +1,16 @@
 -- Answers put part by part: the room for each part, and the whole.
 use mathlib.Core.Bool.{Bool, true, false}
 use mathlib.Core.List.{List, [], _∷_, _++_, map, append-assoc, append-nil}
-use mathlib.Core.Path.{_≡_, refl, sym, ap, _∙_, subst}
+use mathlib.Core.Path.{_≡_, refl, sym, ap, subst}
 use Prim.Native.Nat.{ℕ, _+_, _/_, _%_, _≤_}
 use native.Mathlib.Omega.{arith}
-use lib.ListN.{length, take, length-append}
+use lib.ListN.{length, take}
 use Rattle.model.specs.declared.Answer.{Answer}
 use Rattle.model.specs.OneCall.{nameCount, unpack, observed}
 use Rattle.model.specs.Steps.{Reply, pairs}
 use Rattle.text.specs.Bytes.{Text, lineFeed, blank, colon, I, L, N, T}
 use Rattle.text.specs.Numerals.{printedNumber}
-use Rattle.print.specs.Answers.{signed, yesOrNo, entryText, entriesText, answerText, answerLine, entryCount, Fits, Put, Printable}
+use Rattle.print.specs.Answers.{signed, yesOrNo, entryText, entriesText, answerText, answerLine, entryCount, Put, Printable}
 use Rattle.print.proofs.Puts.{put-then, put-same, fits-first, fits-next}
 
 -- a sign, a blank and a number

@@ -8,7 +8,6 @@ use Rattle.model.specs.declared.Answer.{Answer}
 use Rattle.model.specs.declared.Answer.the-variants.{Refusal, Name, Value, YesNo, List as Listed}
 use Rattle.model.specs.declared.Pair.{Pair}
 use Rattle.model.specs.Pairs.{edgeOf, nodeOf}
-use Rattle.model.specs.OneCall.{observed}
 use Rattle.model.specs.Steps.{Reply, refusal, name, valued, yesNo, pairs}
 use Rattle.text.specs.Bytes.{Text, lineFeed, blank, equalsSign, colon, written, I, L, N, R, T, «V»}
 use Rattle.text.specs.Numerals.{printedNumber}
@@ -42,6 +41,10 @@ answerText (pairs k ps) = signed L k ++ entriesText ps
 -- "Output, a line each": with its line feed
 unfoldable pub answerLine : Reply → Text
 answerLine r = answerText r ++ (lineFeed ∷ [])
+
+-- the longest line: `L 2048`, 2,048 entries of at most 12 bytes, a line feed
+abbrev pub mostLine : ℕ
+mostLine = 24583
 
 -- lent bytes have room for a text from a place on
 abbrev pub Fits : Text → Text → ℕ → Type 0

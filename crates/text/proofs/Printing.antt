@@ -1,14 +1,13 @@
 -- Numbers printed in base ten: they read back, and how long they are.
-use mathlib.Core.Bool.{Bool, true, false, cond, not, _&&_}
-use mathlib.Core.List.{List, [], _∷_, _++_}
-use mathlib.Core.Logic.{_↔_}
+use mathlib.Core.Bool.{Bool, true, false, not, _&&_, true≢false}
+use mathlib.Core.List.{[], _∷_, _++_}
 use mathlib.Core.Option.{some}
 use mathlib.Core.Path.{_≡_, refl, sym, ap, _∙_, subst}
 use Prim.Native.Nat.{ℕ, zero, suc, _+_, _-_, _*_, _/_, _%_, _^_, _≤_, _<_}
 use native.Mathlib.Nat.{div-lt-iff-lt-mul, pow-suc}
 use native.Mathlib.Omega.{arith}
-use lib.Dec.{eqb, leb, ltb}
-use lib.ListN.{length, length-append}
+use lib.Dec.{eqb, ltb}
+use lib.ListN.{length, drop, getD, length-append}
 use borrow.Author.Tests.{ltb-true, ltb-false, lt-ltb, le-ltb, le-leb, ne-eqb}
 use Rattle.text.specs.Bytes.{Text}
 use Rattle.text.specs.Numerals.{isDigit, allDigits, plainDigits, numberAfter, readNumber, digit, printedIn, printedNumber}
@@ -146,8 +145,19 @@ printed-within j x h = of-printed (λ (x : ℕ) (ds : Text). (j : ℕ) → x < 1
     more x ds h ih zero b = absurd (omega arith)
     more x ds h ih (suc j) b = omega (arith, length-append ds (digit (x % 10) ∷ []), ih j (tenth (suc j) x b))
 
-pub printed-ten : (x : ℕ) → x ≤ 4294967295 → length (printedNumber x) ≤ 10
-printed-ten x h = printed-within 9 x h (omega arith)
+-- no number has more digits than there is room for
+most-digits : (k x : ℕ) → length (printedIn k x) ≤ k
+unfolding printedIn
+most-digits zero x = omega arith
+most-digits (suc k) x = go (ltb x 10) refl (most-digits k (x / 10))
+  where
+    go : (b : Bool) → ltb x 10 ≡ b → length (printedIn k (x / 10)) ≤ k → length (printedIn (suc k) x) ≤ suc k
+    go true e ih = omega (arith, ap length (printed-digit k x (ltb-true x 10 e)))
+    go false e ih = omega (arith, ap length (printed-digits k x (ltb-false x 10 e)), length-append (printedIn k (x / 10)) (digit (x % 10) ∷ []))
+
+pub printed-ten : (x : ℕ) → length (printedNumber x) ≤ 10
+unfolding printedNumber
+printed-ten x = most-digits 10 x
 
 pub printed-five : (x : ℕ) → x ≤ 65535 → length (printedNumber x) ≤ 5
 printed-five x h = printed-within 4 x (omega arith) (omega arith)
@@ -173,3 +183,38 @@ printed-short x h = printed-digit 9 x h
 pub printed-long : (x : ℕ) → x ≤ 4294967295 → 10 ≤ x → printedNumber x ≡ printedNumber (x / 10) ++ (digit (x % 10) ∷ [])
 unfolding printedNumber
 printed-long x h k = printed-digits 9 x k ∙ ap (λ (ds : Text). ds ++ (digit (x % 10) ∷ [])) (sym (fits-less 8 (x / 10) (omega arith)))
+
+-- ---- where it ends
+
+-- a text whose first byte is no digit
+pub data Stop : Text → Type 0 where
+  stop : (b : ℕ) (bs : Text) → isDigit b ≡ false → Stop (b ∷ bs)
+
+digit-or-not : (b : ℕ) (t : Bool) → isDigit b ≡ false → (isDigit b && t) ≡ true → ⊥
+digit-or-not b t e h = true≢false (sym h ∙ ap (λ (x : Bool). x && t) e)
+
+-- digits up to a byte that is none are told apart from what is behind them
+digits-split : (ds es xs ys : Text) → allDigits ds ≡ true → allDigits es ≡ true → Stop xs → Stop ys → ds ++ xs ≡ es ++ ys → (ds ≡ es) × (xs ≡ ys)
+unfolding allDigits
+digits-split [] [] xs ys h k s t e = (refl, e)
+digits-split [] (c ∷ es) _ ys h k (stop b xs n) t e = absurd (digit-or-not b (allDigits es) n (subst (λ (x : ℕ). (isDigit x && allDigits es) ≡ true) (ap (λ (l : Text). getD l 0 0) (sym e)) k))
+digits-split (c ∷ ds) [] xs _ h k s (stop b ys n) e = absurd (digit-or-not b (allDigits ds) n (subst (λ (x : ℕ). (isDigit x && allDigits ds) ≡ true) (ap (λ (l : Text). getD l 0 0) e) h))
+digits-split (c ∷ ds) (d ∷ es) xs ys h k s t e =
+    go (digits-split ds es xs ys (rest c ds h) (rest d es k) s t (ap (drop 1) e))
+  where
+    rest : (b : ℕ) (bs : Text) → (isDigit b && allDigits bs) ≡ true → allDigits bs ≡ true
+    rest b bs = go′ (isDigit b)
+      where
+        go′ : (x : Bool) → (x && allDigits bs) ≡ true → allDigits bs ≡ true
+        go′ true f = f
+        go′ false f = absurd (true≢false (sym f))
+
+    go : (ds ≡ es) × (xs ≡ ys) → (c ∷ ds ≡ d ∷ es) × (xs ≡ ys)
+    go p = (ap (λ (x : ℕ). x ∷ ds) (ap (λ (l : Text). getD l 0 0) e) ∙ ap (λ (l : Text). d ∷ l) (p .0), p .1)
+
+-- a printed number is told apart from what is behind it
+pub printed-split : (x y : ℕ) (xs ys : Text) → x ≤ 4294967295 → y ≤ 4294967295 → Stop xs → Stop ys → printedNumber x ++ xs ≡ printedNumber y ++ ys → (x ≡ y) × (xs ≡ ys)
+printed-split x y xs ys h k s t e = go (digits-split (printedNumber x) (printedNumber y) xs ys (digits-printed x h) (digits-printed y k) s t e)
+  where
+    go : (printedNumber x ≡ printedNumber y) × (xs ≡ ys) → (x ≡ y) × (xs ≡ ys)
+    go p = (printed-apart x y h k (p .0), p .1)

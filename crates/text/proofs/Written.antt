@@ -1,12 +1,12 @@
 -- Laws of a text written into lent bytes.
-use mathlib.Core.List.{List, [], _∷_, _++_, append-assoc}
-use mathlib.Core.Path.{_≡_, refl, sym, ap, _∙_, subst}
+use mathlib.Core.List.{[], _∷_, _++_, append-assoc}
+use mathlib.Core.Path.{_≡_, sym, ap, _∙_}
 use Prim.Native.Nat.{ℕ, suc, _+_, _≤_, _<_}
 use native.Mathlib.Nat.{add-zero, add-assoc}
 use native.Mathlib.Numerals.{add-one}
 use native.Mathlib.Omega.{arith}
 use lib.ListN.{length, take, drop, set, length-append, length-drop, take-append-drop}
-use lib.Seq.{length-take-le, take-append-seam, take-append-add, take-at, drop-append-add, drop-drop, set-split, set-append-left, take-set-lt, take-suc-set}
+use lib.Seq.{length-take-le, take-append-seam, take-at, drop-append-add, drop-drop, set-split, set-append-left, take-set-lt, take-suc-set}
 use Rattle.text.specs.Bytes.{Text, written}
 
 -- no text changes nothing
