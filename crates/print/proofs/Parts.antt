@@ -6,11 +6,11 @@ use Prim.Native.Nat.{ℕ, _+_, _/_, _%_, _≤_}
 use native.Mathlib.Omega.{arith}
 use lib.ListN.{length, take}
 use Rattle.model.specs.declared.Answer.{Answer}
-use Rattle.model.specs.OneCall.{nameCount, unpack, observed}
+use Rattle.model.specs.OneCall.{listCount, nameCount, unpack, observed}
 use Rattle.model.specs.Steps.{Reply, pairs}
 use Rattle.text.specs.Bytes.{Text, lineFeed, blank, colon, I, L, N, T}
 use Rattle.text.specs.Numerals.{printedNumber}
-use Rattle.print.specs.Answers.{signed, yesOrNo, entryText, entriesText, answerText, answerLine, entryCount, Put, Printable}
+use Rattle.print.specs.Answers.{signed, yesOrNo, entryText, entriesText, answerText, answerLine, Put, Printable}
 use Rattle.print.proofs.Puts.{put-then, put-same, fits-first, fits-next}
 
 -- a sign, a blank and a number
@@ -96,11 +96,11 @@ module _ (r : Reply) (out : Text) (at : ℕ) (h : at + length (answerLine r) ≤
 pub known-fits : {a b : Answer} (list : List ℕ) {out : Text} {at : ℕ} → a ≡ b → Printable (answerText (observed a list)) a list out at → at + length (answerText (observed b list)) ≤ length out
 known-fits {a} {b} list {out} {at} e h = subst (λ (x : Answer). at + length (answerText (observed x list)) ≤ length out) e (h .room)
 
-pub known-held : {a b : Answer} (list : List ℕ) {text out : Text} {at : ℕ} → a ≡ b → Printable text a list out at → entryCount b ≤ length list
-known-held {a} {b} list e h = subst (λ (x : Answer). entryCount x ≤ length list) e (h .held)
+pub known-held : {a b : Answer} (list : List ℕ) {text out : Text} {at : ℕ} → a ≡ b → Printable text a list out at → listCount b ≤ length list
+known-held {a} {b} list e h = subst (λ (x : Answer). listCount x ≤ length list) e (h .held)
 
-pub known-counted : {a b : Answer} (list : List ℕ) {text out : Text} {at : ℕ} → a ≡ b → Printable text a list out at → entryCount b ≤ 4294967295
-known-counted {a} {b} list e h = subst (λ (x : Answer). entryCount x ≤ 4294967295) e (h .counted)
+pub known-counted : {a b : Answer} (list : List ℕ) {text out : Text} {at : ℕ} → a ≡ b → Printable text a list out at → listCount b ≤ 4294967295
+known-counted {a} {b} list e h = subst (λ (x : Answer). listCount x ≤ 4294967295) e (h .counted)
 
 pub known-put : {a b : Answer} (list : List ℕ) {out out′ : Text} {at end : ℕ} → a ≡ b → Put (answerText (observed b list)) out at end out′ → Put (answerText (observed a list)) out at end out′
 known-put list e p = put-same (ap (λ (x : Answer). answerText (observed x list)) (sym e)) p

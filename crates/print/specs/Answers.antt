@@ -5,9 +5,9 @@ use mathlib.Core.Path.{_≡_}
 use Prim.Native.Nat.{ℕ, _+_, _≤_}
 use lib.ListN.{length}
 use Rattle.model.specs.declared.Answer.{Answer}
-use Rattle.model.specs.declared.Answer.the-variants.{Refusal, Name, Value, YesNo, List as Listed}
 use Rattle.model.specs.declared.Pair.{Pair}
 use Rattle.model.specs.Pairs.{edgeOf, nodeOf}
+use Rattle.model.specs.OneCall.{listCount}
 use Rattle.model.specs.Steps.{Reply, refusal, name, valued, yesNo, pairs}
 use Rattle.text.specs.Bytes.{Text, lineFeed, blank, equalsSign, colon, written, I, L, N, R, T, «V»}
 use Rattle.text.specs.Numerals.{printedNumber}
@@ -55,20 +55,8 @@ pub record Put (bs : Text) (out : Text) (at : ℕ) (end : ℕ) (out′ : Text) :
   pub place : end ≡ at + length bs
   pub bytes : out′ ≡ written out at bs
 
--- the longest line: `L 2048`, 2,048 entries of at most twelve bytes, and the line feed
-abbrev pub mostLine : ℕ
-mostLine = 24583
-
--- how many entries an answer lists
-unfoldable pub entryCount : Answer → ℕ
-entryCount (Refusal number) = 0
-entryCount (Name x) = 0
-entryCount (Value v) = 0
-entryCount (YesNo b) = 0
-entryCount (Listed k) = k
-
 -- what printing an answer asks: its text fits, its entries stand in the list, and their count is a number of 32 bits
 pub record Printable (text : Text) (a : Answer) (list : List ℕ) (out : Text) (at : ℕ) : Type 0 where
   pub room : Fits text out at
-  pub held : entryCount a ≤ length list
-  pub counted : entryCount a ≤ 4294967295
+  pub held : listCount a ≤ length list
+  pub counted : listCount a ≤ 4294967295

@@ -31,7 +31,7 @@ module _ (b l : List ℕ) (line : Text) (out : Text) (at : ℕ) where
 
   -- what a caller of the call is told is what the line answers
   call-reply : (c : Call) (a : Answer) (b′ l′ : List ℕ) → Ready b l → readLine line ≡ Read c → OnStore b l c a b′ l′ → observed a l′ ≡ lineOutcome (tuplesOf b) line .answer
-  unfolding lineOutcome outcomeOf
+  unfolding lineOutcome outcomeOf tuplesOf
   call-reply c a b′ l′ R e O =
       ap₂ observed (O .answer) (O .list)
       ∙ observed-machine (capacityOf b) (tuplesOf b) c (length l) l (store-rules b (R .store) .tuples)

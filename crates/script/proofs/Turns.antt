@@ -1,6 +1,6 @@
 -- Line after line: what was printed so far, and what the run of the lines that are left gives, is the run of all lines.
 use mathlib.Core.Bool.{Bool, true, false, cond}
-use mathlib.Core.List.{List, [], _∷_, _++_, append-assoc}
+use mathlib.Core.List.{List, [], _∷_, _++_, append-assoc, append-nil}
 use mathlib.Core.Path.{_≡_, refl, sym, _∙_, ap, subst}
 use Prim.Native.Nat.{ℕ, _+_, _-_, _≤_, _<_}
 use native.Mathlib.Omega.{arith}
@@ -23,26 +23,30 @@ use Rattle.script.proofs.LineRuns.{LineLeft, line-left}
 abbrev pub unrun : State → List ℕ → List Text → Run
 unrun ts l xs = record { text = []; state = ts; list = l; rest = xs }
 
+-- the first line is run, and then those behind it
+abbrev firstRun : ℕ → State → List ℕ → Text → List Text → Run
+firstRun room ts l x xs =
+    printedBefore (answerLine (lineOutcome ts x .answer))
+    (runLines (room - length (answerLine (lineOutcome ts x .answer))) (lineOutcome ts x .state) (lineList ts (readLine x) l) xs)
+
 -- where there is no room for a line none is run, and none where there is no line
 pub no-room : (room : ℕ) (ts : State) (l : List ℕ) (xs : List Text) → room < mostLine → runLines room ts l xs ≡ unrun ts l xs
 unfolding runLines
 no-room room ts l [] h = refl
-no-room room ts l (x ∷ xs) h = ap (λ (b : Bool). cond b _ (unrun ts l (x ∷ xs))) (lt-leb mostLine room h)
+no-room room ts l (x ∷ xs) h = ap (λ (b : Bool). cond b (firstRun room ts l x xs) (unrun ts l (x ∷ xs))) (lt-leb mostLine room h)
 
 pub no-line : (room : ℕ) (ts : State) (l : List ℕ) (xs : List Text) → xs ≡ [] → runLines room ts l xs ≡ unrun ts l xs
 unfolding runLines
 no-line room ts l xs e = ap (runLines room ts l) e ∙ ap (unrun ts l) (sym e)
 
 -- where there is room for a line, the first is run
-one-line : (room : ℕ) (ts : State) (l : List ℕ) (x : Text) (xs : List Text) → mostLine ≤ room
-    → runLines room ts l (x ∷ xs)
-    ≡ printedBefore (answerLine (lineOutcome ts x .answer)) (runLines (room - length (answerLine (lineOutcome ts x .answer))) (lineOutcome ts x .state) (lineList ts (readLine x) l) xs)
+one-line : (room : ℕ) (ts : State) (l : List ℕ) (x : Text) (xs : List Text) → mostLine ≤ room → runLines room ts l (x ∷ xs) ≡ firstRun room ts l x xs
 unfolding runLines
-one-line room ts l x xs h = ap (λ (b : Bool). cond b _ (unrun ts l (x ∷ xs))) (le-leb mostLine room h)
+one-line room ts l x xs h = ap (λ (b : Bool). cond b (firstRun room ts l x xs) (unrun ts l (x ∷ xs))) (le-leb mostLine room h)
 
 -- two texts printed before a run
-printed-twice : (as bs : Text) (r : Run) → printedBefore as (printedBefore bs r) ≡ printedBefore (as ++ bs) r
-printed-twice as bs r = ap (λ (cs : Text). record { text = cs; state = r .state; list = r .list; rest = r .rest }) (sym (append-assoc as bs (r .text)))
+printed-twice : (xs ys : Text) (r : Run) → printedBefore xs (printedBefore ys r) ≡ printedBefore (xs ++ ys) r
+printed-twice xs ys r = ap (λ (zs : Text). record { text = zs; state = r .state; list = r .list; rest = r .rest }) (sym (append-assoc xs ys (r .text)))
 
 -- the lines of a script from place `from` to place `at`, run on a store and printed to the first `size` bytes of an output
 pub record Running (b₀ l₀ : List ℕ) (script : Text) (from : ℕ) (out₀ : Text) (b l : List ℕ) (at size : ℕ) (out : Text) : Type 0 where
@@ -60,6 +64,7 @@ pub record Running (b₀ l₀ : List ℕ) (script : Text) (from : ℕ) (out₀ :
 module _ (b₀ l₀ : List ℕ) (script : Text) (from : ℕ) (out₀ : Text) where
   pub run-start : Ready b₀ l₀ → from ≤ length script → Running b₀ l₀ script from out₀ b₀ l₀ from 0 out₀
   run-start R h =
+      let whole : length out₀ ≡ length out₀ - 0 = omega arith in
       record {
         ready = R;
         words = refl;
@@ -70,7 +75,7 @@ module _ (b₀ l₀ : List ℕ) (script : Text) (from : ℕ) (out₀ : Text) whe
         fits = omega arith;
         done = [];
         put = record { place = refl; bytes = sym (written-nil out₀ 0) };
-        run = refl;
+        run = ap (λ (n : ℕ). runLines n (tuplesOf b₀) l₀ (linesOf (drop from script))) whole;
       }
 
   -- one more line

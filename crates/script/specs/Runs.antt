@@ -3,7 +3,7 @@ use mathlib.Core.Bool.{true, cond}
 use mathlib.Core.List.{List, [], _∷_, _++_}
 use mathlib.Core.Path.{_≡_}
 use Prim.Native.Nat.{ℕ, _+_, _-_, _≤_, _<_}
-use lib.Dec.{leb}
+use lib.Dec.{leb, ltb}
 use lib.ListN.{length, drop}
 use Rattle.model.specs.declared.Call.{Call}
 use Rattle.model.specs.Machine.{State, machine}
@@ -64,6 +64,10 @@ runLines room ts l (x ∷ xs) =
     (printedBefore (answerLine (lineOutcome ts x .answer))
     (runLines (room - length (answerLine (lineOutcome ts x .answer))) (lineOutcome ts x .state) (lineList ts (readLine x) l) xs))
     (record { text = []; state = ts; list = l; rest = x ∷ xs })
+
+-- where the line behind one that ends at a place starts: behind its line feed, or at the script's end
+abbrev pub nextLine : ℕ → ℕ → ℕ
+nextLine size end = cond (ltb end size) (end + 1) end
 
 -- the lines of a script from place `from` on, run on a store until the output has no room for a line; `r` names where the next line starts and how many bytes were put
 pub record BlockRun (u : Run) (b : List ℕ) (script : Text) (from : ℕ) (out : Text) (r : Block) (b′ l′ : List ℕ) (out′ : Text) : Type 0 where

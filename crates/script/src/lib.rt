@@ -1,4 +1,4 @@
-// A script run line by line on a store that is known to be one; what is printed goes to lent bytes.
+// A script run line by line on a store that is known to be one; what it prints goes to lent bytes.
 
 // How far a block of output has come.
 pub struct Block {

@@ -1,5 +1,5 @@
-use Rattle.model.specs.OneCall.{observed}
-use Rattle.print.specs.Answers.{answerText, entryCount}
+use Rattle.model.specs.OneCall.{listCount, observed}
+use Rattle.print.specs.Answers.{answerText}
 use Rattle.print.proofs.Parts.{known-fits, known-held, known-counted, known-put}
 use borrow.Author.Needs.{needs}
 use Rattle.print.proofs.put_answer_text.Statement.{statement}
@@ -56,7 +56,7 @@ enum-known-a-5 c = search needs
 
 -- src/lib.rt:158:28
 put-list-requires : tie.Need-put-list-requires
-unfolding entryCount observed
+unfolding listCount observed
 put-list-requires c κs = (known-held _ (c .before .before .a5 .given .1) (c .before .before .before .before .before .before .pre), known-counted _ (c .before .before .a5 .given .1) (c .before .before .before .before .before .before .pre), known-fits _ (c .before .before .a5 .given .1) (c .before .before .before .before .before .before .pre))
 
 -- src/lib.rt:149:1
