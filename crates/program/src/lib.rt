@@ -1,0 +1,54 @@
+// A script from standard input, its answers to standard output.
+// No contract can say what is read or written: what a script prints is in the contracts of crate script.
+use libc::STDIN_FILENO;
+use libc::STDOUT_FILENO;
+ghost use Prim.Native.Nat.{_≤_};
+ghost use lib.ListN.{length};
+ghost use Rattle.print.specs.Answers.{mostLine};
+ghost use Rattle.script.specs.Runs.{Ready};
+
+// Runs the lines of a script and writes what they print, block by block; stops where the output takes no more.
+fn run_lines(store: &mut [u32], list: &mut [u32], script: &[u8], out: &mut [u8])
+    requires { ⌜ Ready (now store) (now list) × (mostLine ≤ length (now out)) ⌝ }
+    ensures { λ _. ⌜ Ready (now (store .exit)) (now (list .exit)) ⌝ }
+{
+    let mut at = 0;
+    while at < script.len() {
+        let block = script::run_block(store, list, script, at, out);
+        let length = block.length;
+        if !io::write_all(STDOUT_FILENO, &out[..length]) {
+            return;
+        }
+        at = block.next;
+    }
+}
+
+// Runs a script of at most 65,536 bytes on a fresh store with 2,048 records and an answer list of 2,048 places.
+fn run_script(script: &[u8], out: &mut [u8])
+    requires { ⌜ mostLine ≤ length (now out) ⌝ }
+{
+    let mut store: [u32; 12292] = [0; 12292];
+    let mut list: [u32; 2048] = [0; 2048];
+    verify::prepare(&mut store);
+    run_lines(&mut store, &mut list, script, out);
+}
+
+// Refuses an input that is too long.
+fn refuse(out: &mut [u8])
+    requires { ⌜ mostLine ≤ length (now out) ⌝ }
+{
+    let length = script::refuse_input(out);
+    io::write_all(STDOUT_FILENO, &out[..length]);
+}
+
+// The program: reads standard input and runs it as a script.
+pub fn run() {
+    let mut input: [u8; 65537] = [0; 65537];
+    let mut out = io::large_buffer();
+    let length = io::read_full(STDIN_FILENO, &mut input);
+    if length > 65536 {
+        refuse(&mut out);
+        return;
+    }
+    run_script(&input[..length], &mut out);
+}
