@@ -5,6 +5,7 @@
 
 pub mod buffer;
 pub mod chained;
+pub mod compare;
 pub mod load;
 pub mod machine;
 pub mod operators;
