@@ -92,10 +92,13 @@ fn mixed(draws: &mut Draws, damage_once_in: usize) -> Vec<u8> {
     finished(draws, script)
 }
 
-/// The script, perhaps with lines that read the state it leaves, the last with
-/// or without a line feed.
+/// The script, perhaps with lines that remove something and make it again, and
+/// lines that read the state; the last with or without a line feed.
 fn finished(draws: &mut Draws, script: Vec<u8>) -> Vec<u8> {
     let mut script = script;
+    if draws.once_in(2) {
+        script.extend(renewal(draws, &state_after(&script)));
+    }
     if !draws.once_in(3) {
         script.extend(description(&state_after(&script), 60));
     }
@@ -103,6 +106,40 @@ fn finished(draws: &mut Draws, script: Vec<u8>) -> Vec<u8> {
         script.pop();
     }
     script
+}
+
+/// Lines that remove a space, a node or an edge and make it again, with the
+/// nodes that a space had: what was in it must not come back.
+fn renewal(draws: &mut Draws, machine: &Machine) -> Vec<u8> {
+    let is_kind = draws.one_of(&[Key::is_space, Key::is_node, Key::is_edge]);
+    let keys: Vec<Key> = machine.tuples().map(|(key, _)| key).collect();
+    let chosen = keys[1..].iter().filter(|key| is_kind(key));
+    let chosen: Vec<Key> = chosen.copied().collect();
+    if chosen.is_empty() {
+        return Vec::new();
+    }
+    let key = draws.one_of(&chosen);
+    let s = space_name(key.s);
+    let (n, g, m) = (key.n.0, key.g.0, key.m.0);
+    let lines = if key.is_space() {
+        let nodes = keys.iter().filter(|node| node.s == key.s && node.is_node());
+        let nodes = nodes.map(|node| format!("CUN {} {s}\n", node.n.0));
+        format!("DUS {s}\nCUS {s}\n") + &nodes.collect::<String>()
+    } else if key.is_node() {
+        format!("DUN {n} {s}\nSUN {s}\nCUN {n} {s}\nSAP {n} {s}\n")
+    } else {
+        format!("DOP {n} {g} {m} {s}\nSAP {n}\nCOP {n} {g} {m} {s}\nSOP {n} {s}\n")
+    };
+    lines.into_bytes()
+}
+
+/// How a line names a space.
+fn space_name(s: SpaceName) -> String {
+    if s == UNIVERSE {
+        "U".to_string()
+    } else {
+        s.0.to_string()
+    }
 }
 
 /// The machine as a script leaves it.
@@ -118,11 +155,7 @@ pub fn description(machine: &Machine, most: usize) -> Vec<u8> {
     for (key, _) in machine.tuples().step_by(every) {
         let Key { s, n, g, m } = key;
         let (n, g, m) = (n.0, g.0, m.0);
-        let s = if s == UNIVERSE {
-            "U".to_string()
-        } else {
-            s.0.to_string()
-        };
+        let s = space_name(s);
         lines += &if key.is_space() {
             format!("SUN {s}\nVUS {s}\n")
         } else if key.is_node() {
