@@ -154,20 +154,33 @@ impl Joined {
 
     /// Lines that turn the state into another one.
     fn turn_into(&mut self, state: &Machine) {
+        self.remove_others(state);
+        for is_kind in [Key::is_space, Key::is_node, Key::is_edge] {
+            self.create_missing(state, is_kind);
+        }
+        self.set_values(state);
+    }
+
+    /// Removes what another state doesn't have.
+    fn remove_others(&mut self, state: &Machine) {
         for (key, _) in self.machine.clone().tuples() {
             if value(&self.machine, key).is_some() && value(state, key).is_none() {
                 self.add_line(removal(key));
             }
         }
-        let is_kind = [Key::is_space, Key::is_node, Key::is_edge];
-        for (key, _) in is_kind
-            .iter()
-            .flat_map(|is| state.tuples().filter(|(key, _)| is(key)))
-        {
+    }
+
+    /// Creates what another state has, of one kind of tuples.
+    fn create_missing(&mut self, state: &Machine, is_kind: fn(&Key) -> bool) {
+        for (key, _) in state.tuples().filter(|(key, _)| is_kind(key)) {
             if value(&self.machine, key).is_none() {
                 self.add_line(creation(key));
             }
         }
+    }
+
+    /// Sets the values that another state has otherwise.
+    fn set_values(&mut self, state: &Machine) {
         for (key, wanted) in state.tuples() {
             if value(&self.machine, key) != Some(wanted) {
                 self.add_line(binding(key, wanted));

@@ -17,7 +17,7 @@ const GRAPH: &[&str] = &[
 /// Lines that read all of it.
 #[rustfmt::skip]
 const READS: &[&str] = &[
-    "SUS", "SUN 8", "SUN 9", "SUS 1", "SUS 2", "SUS 3", "SAP 1", "SAP 2", "SAP 3", "SAP 1 9",
+    "SUS", "XUN 4", "SUN 8", "SUN 9", "SUS 1", "SUS 2", "SUS 3", "SAP 1", "SAP 2", "SAP 3", "SAP 1 9",
     "SAP 2 9", "VUS U", "VUS 8", "VUS 9", "VUN 1", "VUN 2", "VUN 3", "VUN 1 9", "VUN 2 9",
     "VOP 1 5 2", "VIP 2 5 1 9",
 ];
@@ -214,22 +214,24 @@ pub fn script() -> Vec<u8> {
     add(&mut script, GRAPH);
     add(&mut script, READS);
     add(&mut script, &["SUN"]);
-    for (_, lines) in groups() {
-        add(&mut script, &lines);
-        add(&mut script, READS);
-        add(&mut script, &["SUN"]);
-    }
+    add_groups(&mut script, groups());
+    add(&mut script, &["SUN"]);
     add(&mut script, ANSWERED);
     add(&mut script, READS);
     add(&mut script, &["SUN"]);
     let filling = filling(&script);
     add(&mut script, &filling);
-    for (_, lines) in groups_when_full() {
-        add(&mut script, &lines);
-        add(&mut script, READS);
-    }
+    add_groups(&mut script, groups_when_full());
     add(&mut script, &["SUN"]);
     script.into_bytes()
+}
+
+/// Adds the lines of each group, then those that read the state.
+fn add_groups(script: &mut String, groups: Vec<Group>) {
+    for (_, lines) in groups {
+        add(script, &lines);
+        add(script, READS);
+    }
 }
 
 /// As many nodes as there is room for.

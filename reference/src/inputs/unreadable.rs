@@ -116,16 +116,13 @@ const READS: [&str; 12] = [
 /// The readable line of each group, its others, and the line again; at the end
 /// the reads, and a line of a NUL without a line feed.
 pub fn script() -> Vec<u8> {
-    let mut script = Vec::new();
-    for (readable, others) in GROUPS {
+    let groups = GROUPS.iter().flat_map(|(readable, others)| {
         let readable = readable.as_bytes();
-        for line in [&[readable], others, &[readable]].concat() {
-            script.extend(line);
-            script.push(b'\n');
-        }
-    }
-    for line in READS {
-        script.extend(line.as_bytes());
+        [&[readable], *others, &[readable]].concat()
+    });
+    let mut script = Vec::new();
+    for line in groups.chain(READS.map(str::as_bytes)) {
+        script.extend(line);
         script.push(b'\n');
     }
     script.extend(b"SUN\0");

@@ -76,7 +76,7 @@ pub struct Line<'a> {
     words: Vec<&'a [u8]>,
     /// All arguments that the operator reads.
     arguments: &'static [Argument],
-    /// The place of the least number of arguments.
+    /// The least number of arguments.
     least: usize,
 }
 

@@ -370,18 +370,20 @@ impl Written {
         let style = draws.below(5);
         let side = 20 + draws.below(20);
         let enough = CAPACITY - draws.below(4);
-        for line in fill_opening(style, side) {
-            self.write(line.into_bytes());
+        let places = (0..2 * CAPACITY).map(|place| fill_line(style, side, place));
+        for line in fill_opening(style, side).into_iter().chain(places) {
+            if self.count() < enough {
+                self.write_if_new(line.into_bytes());
+            }
         }
-        for place in 0..2 * CAPACITY {
-            let before = self.count();
-            if before >= enough {
-                break;
-            }
-            self.write(fill_line(style, side, place).into_bytes());
-            if self.count() == before {
-                self.lines.pop();
-            }
+    }
+
+    /// Writes a line that adds a tuple, and no other.
+    fn write_if_new(&mut self, line: Vec<u8>) {
+        let before = self.count();
+        self.write(line);
+        if self.count() == before {
+            self.lines.pop();
         }
     }
 
