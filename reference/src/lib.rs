@@ -5,6 +5,8 @@
 
 pub mod buffer;
 pub mod chained;
+pub mod compare;
+pub mod inputs;
 pub mod load;
 pub mod machine;
 pub mod operators;

@@ -63,8 +63,8 @@ fn main() -> ExitCode {
 fn read_options(words: impl Iterator<Item = String>) -> Result<Options, Failure> {
     let mut options = Options {
         mode: Mode::Script,
-        capacity: 2048,
-        list_length: 2048,
+        capacity: script::CAPACITY,
+        list_length: script::LIST_LENGTH,
         print_tuples: false,
     };
     let mut words = words;

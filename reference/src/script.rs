@@ -9,6 +9,12 @@ use crate::operators::{self, Argument};
 /// "It reads at most 65,536 bytes of standard input."
 pub const MOST_BYTES: usize = 65_536;
 
+/// C of the store that `slips` runs a script on.
+pub const CAPACITY: usize = 2_048;
+
+/// The length of the answer list of `slips`.
+pub const LIST_LENGTH: usize = 2_048;
+
 /// "A line that doesn't read as a call is refused 11."
 const UNREADABLE: Answer = Answer::Refusal(11);
 
@@ -39,9 +45,16 @@ pub fn run(
     Ok(machine)
 }
 
+/// What `slips` prints for a script.
+pub fn printed(input: &[u8]) -> Vec<u8> {
+    let mut output = Vec::new();
+    run(input, CAPACITY, LIST_LENGTH, &mut output).expect("a vector takes all bytes");
+    output
+}
+
 /// "Lines end with a line feed, the last perhaps not." A line feed ends a
 /// line and starts none; empty input has no lines.
-fn lines(input: &[u8]) -> Vec<&[u8]> {
+pub fn lines(input: &[u8]) -> Vec<&[u8]> {
     if input.is_empty() {
         return Vec::new();
     }

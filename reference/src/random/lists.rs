@@ -14,9 +14,9 @@ pub struct Run {
 }
 
 /// The names of a list: small ones, or some of several digits.
-const NODES: [[u16; 4]; 2] = [[1, 2, 3, 4], [2, 10, 300, 65_535]];
-const EDGES: [[u16; 3]; 2] = [[1, 2, 3], [5, 40, 65_535]];
-const SPACES: [[u16; 3]; 2] = [[1, 2, 3], [9, 10, 65_535]];
+pub(super) const NODES: [[u16; 4]; 2] = [[1, 2, 3, 4], [2, 10, 300, 65_535]];
+pub(super) const EDGES: [[u16; 3]; 2] = [[1, 2, 3], [5, 40, 65_535]];
+pub(super) const SPACES: [[u16; 3]; 2] = [[1, 2, 3], [9, 10, 65_535]];
 
 const VALUES: [u32; 6] = [0, 1, 2, 7, 60, u32::MAX];
 const LONG_LISTS: [usize; 4] = [8, 2048, 2049, 4_294_967_295];
@@ -86,7 +86,7 @@ fn building_call(draws: &mut Draws, pool: usize, place: usize) -> Call {
 
 /// A call that would be refused is mostly drawn again with the same operator,
 /// a few times.
-fn mostly_answered(
+pub(super) fn mostly_answered(
     draws: &mut Draws,
     machine: &Machine,
     draw: impl Fn(&mut Draws) -> Call,
@@ -109,7 +109,7 @@ fn mostly_answered(
 }
 
 /// A call with any names, or with those of a tuple that is present.
-fn aimed_call(draws: &mut Draws, pool: usize, machine: &Machine) -> Call {
+pub(super) fn aimed_call(draws: &mut Draws, pool: usize, machine: &Machine) -> Call {
     let mut call = draw_call(draws, pool);
     if !draws.once_in(4) {
         let mut keys: Vec<Key> = machine.tuples().map(|(key, _)| key).collect();

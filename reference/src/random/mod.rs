@@ -1,15 +1,17 @@
-//! Random lists of calls and random buffers, for comparisons. Equal seeds draw
-//! equal ones everywhere.
+//! Random lists of calls, buffers and scripts, for comparisons. Equal seeds
+//! draw equal ones everywhere.
 
 pub mod buffers;
+pub mod damage;
 pub mod lists;
+pub mod scripts;
 
 /// A small generator of numbers.
 pub struct Draws(u64);
 
 impl Draws {
-    /// The numbers for one list or buffer of a comparison, whatever else is
-    /// compared.
+    /// The numbers for one list, buffer or script of a comparison, whatever
+    /// else is compared.
     pub fn new(seed: u64, kind: u64, place: u64) -> Draws {
         let mut draws = Draws(seed);
         for part in [kind, place] {
