@@ -1,6 +1,6 @@
 -- Lines of document 01's example, and the numbers at the limits, as theorems of the definitions.
 use mathlib.Core.Bool.{true, false}
-use mathlib.Core.List.{[], _∷_, _++_}
+use mathlib.Core.List.{[], _∷_}
 use mathlib.Core.Path.{_≡_, refl}
 use Rattle.model.specs.Pairs.{pair}
 use Rattle.model.specs.Steps.{refusal, name, valued, yesNo, pairs}
