@@ -5,3 +5,4 @@ pub mod Parts
 pub mod Entries
 pub mod Lengths
 pub mod Apart
+pub mod Examples

@@ -1,17 +1,17 @@
--- Answers put part by part: the room for each part, and the whole.
+-- Answers put part by part: how long each is, and the whole.
 use mathlib.Core.Bool.{Bool, true, false}
-use mathlib.Core.List.{List, [], _∷_, _++_, map, append-assoc, append-nil}
-use mathlib.Core.Path.{_≡_, refl, sym, ap, subst}
+use mathlib.Core.List.{List, [], _∷_, map, append-assoc}
+use mathlib.Core.Path.{_≡_, sym, ap, subst}
 use Prim.Native.Nat.{ℕ, _+_, _/_, _%_, _≤_}
 use native.Mathlib.Omega.{arith}
-use lib.ListN.{length, take}
+use lib.ListN.{length, take, length-append}
 use Rattle.model.specs.declared.Answer.{Answer}
 use Rattle.model.specs.OneCall.{listCount, nameCount, unpack, observed}
 use Rattle.model.specs.Steps.{Reply, pairs}
 use Rattle.text.specs.Bytes.{Text, lineFeed, blank, colon, I, L, N, T}
 use Rattle.text.specs.Numerals.{printedNumber}
 use Rattle.print.specs.Answers.{signed, yesOrNo, entryText, entriesText, answerText, answerLine, Put, Printable}
-use Rattle.print.proofs.Puts.{put-then, put-same, fits-first, fits-next}
+use Rattle.print.proofs.Puts.{put-then, put-same}
 
 -- a sign, a blank and a number
 pub signed-put : (sign x : ℕ) {out o₁ o₂ o₃ : Text} {at m₁ m₂ end : ℕ} → at + length (signed sign x) ≤ length out → Put (sign ∷ []) out at m₁ o₁ → Put (blank ∷ []) o₁ m₁ m₂ o₂ → Put (printedNumber x) o₂ m₂ end o₃ → Put (signed sign x) out at end o₃
@@ -20,13 +20,14 @@ signed-put sign x {out} {o₁} {o₂} {o₃} {at} h p q r =
     put-then le (put-then le p q) r
 
 -- T where the answer is yes, NIL where it is no
-pub yes-fits : (b : Bool) (out : Text) (at : ℕ) → b ≡ true → at + length (yesOrNo b) ≤ length out → at + length (T ∷ []) ≤ length out
+pub yes-no-size : (b : Bool) → 1 ≤ length (yesOrNo b)
 unfolding yesOrNo
-yes-fits b out at e h = subst (λ (b : Bool). at + length (yesOrNo b) ≤ length out) e h
+yes-no-size true = omega arith
+yes-no-size false = omega arith
 
-pub no-fits : (b : Bool) (out : Text) (at : ℕ) → b ≡ false → at + length (yesOrNo b) ≤ length out → at + length (N ∷ I ∷ L ∷ []) ≤ length out
+pub no-size : (b : Bool) → b ≡ false → length (yesOrNo b) ≡ 3
 unfolding yesOrNo
-no-fits b out at e h = subst (λ (b : Bool). at + length (yesOrNo b) ≤ length out) e h
+no-size b e = ap (λ (x : Bool). length (yesOrNo x)) e
 
 pub yes-put : {b : Bool} {out out′ : Text} {at end : ℕ} → b ≡ true → Put (T ∷ []) out at end out′ → Put (yesOrNo b) out at end out′
 unfolding yesOrNo
@@ -37,60 +38,33 @@ unfolding yesOrNo
 no-put e p = put-same (sym (ap yesOrNo e)) p
 
 -- a blank, an edge, a colon and a node
-module _ (w : ℕ) (out : Text) (at : ℕ) (h : at + length (entryText (unpack w)) ≤ length out) where
-  le : at ≤ length out
-  le = omega arith
+pub entry-size : (w : ℕ) → length (entryText (unpack w)) ≡ 2 + length (printedNumber (w / 65536)) + length (printedNumber (w % 65536))
+unfolding entryText unpack
+entry-size w = omega (arith, length-append (printedNumber (w / nameCount)) (colon ∷ printedNumber (w % nameCount)))
 
-  pub entry-blank : at + length (blank ∷ []) ≤ length out
-  unfolding entryText unpack
-  entry-blank = fits-first (blank ∷ []) (printedNumber (w / nameCount) ++ (colon ∷ printedNumber (w % nameCount))) out at refl h
-
-  pub entry-edge : {o₁ : Text} {m₁ : ℕ} → Put (blank ∷ []) out at m₁ o₁ → m₁ + length (printedNumber (w / 65536)) ≤ length o₁
-  unfolding entryText unpack
-  entry-edge p = fits-next (printedNumber (w / nameCount)) (colon ∷ printedNumber (w % nameCount)) refl h p
-
-  pub entry-colon : {o₁ o₂ : Text} {m₁ m₂ : ℕ} → Put (blank ∷ []) out at m₁ o₁ → Put (printedNumber (w / 65536)) o₁ m₁ m₂ o₂ → m₂ + length (colon ∷ []) ≤ length o₂
-  unfolding entryText unpack
-  entry-colon p q = fits-next (colon ∷ []) (printedNumber (w % nameCount)) refl h (put-then le p q)
-
-  pub entry-node : {o₁ o₂ o₃ : Text} {m₁ m₂ m₃ : ℕ} → Put (blank ∷ []) out at m₁ o₁ → Put (printedNumber (w / 65536)) o₁ m₁ m₂ o₂ → Put (colon ∷ []) o₂ m₂ m₃ o₃ → m₃ + length (printedNumber (w % 65536)) ≤ length o₃
-  unfolding entryText unpack
-  entry-node p q r = fits-next (printedNumber (w % nameCount)) [] whole h (put-then le (put-then le p q) r)
-    where
-      whole : blank ∷ (printedNumber (w / nameCount) ++ (colon ∷ printedNumber (w % nameCount))) ≡ blank ∷ ((printedNumber (w / nameCount) ++ (colon ∷ [])) ++ (printedNumber (w % nameCount) ++ []))
-      whole = simp (append-assoc, append-nil)
-
-  pub entry-put : {o₁ o₂ o₃ o₄ : Text} {m₁ m₂ m₃ end : ℕ} → Put (blank ∷ []) out at m₁ o₁ → Put (printedNumber (w / 65536)) o₁ m₁ m₂ o₂ → Put (colon ∷ []) o₂ m₂ m₃ o₃ → Put (printedNumber (w % 65536)) o₃ m₃ end o₄ → Put (entryText (unpack w)) out at end o₄
-  unfolding entryText unpack
-  entry-put p q r s = put-same (ap (λ (bs : Text). blank ∷ bs) (append-assoc (printedNumber (w / nameCount)) (colon ∷ []) (printedNumber (w % nameCount)))) (put-then le (put-then le (put-then le p q) r) s)
+pub entry-put : (w : ℕ) {out o₁ o₂ o₃ o₄ : Text} {at m₁ m₂ m₃ end : ℕ} → at + length (entryText (unpack w)) ≤ length out → Put (blank ∷ []) out at m₁ o₁ → Put (printedNumber (w / 65536)) o₁ m₁ m₂ o₂ → Put (colon ∷ []) o₂ m₂ m₃ o₃ → Put (printedNumber (w % 65536)) o₃ m₃ end o₄ → Put (entryText (unpack w)) out at end o₄
+unfolding entryText unpack
+entry-put w {out} {o₁} {o₂} {o₃} {o₄} {at} h p q r s =
+    let le : at ≤ length out = omega arith in
+    put-same (ap (λ (bs : Text). blank ∷ bs) (append-assoc (printedNumber (w / nameCount)) (colon ∷ []) (printedNumber (w % nameCount)))) (put-then le (put-then le (put-then le p q) r) s)
 
 -- a list: its count, then its entries
-module _ (k : ℕ) (list : List ℕ) (out : Text) (at : ℕ) (h : at + length (answerText (pairs k (map unpack (take k list)))) ≤ length out) where
-  pub list-count : at + length (signed L k) ≤ length out
-  unfolding answerText
-  list-count = fits-first (signed L k) (entriesText (map unpack (take k list))) out at refl h
+pub list-size : (k : ℕ) (list : List ℕ) → length (answerText (pairs k (map unpack (take k list)))) ≡ 2 + length (printedNumber k) + length (entriesText (map unpack (take k list)))
+unfolding answerText
+list-size k list = omega (arith, length-append (printedNumber k) (entriesText (map unpack (take k list))))
 
-  pub list-entries : {o₁ : Text} {m₁ : ℕ} → Put (signed L k) out at m₁ o₁ → m₁ + length (entriesText (map unpack (take k list))) ≤ length o₁
-  unfolding answerText
-  list-entries p = fits-next (entriesText (map unpack (take k list))) [] (ap (λ (bs : Text). signed L k ++ bs) (sym (append-nil (entriesText (map unpack (take k list)))))) h p
-
-  pub list-put : {o₁ o₂ : Text} {m₁ end : ℕ} → Put (signed L k) out at m₁ o₁ → Put (entriesText (map unpack (take k list))) o₁ m₁ end o₂ → Put (answerText (pairs k (map unpack (take k list)))) out at end o₂
-  unfolding answerText
-  list-put p q = put-then (omega (arith, list-count)) p q
+pub list-put : (k : ℕ) (list : List ℕ) {out o₁ o₂ : Text} {at m₁ end : ℕ} → at + length (answerText (pairs k (map unpack (take k list)))) ≤ length out → Put (signed L k) out at m₁ o₁ → Put (entriesText (map unpack (take k list))) o₁ m₁ end o₂ → Put (answerText (pairs k (map unpack (take k list)))) out at end o₂
+unfolding answerText
+list-put k list h p q = put-then (omega arith) p q
 
 -- a line: the text of the answer, then a line feed
-module _ (r : Reply) (out : Text) (at : ℕ) (h : at + length (answerLine r) ≤ length out) where
-  pub line-text : at + length (answerText r) ≤ length out
-  unfolding answerLine
-  line-text = fits-first (answerText r) (lineFeed ∷ []) out at refl h
+pub line-size : (r : Reply) → length (answerLine r) ≡ length (answerText r) + 1
+unfolding answerLine
+line-size r = length-append (answerText r) (lineFeed ∷ [])
 
-  pub line-feed : {o₁ : Text} {m₁ : ℕ} → Put (answerText r) out at m₁ o₁ → m₁ + length (lineFeed ∷ []) ≤ length o₁
-  unfolding answerLine
-  line-feed p = fits-next (lineFeed ∷ []) [] refl h p
-
-  pub line-put : {o₁ o₂ : Text} {m₁ end : ℕ} → Put (answerText r) out at m₁ o₁ → Put (lineFeed ∷ []) o₁ m₁ end o₂ → Put (answerLine r) out at end o₂
-  unfolding answerLine
-  line-put p q = put-then (omega (arith, line-text)) p q
+pub line-put : (r : Reply) {out o₁ o₂ : Text} {at m₁ end : ℕ} → at + length (answerLine r) ≤ length out → Put (answerText r) out at m₁ o₁ → Put (lineFeed ∷ []) o₁ m₁ end o₂ → Put (answerLine r) out at end o₂
+unfolding answerLine
+line-put r h p q = put-then (omega arith) p q
 
 -- an answer whose variant is known
 pub known-fits : {a b : Answer} (list : List ℕ) {out : Text} {at : ℕ} → a ≡ b → Printable (answerText (observed a list)) a list out at → at + length (answerText (observed b list)) ≤ length out

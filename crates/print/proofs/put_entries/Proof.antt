@@ -28,7 +28,7 @@ shared-slice-read-put-entry c = omega arith
 
 -- src/lib.rt:133:9
 put-entry-requires : tie.Need-put-entry-requires Inv-loop μ-loop
-put-entry-requires c κs = enter-room _ _ _ _ _ _ _ (c .before .before .before .before .before .before .pre .0) (c .before .before .before .before .before .before .pre .1) (c .before .before .before .loop .inv) (c .before .before .loop-test .taken)
+put-entry-requires c κs = omega (arith, enter-room _ _ _ _ _ _ _ (c .before .before .before .before .before .before .pre .0) (c .before .before .before .before .before .before .pre .1) (c .before .before .before .loop .inv) (c .before .before .loop-test .taken), c .before .before .before .loop .inv .put .place)
 
 -- src/lib.rt:134:9
 add-i : tie.Need-add-i Inv-loop μ-loop

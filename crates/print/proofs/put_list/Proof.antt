@@ -1,4 +1,5 @@
-use Rattle.print.proofs.Parts.{list-count, list-entries, list-put}
+use native.Mathlib.Omega.{arith}
+use Rattle.print.proofs.Parts.{list-size, list-put}
 use borrow.Author.Needs.{needs}
 use Rattle.print.proofs.put_list.Statement.{statement}
 use Rattle.print.proofs.put_list.Tie as tie
@@ -13,11 +14,11 @@ cast-put-signed c = search needs
 
 -- src/lib.rt:144:9
 put-signed-requires : tie.Need-put-signed-requires
-put-signed-requires c κs = list-count _ (c .before .before .before .args .list .now) (c .before .before .before .args .out .now) _ (c .before .before .before .pre .2)
+put-signed-requires c κs = omega (arith, list-size (c .before .before .before .args .k) (c .before .before .before .args .list .now))
 
 -- src/lib.rt:145:5
 put-entries-requires : tie.Need-put-entries-requires
-put-entries-requires c κs = (c .before .before .before .before .before .before .before .pre .0, list-entries _ _ _ _ (c .before .before .before .before .before .before .before .pre .2) (c .before .before .before .put-signed .ensures))
+put-entries-requires c κs = (c .before .before .before .before .before .before .before .pre .0, omega (arith, list-size (c .before .before .before .before .before .before .before .args .k) (c .before .before .before .before .before .before .before .args .list .now)))
 
 -- src/lib.rt:140:1
 same-length : tie.Need-same-length
@@ -25,7 +26,7 @@ same-length c = search needs
 
 -- src/lib.rt:140:1
 returns : tie.Need-returns
-returns c = list-put _ _ _ _ (c .before .before .before .before .before .before .before .before .before .before .pre .2) (c .before .before .before .before .before .before .put-signed .ensures) (c .before .before .put-entries .ensures)
+returns c = list-put _ _ (c .before .before .before .before .before .before .before .before .before .before .pre .2) (c .before .before .before .before .before .before .put-signed .ensures) (c .before .before .put-entries .ensures)
 
 pub put-list-spec : {M : Type 1} → statement M
 put-list-spec =

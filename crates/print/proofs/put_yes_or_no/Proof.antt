@@ -1,4 +1,5 @@
-use Rattle.print.proofs.Parts.{yes-fits, no-fits, yes-put, no-put}
+use native.Mathlib.Omega.{arith}
+use Rattle.print.proofs.Parts.{yes-no-size, no-size, yes-put, no-put}
 use borrow.Author.Needs.{needs}
 use Rattle.print.proofs.put_yes_or_no.Statement.{statement}
 use Rattle.print.proofs.put_yes_or_no.Tie as tie
@@ -9,7 +10,7 @@ use Rattle.print.proofs.put_text.Reads as put-text-reads
 
 -- src/lib.rt:109:9
 put-byte-requires : tie.Need-put-byte-requires
-put-byte-requires c κs = yes-fits _ (c .before .before .before .args .out .now) _ (c .before .if1 .taken) (c .before .before .before .pre)
+put-byte-requires c κs = omega (arith, yes-no-size (c .before .before .before .args .yes))
 
 -- src/lib.rt:109:9
 same-length : tie.Need-same-length
@@ -25,7 +26,7 @@ slice-aggregate-put-text c = search needs
 
 -- src/lib.rt:111:5
 put-text-requires : tie.Need-put-text-requires
-put-text-requires c κs = no-fits _ (c .before .before .before .before .args .out .now) _ (c .before .before .if1 .left) (c .before .before .before .before .pre)
+put-text-requires c κs = omega (arith, no-size (c .before .before .before .before .args .yes) (c .before .before .if1 .left))
 
 -- src/lib.rt:104:1
 same-length-2 : tie.Need-same-length-2
