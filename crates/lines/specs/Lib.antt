@@ -1,4 +1,5 @@
 pub mod Lines
 pub mod OperatorWords
+pub mod Letters
 pub mod Calls
 pub mod Places

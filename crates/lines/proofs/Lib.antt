@@ -1,0 +1,5 @@
+pub mod Digits
+pub mod LineLaws
+pub mod WordLaws
+pub mod LookUp
+pub mod ArgumentLaws

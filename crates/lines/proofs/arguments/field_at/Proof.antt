@@ -1,0 +1,21 @@
+use borrow.Author.Needs.{needs}
+use Rattle.lines.proofs.arguments.field_at.Statement.{statement}
+use Rattle.lines.proofs.arguments.field_at.Tie as tie
+use Rattle.lines.proofs.arguments.field_at.Reads as reads
+use Rattle.lines.proofs.arguments.field_at.Lts as lts
+use Rattle.lines.proofs.arguments.argument_at.Reads as argument-at-reads
+
+-- src/arguments.rt:59:9
+returns : tie.Need-returns
+returns c = ?
+
+-- src/arguments.rt:61:5
+argument-at-requires : tie.Need-argument-at-requires
+argument-at-requires c κs = search needs
+
+-- src/arguments.rt:55:1
+returns-2 : tie.Need-returns-2
+returns-2 c = ?
+
+pub field-at-spec : {M : Type 1} → statement M
+field-at-spec = tie.close (tie.spec returns argument-at-requires returns-2)

@@ -1,0 +1,66 @@
+use borrow.Author.Needs.{needs}
+use Rattle.lines.proofs.arguments.space_at.Statement.{statement}
+use Rattle.lines.proofs.arguments.space_at.Tie as tie
+use Rattle.lines.proofs.arguments.space_at.Reads as reads
+use Rattle.lines.proofs.arguments.space_at.Lts as lts
+use Rattle.lines.proofs.arguments.argument_at.Reads as argument-at-reads
+
+-- src/arguments.rt:68:11
+argument-at-requires : tie.Need-argument-at-requires
+argument-at-requires c κs = search needs
+
+-- src/arguments.rt:69:26
+enum-known-x : tie.Need-enum-known-x
+enum-known-x c = search needs
+
+-- src/arguments.rt:69:86
+cast-t9 : tie.Need-cast-t9
+cast-t9 c = ?
+
+-- src/arguments.rt:70:29
+enum-known-after : tie.Need-enum-known-after
+enum-known-after c = search needs
+
+-- src/arguments.rt:71:33
+enum-told : tie.Need-enum-told
+enum-told c = search needs
+
+-- src/arguments.rt:73:16
+enum-told-2 : tie.Need-enum-told-2
+enum-told-2 c = search needs
+
+-- src/arguments.rt:74:17
+returns : tie.Need-returns
+returns c = ?
+
+-- src/arguments.rt:65:1
+returns-2 : tie.Need-returns-2
+returns-2 c = ?
+
+-- src/arguments.rt:65:1
+returns-3 : tie.Need-returns-3
+returns-3 c = ?
+
+-- src/arguments.rt:65:1
+returns-4 : tie.Need-returns-4
+returns-4 c = ?
+
+-- src/arguments.rt:65:1
+returns-5 : tie.Need-returns-5
+returns-5 c = ?
+
+pub space-at-spec : {M : Type 1} → statement M
+space-at-spec =
+    tie.close
+    (tie.spec
+    argument-at-requires
+    enum-known-x
+    cast-t9
+    enum-known-after
+    enum-told
+    enum-told-2
+    returns
+    returns-2
+    returns-3
+    returns-4
+    returns-5)

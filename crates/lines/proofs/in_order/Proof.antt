@@ -1,0 +1,130 @@
+use borrow.Author.Needs.{needs}
+use Rattle.lines.proofs.in_order.Statement.{statement}
+use Rattle.lines.proofs.in_order.Tie as tie
+use Rattle.lines.proofs.in_order.Reads as reads
+use Rattle.lines.proofs.in_order.Lts as lts
+use Rattle.decode.proofs.reads_of.Reads as reads-of-reads
+use Rattle.lines.proofs.arguments.field_at.Reads as field-at-reads
+use Rattle.lines.proofs.arguments.space_at.Reads as space-at-reads
+use Rattle.lines.proofs.arguments.space_optional.Reads as space-optional-reads
+use Rattle.lines.proofs.completed.Reads as completed-reads
+
+-- src/lib.rt:69:9
+reads-of-requires : tie.Need-reads-of-requires
+reads-of-requires c κs = search needs
+
+-- src/lib.rt:70:40
+field-at-requires : tie.Need-field-at-requires
+field-at-requires c κs = search needs
+
+-- src/lib.rt:70:26
+enum-known-n : tie.Need-enum-known-n
+enum-known-n c = search needs
+
+-- src/lib.rt:71:9
+returns : tie.Need-returns
+returns c = ?
+
+-- src/lib.rt:73:40
+field-at-requires-2 : tie.Need-field-at-requires-2
+field-at-requires-2 c κs = search needs
+
+-- src/lib.rt:73:26
+enum-known-g : tie.Need-enum-known-g
+enum-known-g c = search needs
+
+-- src/lib.rt:74:9
+returns-2 : tie.Need-returns-2
+returns-2 c = ?
+
+-- src/lib.rt:76:40
+field-at-requires-3 : tie.Need-field-at-requires-3
+field-at-requires-3 c κs = search needs
+
+-- src/lib.rt:76:26
+enum-known-m : tie.Need-enum-known-m
+enum-known-m c = search needs
+
+-- src/lib.rt:77:9
+returns-3 : tie.Need-returns-3
+returns-3 c = ?
+
+-- src/lib.rt:79:40
+field-at-requires-4 : tie.Need-field-at-requires-4
+field-at-requires-4 c κs = search needs
+
+-- src/lib.rt:79:26
+enum-known-v : tie.Need-enum-known-v
+enum-known-v c = search needs
+
+-- src/lib.rt:80:9
+returns-4 : tie.Need-returns-4
+returns-4 c = ?
+
+-- src/lib.rt:82:68
+space-optional-requires : tie.Need-space-optional-requires
+space-optional-requires c κs = search needs
+
+-- src/lib.rt:82:44
+space-at-requires : tie.Need-space-at-requires
+space-at-requires c κs = search needs
+
+-- src/lib.rt:82:30
+enum-known-s : tie.Need-enum-known-s
+enum-known-s c = search needs
+
+-- src/lib.rt:83:9
+enum-told : tie.Need-enum-told
+enum-told c = search needs
+
+-- src/lib.rt:83:9
+returns-5 : tie.Need-returns-5
+returns-5 c = ?
+
+-- src/lib.rt:87:21
+cast-t22 : tie.Need-cast-t22
+cast-t22 c = ?
+
+-- src/lib.rt:88:21
+cast-t24 : tie.Need-cast-t24
+cast-t24 c = ?
+
+-- src/lib.rt:89:21
+cast-t26 : tie.Need-cast-t26
+cast-t26 c = ?
+
+-- src/lib.rt:93:5
+completed-requires : tie.Need-completed-requires
+completed-requires c κs = search needs
+
+-- src/lib.rt:66:1
+returns-6 : tie.Need-returns-6
+returns-6 c = ?
+
+pub in-order-spec : {M : Type 1} → statement M
+in-order-spec =
+    tie.close
+    (tie.spec
+    reads-of-requires
+    field-at-requires
+    enum-known-n
+    returns
+    field-at-requires-2
+    enum-known-g
+    returns-2
+    field-at-requires-3
+    enum-known-m
+    returns-3
+    field-at-requires-4
+    enum-known-v
+    returns-4
+    space-optional-requires
+    space-at-requires
+    enum-known-s
+    enum-told
+    returns-5
+    cast-t22
+    cast-t24
+    cast-t26
+    completed-requires
+    returns-6)

@@ -1,0 +1,69 @@
+use borrow.Author.Needs.{needs}
+use Rattle.lines.proofs.operator_words.list_number.Statement.{statement}
+use Rattle.lines.proofs.operator_words.list_number.Tie as tie
+use Rattle.lines.proofs.operator_words.list_number.Reads as reads
+use Rattle.lines.proofs.operator_words.list_number.Lts as lts
+use Rattle.lines.proofs.operator_words.lists_adjacent.Reads as lists-adjacent-reads
+use Rattle.lines.proofs.operator_words.lists_all.Reads as lists-all-reads
+use Rattle.lines.proofs.operator_words.lists_inpointing.Reads as lists-inpointing-reads
+use Rattle.lines.proofs.operator_words.lists_outpointing.Reads as lists-outpointing-reads
+
+-- src/operator_words.rt:297:9
+returns : tie.Need-returns
+returns c = ?
+
+-- src/operator_words.rt:299:18
+shared-slice-read-second : tie.Need-shared-slice-read-second
+shared-slice-read-second c = search needs
+
+-- src/operator_words.rt:301:17
+lists-outpointing-requires : tie.Need-lists-outpointing-requires
+lists-outpointing-requires c κs = ?
+
+-- src/operator_words.rt:302:17
+lists-inpointing-requires : tie.Need-lists-inpointing-requires
+lists-inpointing-requires c κs = ?
+
+-- src/operator_words.rt:303:17
+lists-adjacent-requires : tie.Need-lists-adjacent-requires
+lists-adjacent-requires c κs = ?
+
+-- src/operator_words.rt:304:17
+lists-all-requires : tie.Need-lists-all-requires
+lists-all-requires c κs = ?
+
+-- src/operator_words.rt:292:1
+returns-2 : tie.Need-returns-2
+returns-2 c = search needs
+
+-- src/operator_words.rt:292:1
+returns-3 : tie.Need-returns-3
+returns-3 c = search needs
+
+-- src/operator_words.rt:292:1
+returns-4 : tie.Need-returns-4
+returns-4 c = search needs
+
+-- src/operator_words.rt:292:1
+returns-5 : tie.Need-returns-5
+returns-5 c = search needs
+
+-- src/operator_words.rt:292:1
+returns-6 : tie.Need-returns-6
+returns-6 c = ?
+
+pub list-number-spec : {M : Type 1} → statement M
+list-number-spec =
+    tie.close
+    (tie.spec
+    returns
+    shared-slice-read-second
+    lists-outpointing-requires
+    lists-inpointing-requires
+    lists-adjacent-requires
+    lists-all-requires
+    returns-2
+    returns-3
+    returns-4
+    returns-5
+    returns-6)

@@ -1,0 +1,91 @@
+use borrow.Author.Needs.{needs}
+use Rattle.lines.proofs.operator_words.operator_number.Statement.{statement}
+use Rattle.lines.proofs.operator_words.operator_number.Tie as tie
+use Rattle.lines.proofs.operator_words.operator_number.Reads as reads
+use Rattle.lines.proofs.operator_words.operator_number.Lts as lts
+use Rattle.lines.proofs.operator_words.bind_number.Reads as bind-number-reads
+use Rattle.lines.proofs.operator_words.create_number.Reads as create-number-reads
+use Rattle.lines.proofs.operator_words.exists_number.Reads as exists-number-reads
+use Rattle.lines.proofs.operator_words.list_number.Reads as list-number-reads
+use Rattle.lines.proofs.operator_words.remove_number.Reads as remove-number-reads
+use Rattle.lines.proofs.operator_words.value_number.Reads as value-number-reads
+
+-- src/operator_words.rt:314:9
+returns : tie.Need-returns
+returns c = ?
+
+-- src/operator_words.rt:316:17
+shared-slice-read-first : tie.Need-shared-slice-read-first
+shared-slice-read-first c = search needs
+
+-- src/operator_words.rt:318:17
+create-number-requires : tie.Need-create-number-requires
+create-number-requires c κs = ?
+
+-- src/operator_words.rt:319:17
+bind-number-requires : tie.Need-bind-number-requires
+bind-number-requires c κs = ?
+
+-- src/operator_words.rt:320:17
+value-number-requires : tie.Need-value-number-requires
+value-number-requires c κs = ?
+
+-- src/operator_words.rt:321:17
+exists-number-requires : tie.Need-exists-number-requires
+exists-number-requires c κs = ?
+
+-- src/operator_words.rt:322:17
+remove-number-requires : tie.Need-remove-number-requires
+remove-number-requires c κs = ?
+
+-- src/operator_words.rt:323:17
+list-number-requires : tie.Need-list-number-requires
+list-number-requires c κs = ?
+
+-- src/operator_words.rt:310:1
+returns-2 : tie.Need-returns-2
+returns-2 c = search needs
+
+-- src/operator_words.rt:310:1
+returns-3 : tie.Need-returns-3
+returns-3 c = search needs
+
+-- src/operator_words.rt:310:1
+returns-4 : tie.Need-returns-4
+returns-4 c = search needs
+
+-- src/operator_words.rt:310:1
+returns-5 : tie.Need-returns-5
+returns-5 c = search needs
+
+-- src/operator_words.rt:310:1
+returns-6 : tie.Need-returns-6
+returns-6 c = search needs
+
+-- src/operator_words.rt:310:1
+returns-7 : tie.Need-returns-7
+returns-7 c = search needs
+
+-- src/operator_words.rt:310:1
+returns-8 : tie.Need-returns-8
+returns-8 c = ?
+
+pub operator-number-spec : {M : Type 1} → statement M
+operator-number-spec =
+    tie.close
+    (tie.spec
+    returns
+    shared-slice-read-first
+    create-number-requires
+    bind-number-requires
+    value-number-requires
+    exists-number-requires
+    remove-number-requires
+    list-number-requires
+    returns-2
+    returns-3
+    returns-4
+    returns-5
+    returns-6
+    returns-7
+    returns-8)

@@ -1,0 +1,69 @@
+use borrow.Author.Needs.{needs}
+use Rattle.lines.proofs.operator_words.remove_number.Statement.{statement}
+use Rattle.lines.proofs.operator_words.remove_number.Tie as tie
+use Rattle.lines.proofs.operator_words.remove_number.Reads as reads
+use Rattle.lines.proofs.operator_words.remove_number.Lts as lts
+use Rattle.lines.proofs.operator_words.removes_adjacent.Reads as removes-adjacent-reads
+use Rattle.lines.proofs.operator_words.removes_inpointing.Reads as removes-inpointing-reads
+use Rattle.lines.proofs.operator_words.removes_one.Reads as removes-one-reads
+use Rattle.lines.proofs.operator_words.removes_outpointing.Reads as removes-outpointing-reads
+
+-- src/operator_words.rt:279:9
+returns : tie.Need-returns
+returns c = ?
+
+-- src/operator_words.rt:281:18
+shared-slice-read-second : tie.Need-shared-slice-read-second
+shared-slice-read-second c = search needs
+
+-- src/operator_words.rt:283:17
+removes-outpointing-requires : tie.Need-removes-outpointing-requires
+removes-outpointing-requires c κs = ?
+
+-- src/operator_words.rt:284:17
+removes-inpointing-requires : tie.Need-removes-inpointing-requires
+removes-inpointing-requires c κs = ?
+
+-- src/operator_words.rt:285:17
+removes-adjacent-requires : tie.Need-removes-adjacent-requires
+removes-adjacent-requires c κs = ?
+
+-- src/operator_words.rt:286:17
+removes-one-requires : tie.Need-removes-one-requires
+removes-one-requires c κs = ?
+
+-- src/operator_words.rt:274:1
+returns-2 : tie.Need-returns-2
+returns-2 c = search needs
+
+-- src/operator_words.rt:274:1
+returns-3 : tie.Need-returns-3
+returns-3 c = search needs
+
+-- src/operator_words.rt:274:1
+returns-4 : tie.Need-returns-4
+returns-4 c = search needs
+
+-- src/operator_words.rt:274:1
+returns-5 : tie.Need-returns-5
+returns-5 c = search needs
+
+-- src/operator_words.rt:274:1
+returns-6 : tie.Need-returns-6
+returns-6 c = ?
+
+pub remove-number-spec : {M : Type 1} → statement M
+remove-number-spec =
+    tie.close
+    (tie.spec
+    returns
+    shared-slice-read-second
+    removes-outpointing-requires
+    removes-inpointing-requires
+    removes-adjacent-requires
+    removes-one-requires
+    returns-2
+    returns-3
+    returns-4
+    returns-5
+    returns-6)

@@ -1,0 +1,75 @@
+use borrow.Author.Needs.{needs}
+use Rattle.lines.proofs.read_line.Statement.{statement}
+use Rattle.lines.proofs.read_line.Tie as tie
+use Rattle.lines.proofs.read_line.Reads as reads
+use Rattle.lines.proofs.read_line.Lts as lts
+use Rattle.lines.proofs.in_order.Reads as in-order-reads
+use Rattle.lines.proofs.operator_words.operator_number.Reads as operator-number-reads
+use Rattle.lines.proofs.space_then_value.Reads as space-then-value-reads
+use Rattle.lines.proofs.spaces_of.Reads as spaces-of-reads
+use Rattle.lines.proofs.words.end_of.Reads as end-of-reads
+
+-- src/lib.rt:149:9
+end-of-requires : tie.Need-end-of-requires
+end-of-requires c κs = search needs
+
+-- src/lib.rt:150:29
+sub-operator-number : tie.Need-sub-operator-number
+sub-operator-number c = search needs
+
+-- src/lib.rt:150:29
+part-operator-number-start : tie.Need-part-operator-number-start
+part-operator-number-start c = search needs
+
+-- src/lib.rt:150:29
+part-operator-number-end : tie.Need-part-operator-number-end
+part-operator-number-end c = ?
+
+-- src/lib.rt:150:9
+operator-number-requires : tie.Need-operator-number-requires
+operator-number-requires c κs = search needs
+
+-- src/lib.rt:153:15
+space-then-value-requires : tie.Need-space-then-value-requires
+space-then-value-requires c κs = search needs
+
+-- src/lib.rt:154:15
+spaces-of-requires : tie.Need-spaces-of-requires
+spaces-of-requires c κs = search needs
+
+-- src/lib.rt:155:14
+in-order-requires : tie.Need-in-order-requires
+in-order-requires c κs = search needs
+
+-- src/lib.rt:146:1
+returns : tie.Need-returns
+returns c = ?
+
+-- src/lib.rt:146:1
+returns-2 : tie.Need-returns-2
+returns-2 c = ?
+
+-- src/lib.rt:146:1
+returns-3 : tie.Need-returns-3
+returns-3 c = ?
+
+-- src/lib.rt:146:1
+returns-4 : tie.Need-returns-4
+returns-4 c = ?
+
+pub read-line-spec : {M : Type 1} → statement M
+read-line-spec =
+    tie.close
+    (tie.spec
+    end-of-requires
+    sub-operator-number
+    part-operator-number-start
+    part-operator-number-end
+    operator-number-requires
+    space-then-value-requires
+    spaces-of-requires
+    in-order-requires
+    returns
+    returns-2
+    returns-3
+    returns-4)

@@ -1,0 +1,58 @@
+use borrow.Author.Needs.{needs}
+use Rattle.lines.proofs.space_then_value.Statement.{statement}
+use Rattle.lines.proofs.space_then_value.Tie as tie
+use Rattle.lines.proofs.space_then_value.Reads as reads
+use Rattle.lines.proofs.space_then_value.Lts as lts
+use Rattle.lines.proofs.arguments.argument_at.Reads as argument-at-reads
+use Rattle.lines.proofs.arguments.space_at.Reads as space-at-reads
+use Rattle.lines.proofs.completed.Reads as completed-reads
+
+-- src/lib.rt:100:44
+space-at-requires : tie.Need-space-at-requires
+space-at-requires c κs = search needs
+
+-- src/lib.rt:100:30
+enum-known-s : tie.Need-enum-known-s
+enum-known-s c = search needs
+
+-- src/lib.rt:101:9
+enum-told : tie.Need-enum-told
+enum-told c = search needs
+
+-- src/lib.rt:101:9
+returns : tie.Need-returns
+returns c = ?
+
+-- src/lib.rt:103:40
+argument-at-requires : tie.Need-argument-at-requires
+argument-at-requires c κs = search needs
+
+-- src/lib.rt:103:26
+enum-known-v : tie.Need-enum-known-v
+enum-known-v c = search needs
+
+-- src/lib.rt:104:9
+returns-2 : tie.Need-returns-2
+returns-2 c = ?
+
+-- src/lib.rt:114:5
+completed-requires : tie.Need-completed-requires
+completed-requires c κs = search needs
+
+-- src/lib.rt:97:1
+returns-3 : tie.Need-returns-3
+returns-3 c = ?
+
+pub space-then-value-spec : {M : Type 1} → statement M
+space-then-value-spec =
+    tie.close
+    (tie.spec
+    space-at-requires
+    enum-known-s
+    enum-told
+    returns
+    argument-at-requires
+    enum-known-v
+    returns-2
+    completed-requires
+    returns-3)

@@ -1,0 +1,47 @@
+use borrow.Author.Needs.{needs}
+use Rattle.lines.proofs.spaces_of.Statement.{statement}
+use Rattle.lines.proofs.spaces_of.Tie as tie
+use Rattle.lines.proofs.spaces_of.Reads as reads
+use Rattle.lines.proofs.spaces_of.Lts as lts
+use Rattle.lines.proofs.arguments.argument_at.Reads as argument-at-reads
+use Rattle.lines.proofs.completed.Reads as completed-reads
+
+-- src/lib.rt:122:9
+returns : tie.Need-returns
+returns c = ?
+
+-- src/lib.rt:131:40
+argument-at-requires : tie.Need-argument-at-requires
+argument-at-requires c κs = search needs
+
+-- src/lib.rt:131:26
+enum-known-n : tie.Need-enum-known-n
+enum-known-n c = search needs
+
+-- src/lib.rt:132:9
+returns-2 : tie.Need-returns-2
+returns-2 c = ?
+
+-- src/lib.rt:136:21
+cast-t14 : tie.Need-cast-t14
+cast-t14 c = ?
+
+-- src/lib.rt:142:5
+completed-requires : tie.Need-completed-requires
+completed-requires c κs = search needs
+
+-- src/lib.rt:118:1
+returns-3 : tie.Need-returns-3
+returns-3 c = ?
+
+pub spaces-of-spec : {M : Type 1} → statement M
+spaces-of-spec =
+    tie.close
+    (tie.spec
+    returns
+    argument-at-requires
+    enum-known-n
+    returns-2
+    cast-t14
+    completed-requires
+    returns-3)
