@@ -4,10 +4,10 @@ use mathlib.Core.List.{List, [], _∷_}
 use mathlib.Core.Path.{_≡_, refl, sym, ap, _∙_, subst}
 use Prim.Native.Nat.{ℕ, zero, suc, _+_, _≤_, _<_}
 use native.Mathlib.Omega.{arith}
-use lib.Dec.{eqb}
+use lib.Dec.{eqb, ltb}
 use lib.ListN.{length, getD}
-use borrow.Author.Tests.{eq-eqb, ne-eqb, eqb-true}
-use Rattle.model.proofs.Bools.{and-left, and-right, failed}
+use borrow.Author.Tests.{eq-eqb, ne-eqb, eqb-true, lt-ltb}
+use Rattle.model.proofs.Bools.{and-left, and-right, and-both, no-not, failed}
 use Rattle.text.specs.Bytes.{Text, sameText, A, B, C, D, G, I, N, O, P, S, U, «V», X}
 use Rattle.text.proofs.Reading.{same-text}
 use Rattle.lines.specs.OperatorWords.{operatorWords, numberFrom, operatorNumber}
@@ -93,3 +93,46 @@ unfolding begins beginsTwo
 begins-with-two a b [] h l e = absurd (omega arith)
 begins-with-two a b (x ∷ []) h l e = absurd (omega arith)
 begins-with-two a b (x ∷ y ∷ ys) h l e = rw (h, eq-eqb y b e)
+
+-- a word of fewer than two letters is no operator
+abbrev short : Text → Bool
+short w = ltb (length w) 2
+
+pub no-short : (w : Text) → length w < 2 → 0 ≡ operatorNumber w
+unfolding operatorWords
+no-short w h = no-operator short w (lt-ltb (length w) 2 h) compared
+
+-- is a letter none of some
+abbrev differs : ℕ → List ℕ → Bool
+differs x [] = true
+differs x (a ∷ ls) = not (eqb x a) && differs x ls
+
+differs-more : (x a : ℕ) (ls : List ℕ) → (x ≡ a → ⊥) → differs x ls ≡ true → differs x (a ∷ ls) ≡ true
+differs-more x a ls n e = and-both _ _ (no-not _ (ne-eqb x a n)) e
+
+-- a word with another first letter is no operator
+pub no-first : (w : Text) → (getD w 0 0 ≡ C → ⊥) → (getD w 0 0 ≡ B → ⊥) → (getD w 0 0 ≡ «V» → ⊥) → (getD w 0 0 ≡ X → ⊥) → (getD w 0 0 ≡ D → ⊥) → (getD w 0 0 ≡ S → ⊥) → 0 ≡ operatorNumber w
+unfolding operatorWords
+no-first w c b v x d s =
+    no-operator (λ (t : Text). differs (getD t 0 0) (C ∷ B ∷ «V» ∷ X ∷ D ∷ S ∷ [])) w
+    (differs-more (getD w 0 0) C (B ∷ «V» ∷ X ∷ D ∷ S ∷ []) c
+    (differs-more (getD w 0 0) B («V» ∷ X ∷ D ∷ S ∷ []) b
+    (differs-more (getD w 0 0) «V» (X ∷ D ∷ S ∷ []) v
+    (differs-more (getD w 0 0) X (D ∷ S ∷ []) x
+    (differs-more (getD w 0 0) D (S ∷ []) d
+    (differs-more (getD w 0 0) S [] s refl))))))
+    compared
+
+-- a word with this first letter and a second that is none of O, I, A, U
+abbrev pub otherSecond : ℕ → Text → Bool
+otherSecond a w = begins a w && differs (getD w 1 0) (O ∷ I ∷ A ∷ U ∷ [])
+
+pub no-second : (a : ℕ) (w : Text) → begins a w ≡ true → (getD w 1 0 ≡ O → ⊥) → (getD w 1 0 ≡ I → ⊥) → (getD w 1 0 ≡ A → ⊥) → (getD w 1 0 ≡ U → ⊥) → NoneOf w (passing (otherSecond a) operatorWords) → 0 ≡ operatorNumber w
+no-second a w h o i l u n =
+    no-operator (otherSecond a) w
+    (and-both (begins a w) _ h
+    (differs-more (getD w 1 0) O (I ∷ A ∷ U ∷ []) o
+    (differs-more (getD w 1 0) I (A ∷ U ∷ []) i
+    (differs-more (getD w 1 0) A (U ∷ []) l
+    (differs-more (getD w 1 0) U [] u refl)))))
+    n

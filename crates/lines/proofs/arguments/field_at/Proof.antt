@@ -1,3 +1,6 @@
+use mathlib.Core.Path.{_∙_}
+use Rattle.model.proofs.Bools.{not-yes, not-no}
+use Rattle.lines.proofs.ArgumentLaws.{not-read, is-read}
 use borrow.Author.Needs.{needs}
 use Rattle.lines.proofs.arguments.field_at.Statement.{statement}
 use Rattle.lines.proofs.arguments.field_at.Tie as tie
@@ -7,7 +10,7 @@ use Rattle.lines.proofs.arguments.argument_at.Reads as argument-at-read
 
 -- src/arguments.rt:59:9
 returns : tie.Need-returns
-returns c = ?
+returns c = not-read _ _ _ _ (not-yes _ (c .if1 .taken))
 
 -- src/arguments.rt:61:5
 argument-at-requires : tie.Need-argument-at-requires
@@ -15,7 +18,7 @@ argument-at-requires c κs = search needs
 
 -- src/arguments.rt:55:1
 returns-2 : tie.Need-returns-2
-returns-2 c = ?
+returns-2 c = c .argument-at .ensures ∙ is-read _ _ _ _ (not-no _ (c .before .if1 .left))
 
 pub field-at-spec : {M : Type 1} → statement M
 field-at-spec = tie.close (tie.spec returns argument-at-requires returns-2)

@@ -1,3 +1,11 @@
+use mathlib.Core.Bool.{true, false, cond}
+use mathlib.Core.Path.{sym, ap, _∙_}
+use native.Mathlib.Omega.{arith}
+use Rattle.model.specs.Keys.{mostName}
+use Rattle.model.specs.declared.Space.the-variants.{Universe}
+use Rattle.lines.specs.declared.arguments.SpaceArgument.the-variants.{Given, NotASpace}
+use Rattle.lines.specs.Places.{spaceOf}
+use Rattle.lines.proofs.ArgumentLaws.{name-fits, missing-space}
 use borrow.Author.Needs.{needs}
 use Rattle.lines.proofs.arguments.space_at.Statement.{statement}
 use Rattle.lines.proofs.arguments.space_at.Tie as tie
@@ -15,7 +23,7 @@ enum-known-x c = search needs
 
 -- src/arguments.rt:69:86
 cast-t9 : tie.Need-cast-t9
-cast-t9 c = ?
+cast-t9 c = record { fits = omega (arith, name-fits mostName (c .before .before .before .before .before .args .line .now) (c .before .before .before .before .before .args .end) _ _ _ (c .before .before .before .argument-at .ensures) (c .before .x .given .1)) }
 
 -- src/arguments.rt:70:29
 enum-known-after : tie.Need-enum-known-after
@@ -31,23 +39,26 @@ enum-told-2 c = search needs
 
 -- src/arguments.rt:74:17
 returns : tie.Need-returns
-returns c = ?
+returns c = ap (λ b. cond b (Given Universe (c .before .before .before .before .before .args .end)) NotASpace) (sym (c .if1 .taken)) ∙ missing-space _ _ _ _ (c .before .before .before .argument-at .ensures) (c .before .enum-told2 .given .1)
 
 -- src/arguments.rt:65:1
 returns-2 : tie.Need-returns-2
-returns-2 c = ?
+unfolding spaceOf
+returns-2 c = ap (spaceOf (c .before .before .before .before .before .args .optional) (c .before .before .before .before .before .args .end)) (sym (c .before .x .given .1) ∙ c .before .before .before .argument-at .ensures)
 
 -- src/arguments.rt:65:1
 returns-3 : tie.Need-returns-3
-returns-3 c = ?
+unfolding spaceOf
+returns-3 c = ap (spaceOf (c .before .before .before .before .before .args .optional) (c .before .before .before .before .before .args .end)) (sym (c .before .after .given .1) ∙ c .before .before .before .argument-at .ensures)
 
 -- src/arguments.rt:65:1
 returns-4 : tie.Need-returns-4
-returns-4 c = ?
+unfolding spaceOf
+returns-4 c = ap (spaceOf (c .before .before .before .before .args .optional) (c .before .before .before .before .args .end)) (sym (c .enum-told .given .1) ∙ c .before .before .argument-at .ensures)
 
 -- src/arguments.rt:65:1
 returns-5 : tie.Need-returns-5
-returns-5 c = ?
+returns-5 c = ap (λ b. cond b (Given Universe (c .before .before .before .before .before .args .end)) NotASpace) (sym (c .if1 .left)) ∙ missing-space _ _ _ _ (c .before .before .before .argument-at .ensures) (c .before .enum-told2 .given .1)
 
 pub space-at-spec : {M : Type 1} → statement M
 space-at-spec =

@@ -1,3 +1,7 @@
+use Rattle.text.specs.Bytes.{S, O, I, A, U}
+use Rattle.lines.specs.OperatorWords.{operatorWords}
+use Rattle.lines.specs.Letters.{begins}
+use Rattle.lines.proofs.LookUp.{compared, no-short, no-second, begins-with-two}
 use borrow.Author.Needs.{needs}
 use Rattle.lines.proofs.operator_words.list_number.Statement.{statement}
 use Rattle.lines.proofs.operator_words.list_number.Tie as tie
@@ -10,7 +14,7 @@ use Rattle.lines.proofs.operator_words.lists_outpointing.Reads as lists
 
 -- src/operator_words.rt:297:9
 returns : tie.Need-returns
-returns c = ?
+returns c = no-short _ (c .if1 .taken)
 
 -- src/operator_words.rt:299:18
 shared-slice-read-second : tie.Need-shared-slice-read-second
@@ -18,19 +22,19 @@ shared-slice-read-second c = search needs
 
 -- src/operator_words.rt:301:17
 lists-outpointing-requires : tie.Need-lists-outpointing-requires
-lists-outpointing-requires c κs = ?
+lists-outpointing-requires c κs = begins-with-two S O _ (c .before .before .before .before .pre) (c .before .before .if1 .left) (c .match .keys1)
 
 -- src/operator_words.rt:302:17
 lists-inpointing-requires : tie.Need-lists-inpointing-requires
-lists-inpointing-requires c κs = ?
+lists-inpointing-requires c κs = begins-with-two S I _ (c .before .before .before .before .pre) (c .before .before .if1 .left) (c .match .keys2)
 
 -- src/operator_words.rt:303:17
 lists-adjacent-requires : tie.Need-lists-adjacent-requires
-lists-adjacent-requires c κs = ?
+lists-adjacent-requires c κs = begins-with-two S A _ (c .before .before .before .before .pre) (c .before .before .if1 .left) (c .match .keys3)
 
 -- src/operator_words.rt:304:17
 lists-all-requires : tie.Need-lists-all-requires
-lists-all-requires c κs = ?
+lists-all-requires c κs = begins-with-two S U _ (c .before .before .before .before .pre) (c .before .before .if1 .left) (c .match .keys4)
 
 -- src/operator_words.rt:292:1
 returns-2 : tie.Need-returns-2
@@ -50,7 +54,8 @@ returns-5 c = search needs
 
 -- src/operator_words.rt:292:1
 returns-6 : tie.Need-returns-6
-returns-6 c = ?
+unfolding operatorWords begins
+returns-6 c = no-second S _ (c .before .before .before .before .pre) (c .match .rest .0 .0 .0 .1) (c .match .rest .0 .0 .1) (c .match .rest .0 .1) (c .match .rest .1) compared
 
 pub list-number-spec : {M : Type 1} → statement M
 list-number-spec =

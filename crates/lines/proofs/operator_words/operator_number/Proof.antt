@@ -1,3 +1,6 @@
+use native.Mathlib.Omega.{arith}
+use Rattle.text.specs.Bytes.{B, C, D, S, «V», X}
+use Rattle.lines.proofs.LookUp.{no-short, no-first, begins-with}
 use borrow.Author.Needs.{needs}
 use Rattle.lines.proofs.operator_words.operator_number.Statement.{statement}
 use Rattle.lines.proofs.operator_words.operator_number.Tie as tie
@@ -12,7 +15,7 @@ use Rattle.lines.proofs.operator_words.value_number.Reads as value-numb
 
 -- src/operator_words.rt:314:9
 returns : tie.Need-returns
-returns c = ?
+returns c = no-short _ (omega (arith, c .if1 .taken))
 
 -- src/operator_words.rt:316:17
 shared-slice-read-first : tie.Need-shared-slice-read-first
@@ -20,27 +23,27 @@ shared-slice-read-first c = search needs
 
 -- src/operator_words.rt:318:17
 create-number-requires : tie.Need-create-number-requires
-create-number-requires c κs = ?
+create-number-requires c κs = begins-with C _ (c .before .before .if1 .left) (c .match .keys1)
 
 -- src/operator_words.rt:319:17
 bind-number-requires : tie.Need-bind-number-requires
-bind-number-requires c κs = ?
+bind-number-requires c κs = begins-with B _ (c .before .before .if1 .left) (c .match .keys2)
 
 -- src/operator_words.rt:320:17
 value-number-requires : tie.Need-value-number-requires
-value-number-requires c κs = ?
+value-number-requires c κs = begins-with «V» _ (c .before .before .if1 .left) (c .match .keys3)
 
 -- src/operator_words.rt:321:17
 exists-number-requires : tie.Need-exists-number-requires
-exists-number-requires c κs = ?
+exists-number-requires c κs = begins-with X _ (c .before .before .if1 .left) (c .match .keys4)
 
 -- src/operator_words.rt:322:17
 remove-number-requires : tie.Need-remove-number-requires
-remove-number-requires c κs = ?
+remove-number-requires c κs = begins-with D _ (c .before .before .if1 .left) (c .match .keys5)
 
 -- src/operator_words.rt:323:17
 list-number-requires : tie.Need-list-number-requires
-list-number-requires c κs = ?
+list-number-requires c κs = begins-with S _ (c .before .before .if1 .left) (c .match .keys6)
 
 -- src/operator_words.rt:310:1
 returns-2 : tie.Need-returns-2
@@ -68,7 +71,7 @@ returns-7 c = search needs
 
 -- src/operator_words.rt:310:1
 returns-8 : tie.Need-returns-8
-returns-8 c = ?
+returns-8 c = no-first _ (c .match .rest .0 .0 .0 .0 .0 .1) (c .match .rest .0 .0 .0 .0 .1) (c .match .rest .0 .0 .0 .1) (c .match .rest .0 .0 .1) (c .match .rest .0 .1) (c .match .rest .1)
 
 pub operator-number-spec : {M : Type 1} → statement M
 operator-number-spec =

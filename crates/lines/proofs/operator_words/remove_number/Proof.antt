@@ -1,3 +1,7 @@
+use Rattle.text.specs.Bytes.{D, O, I, A, U}
+use Rattle.lines.specs.OperatorWords.{operatorWords}
+use Rattle.lines.specs.Letters.{begins}
+use Rattle.lines.proofs.LookUp.{compared, no-short, no-second, begins-with-two}
 use borrow.Author.Needs.{needs}
 use Rattle.lines.proofs.operator_words.remove_number.Statement.{statement}
 use Rattle.lines.proofs.operator_words.remove_number.Tie as tie
@@ -10,7 +14,7 @@ use Rattle.lines.proofs.operator_words.removes_outpointing.Reads as rem
 
 -- src/operator_words.rt:279:9
 returns : tie.Need-returns
-returns c = ?
+returns c = no-short _ (c .if1 .taken)
 
 -- src/operator_words.rt:281:18
 shared-slice-read-second : tie.Need-shared-slice-read-second
@@ -18,19 +22,19 @@ shared-slice-read-second c = search needs
 
 -- src/operator_words.rt:283:17
 removes-outpointing-requires : tie.Need-removes-outpointing-requires
-removes-outpointing-requires c κs = ?
+removes-outpointing-requires c κs = begins-with-two D O _ (c .before .before .before .before .pre) (c .before .before .if1 .left) (c .match .keys1)
 
 -- src/operator_words.rt:284:17
 removes-inpointing-requires : tie.Need-removes-inpointing-requires
-removes-inpointing-requires c κs = ?
+removes-inpointing-requires c κs = begins-with-two D I _ (c .before .before .before .before .pre) (c .before .before .if1 .left) (c .match .keys2)
 
 -- src/operator_words.rt:285:17
 removes-adjacent-requires : tie.Need-removes-adjacent-requires
-removes-adjacent-requires c κs = ?
+removes-adjacent-requires c κs = begins-with-two D A _ (c .before .before .before .before .pre) (c .before .before .if1 .left) (c .match .keys3)
 
 -- src/operator_words.rt:286:17
 removes-one-requires : tie.Need-removes-one-requires
-removes-one-requires c κs = ?
+removes-one-requires c κs = begins-with-two D U _ (c .before .before .before .before .pre) (c .before .before .if1 .left) (c .match .keys4)
 
 -- src/operator_words.rt:274:1
 returns-2 : tie.Need-returns-2
@@ -50,7 +54,8 @@ returns-5 c = search needs
 
 -- src/operator_words.rt:274:1
 returns-6 : tie.Need-returns-6
-returns-6 c = ?
+unfolding operatorWords begins
+returns-6 c = no-second D _ (c .before .before .before .before .pre) (c .match .rest .0 .0 .0 .1) (c .match .rest .0 .0 .1) (c .match .rest .0 .1) (c .match .rest .1) compared
 
 pub remove-number-spec : {M : Type 1} → statement M
 remove-number-spec =
