@@ -3,3 +3,4 @@ pub mod LineLaws
 pub mod WordLaws
 pub mod LookUp
 pub mod ArgumentLaws
+pub mod CallLaws

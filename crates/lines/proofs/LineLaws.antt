@@ -36,7 +36,7 @@ first-line b (c ∷ bs) = go (eqb b lineFeed) (first-line c bs)
     go : (x : Bool)
         → linesOf (c ∷ bs) ≡ before lineFeed (c ∷ bs) ∷ linesOf (drop (length (before lineFeed (c ∷ bs)) + 1) (c ∷ bs))
         → cond x ([] ∷ linesOf (c ∷ bs)) (inFront b (linesOf (c ∷ bs)))
-          ≡ cond x [] (b ∷ before lineFeed (c ∷ bs)) ∷ linesOf (drop (length (cond x [] (b ∷ before lineFeed (c ∷ bs))) + 1) (b ∷ c ∷ bs))
+        ≡ cond x [] (b ∷ before lineFeed (c ∷ bs)) ∷ linesOf (drop (length (cond x [] (b ∷ before lineFeed (c ∷ bs))) + 1) (b ∷ c ∷ bs))
     go true e = refl
     go false e =
         let k : suc (length (before lineFeed (c ∷ bs))) + 1 ≡ suc (length (before lineFeed (c ∷ bs)) + 1) = omega arith in

@@ -66,7 +66,10 @@ pub fn space_at(line: &[u8], end: usize, optional: bool) -> SpaceArgument
     ensures { λ r. ⌜ r ≡ spaceOf optional end (argumentAt mostName (now (line .entry)) end) ⌝ }
 {
     match argument_at(line, end, 65535) {
-        Argument::Number(x, after) => SpaceArgument::Given(Space::Numbered(SpaceName(x as u16)), after),
+        Argument::Number(x, after) => SpaceArgument::Given(
+            Space::Numbered(SpaceName(x as u16)),
+            after,
+        ),
         Argument::Universal(after) => SpaceArgument::Given(Space::Universe, after),
         Argument::Unreadable => SpaceArgument::NotASpace,
         Argument::Missing => {

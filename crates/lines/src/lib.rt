@@ -4,11 +4,11 @@ mod numbers;
 mod operator_words;
 mod words;
 
+use arguments::SpaceArgument;
 use arguments::argument_at;
 use arguments::field_at;
 use arguments::space_at;
 use arguments::space_optional;
-use arguments::SpaceArgument;
 use model::Call;
 use model::EdgeName;
 use model::NodeName;

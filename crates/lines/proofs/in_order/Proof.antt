@@ -1,3 +1,8 @@
+use mathlib.Core.Path.{sym, _∙_}
+use native.Mathlib.Omega.{arith}
+use Rattle.model.specs.Keys.{mostName}
+use Rattle.lines.proofs.ArgumentLaws.{no-number, field-fits}
+use Rattle.lines.proofs.CallLaws.{after-n, no-n, after-g, no-g, after-m, no-m, after-v, no-v, after-s, no-s}
 use borrow.Author.Needs.{needs}
 use Rattle.lines.proofs.in_order.Statement.{statement}
 use Rattle.lines.proofs.in_order.Tie as tie
@@ -23,7 +28,7 @@ enum-known-n c = search needs
 
 -- src/lib.rt:71:9
 returns : tie.Need-returns
-returns c = ?
+returns c = sym (no-n _ _ _ _ (c .before .before .reads-of .ensures) _ (c .before .field-at .ensures) (no-number _ (c .match .keys2)))
 
 -- src/lib.rt:73:40
 field-at-requires-2 : tie.Need-field-at-requires-2
@@ -35,7 +40,8 @@ enum-known-g c = search needs
 
 -- src/lib.rt:74:9
 returns-2 : tie.Need-returns-2
-returns-2 c = ?
+returns-2 c = sym (after-n _ _ _ _ (c .before .before .before .before .before .before .reads-of .ensures) _ (c .before .before .before .before .before .field-at .ensures) _ _ (c .before .before .before .n .given .1)
+    ∙ no-g _ _ _ _ (c .before .before .before .before .before .before .reads-of .ensures) _ (c .before .before .before .n .given .0 .0) (c .before .field-at2 .ensures) (no-number _ (c .match2 .keys2)))
 
 -- src/lib.rt:76:40
 field-at-requires-3 : tie.Need-field-at-requires-3
@@ -47,7 +53,9 @@ enum-known-m c = search needs
 
 -- src/lib.rt:77:9
 returns-3 : tie.Need-returns-3
-returns-3 c = ?
+returns-3 c = sym (after-n _ _ _ _ (c .before .before .before .before .before .before .before .before .before .before .reads-of .ensures) _ (c .before .before .before .before .before .before .before .before .before .field-at .ensures) _ _ (c .before .before .before .before .before .before .before .n .given .1)
+    ∙ after-g _ _ _ _ (c .before .before .before .before .before .before .before .before .before .before .reads-of .ensures) _ (c .before .before .before .before .before .before .before .n .given .0 .0) (c .before .before .before .before .before .field-at2 .ensures) _ _ (c .before .before .before .g .given .1)
+    ∙ no-m _ _ _ _ (c .before .before .before .before .before .before .before .before .before .before .reads-of .ensures) _ (c .before .before .before .before .before .before .before .n .given .0 .0) (c .before .before .before .g .given .0 .0) (c .before .field-at3 .ensures) (no-number _ (c .match3 .keys2)))
 
 -- src/lib.rt:79:40
 field-at-requires-4 : tie.Need-field-at-requires-4
@@ -59,7 +67,10 @@ enum-known-v c = search needs
 
 -- src/lib.rt:80:9
 returns-4 : tie.Need-returns-4
-returns-4 c = ?
+returns-4 c = sym (after-n _ _ _ _ (c .before .before .before .before .before .before .before .before .before .before .before .before .before .before .reads-of .ensures) _ (c .before .before .before .before .before .before .before .before .before .before .before .before .before .field-at .ensures) _ _ (c .before .before .before .before .before .before .before .before .before .before .before .n .given .1)
+    ∙ after-g _ _ _ _ (c .before .before .before .before .before .before .before .before .before .before .before .before .before .before .reads-of .ensures) _ (c .before .before .before .before .before .before .before .before .before .before .before .n .given .0 .0) (c .before .before .before .before .before .before .before .before .before .field-at2 .ensures) _ _ (c .before .before .before .before .before .before .before .g .given .1)
+    ∙ after-m _ _ _ _ (c .before .before .before .before .before .before .before .before .before .before .before .before .before .before .reads-of .ensures) _ (c .before .before .before .before .before .before .before .before .before .before .before .n .given .0 .0) (c .before .before .before .before .before .before .before .g .given .0 .0) (c .before .before .before .before .before .field-at3 .ensures) _ _ (c .before .before .before .m .given .1)
+    ∙ no-v _ _ _ _ (c .before .before .before .before .before .before .before .before .before .before .before .before .before .before .reads-of .ensures) _ (c .before .before .before .before .before .before .before .before .before .before .before .n .given .0 .0) (c .before .before .before .before .before .before .before .g .given .0 .0) (c .before .before .before .m .given .0 .0) (c .before .field-at4 .ensures) (no-number _ (c .match4 .keys2)))
 
 -- src/lib.rt:82:68
 space-optional-requires : tie.Need-space-optional-requires
@@ -79,19 +90,23 @@ enum-told c = search needs
 
 -- src/lib.rt:83:9
 returns-5 : tie.Need-returns-5
-returns-5 c = ?
+returns-5 c = sym (after-n _ _ _ _ (c .before .before .before .before .before .before .before .before .before .before .before .before .before .before .before .before .before .before .before .before .reads-of .ensures) _ (c .before .before .before .before .before .before .before .before .before .before .before .before .before .before .before .before .before .before .before .field-at .ensures) _ _ (c .before .before .before .before .before .before .before .before .before .before .before .before .before .before .before .before .before .n .given .1)
+    ∙ after-g _ _ _ _ (c .before .before .before .before .before .before .before .before .before .before .before .before .before .before .before .before .before .before .before .before .reads-of .ensures) _ (c .before .before .before .before .before .before .before .before .before .before .before .before .before .before .before .before .before .n .given .0 .0) (c .before .before .before .before .before .before .before .before .before .before .before .before .before .before .before .field-at2 .ensures) _ _ (c .before .before .before .before .before .before .before .before .before .before .before .before .before .g .given .1)
+    ∙ after-m _ _ _ _ (c .before .before .before .before .before .before .before .before .before .before .before .before .before .before .before .before .before .before .before .before .reads-of .ensures) _ (c .before .before .before .before .before .before .before .before .before .before .before .before .before .before .before .before .before .n .given .0 .0) (c .before .before .before .before .before .before .before .before .before .before .before .before .before .g .given .0 .0) (c .before .before .before .before .before .before .before .before .before .before .before .field-at3 .ensures) _ _ (c .before .before .before .before .before .before .before .before .before .m .given .1)
+    ∙ after-v _ _ _ _ (c .before .before .before .before .before .before .before .before .before .before .before .before .before .before .before .before .before .before .before .before .reads-of .ensures) _ (c .before .before .before .before .before .before .before .before .before .before .before .before .before .before .before .before .before .n .given .0 .0) (c .before .before .before .before .before .before .before .before .before .before .before .before .before .g .given .0 .0) (c .before .before .before .before .before .before .before .before .before .m .given .0 .0) (c .before .before .before .before .before .before .before .field-at4 .ensures) _ _ (c .before .before .before .before .before .v .given .1)
+    ∙ no-s (c .before .before .before .before .before .before .before .before .before .before .before .before .before .before .before .before .before .before .before .before .before .before .args .o) _ _ _ (c .before .before .before .space-optional .ensures) _ (c .before .before .space-at .ensures) (c .before .before .before .before .before .before .before .before .before .before .before .before .before .before .before .before .before .n .given .0 .0) (c .before .before .before .before .before .before .before .before .before .before .before .before .before .g .given .0 .0) (c .before .before .before .before .before .before .before .before .before .m .given .0 .0) (c .before .before .before .before .before .v .given .0 .0) (c .enum-told .given .1))
 
 -- src/lib.rt:87:21
 cast-t22 : tie.Need-cast-t22
-cast-t22 c = ?
+cast-t22 c = record { fits = omega (arith, field-fits (c .before .before .before .before .before .before .before .before .before .before .before .before .before .before .before .before .before .before .before .before .before .reads-of .result .n) mostName (c .before .before .before .before .before .before .before .before .before .before .before .before .before .before .before .before .before .before .before .before .before .before .before .args .line .now) (c .before .before .before .before .before .before .before .before .before .before .before .before .before .before .before .before .before .before .before .before .before .before .before .args .end) _ _ _ (c .before .before .before .before .before .before .before .before .before .before .before .before .before .before .before .before .before .before .before .before .field-at .ensures) (c .before .before .before .before .before .before .before .before .before .before .before .before .before .before .before .before .before .before .n .given .1)) }
 
 -- src/lib.rt:88:21
 cast-t24 : tie.Need-cast-t24
-cast-t24 c = ?
+cast-t24 c = record { fits = omega (arith, field-fits (c .before .before .before .before .before .before .before .before .before .before .before .before .before .before .before .before .before .before .before .before .before .reads-of .result .g) mostName (c .before .before .before .before .before .before .before .before .before .before .before .before .before .before .before .before .before .before .before .before .before .before .before .args .line .now) (c .before .before .before .before .before .before .before .before .before .before .before .before .before .before .before .before .before .before .n .given .0 .1 .0) _ _ _ (c .before .before .before .before .before .before .before .before .before .before .before .before .before .before .before .before .field-at2 .ensures) (c .before .before .before .before .before .before .before .before .before .before .before .before .before .before .g .given .1)) }
 
 -- src/lib.rt:89:21
 cast-t26 : tie.Need-cast-t26
-cast-t26 c = ?
+cast-t26 c = record { fits = omega (arith, field-fits (c .before .before .before .before .before .before .before .before .before .before .before .before .before .before .before .before .before .before .before .before .before .reads-of .result .m) mostName (c .before .before .before .before .before .before .before .before .before .before .before .before .before .before .before .before .before .before .before .before .before .before .before .args .line .now) (c .before .before .before .before .before .before .before .before .before .before .before .before .before .before .g .given .0 .1 .0) _ _ _ (c .before .before .before .before .before .before .before .before .before .before .before .before .field-at3 .ensures) (c .before .before .before .before .before .before .before .before .before .before .m .given .1)) }
 
 -- src/lib.rt:93:5
 completed-requires : tie.Need-completed-requires
@@ -99,7 +114,11 @@ completed-requires c κs = search needs
 
 -- src/lib.rt:66:1
 returns-6 : tie.Need-returns-6
-returns-6 c = ?
+returns-6 c = c .completed .ensures ∙ sym (after-n _ _ _ _ (c .before .before .before .before .before .before .before .before .before .before .before .before .before .before .before .before .before .before .before .before .before .before .reads-of .ensures) _ (c .before .before .before .before .before .before .before .before .before .before .before .before .before .before .before .before .before .before .before .before .before .field-at .ensures) _ _ (c .before .before .before .before .before .before .before .before .before .before .before .before .before .before .before .before .before .before .before .n .given .1)
+    ∙ after-g _ _ _ _ (c .before .before .before .before .before .before .before .before .before .before .before .before .before .before .before .before .before .before .before .before .before .before .reads-of .ensures) _ (c .before .before .before .before .before .before .before .before .before .before .before .before .before .before .before .before .before .before .before .n .given .0 .0) (c .before .before .before .before .before .before .before .before .before .before .before .before .before .before .before .before .before .field-at2 .ensures) _ _ (c .before .before .before .before .before .before .before .before .before .before .before .before .before .before .before .g .given .1)
+    ∙ after-m _ _ _ _ (c .before .before .before .before .before .before .before .before .before .before .before .before .before .before .before .before .before .before .before .before .before .before .reads-of .ensures) _ (c .before .before .before .before .before .before .before .before .before .before .before .before .before .before .before .before .before .before .before .n .given .0 .0) (c .before .before .before .before .before .before .before .before .before .before .before .before .before .before .before .g .given .0 .0) (c .before .before .before .before .before .before .before .before .before .before .before .before .before .field-at3 .ensures) _ _ (c .before .before .before .before .before .before .before .before .before .before .before .m .given .1)
+    ∙ after-v _ _ _ _ (c .before .before .before .before .before .before .before .before .before .before .before .before .before .before .before .before .before .before .before .before .before .before .reads-of .ensures) _ (c .before .before .before .before .before .before .before .before .before .before .before .before .before .before .before .before .before .before .before .n .given .0 .0) (c .before .before .before .before .before .before .before .before .before .before .before .before .before .before .before .g .given .0 .0) (c .before .before .before .before .before .before .before .before .before .before .before .m .given .0 .0) (c .before .before .before .before .before .before .before .before .before .field-at4 .ensures) _ _ (c .before .before .before .before .before .before .before .v .given .1)
+    ∙ after-s (c .before .before .before .before .before .before .before .before .before .before .before .before .before .before .before .before .before .before .before .before .before .before .before .before .args .o) _ _ _ (c .before .before .before .before .before .space-optional .ensures) _ (c .before .before .before .before .space-at .ensures) (c .before .before .before .before .before .before .before .before .before .before .before .before .before .before .before .before .before .before .before .n .given .0 .0) (c .before .before .before .before .before .before .before .before .before .before .before .before .before .before .before .g .given .0 .0) (c .before .before .before .before .before .before .before .before .before .before .before .m .given .0 .0) (c .before .before .before .before .before .before .before .v .given .0 .0) _ _ (c .before .before .s .given .1))
 
 pub in-order-spec : {M : Type 1} → statement M
 in-order-spec =

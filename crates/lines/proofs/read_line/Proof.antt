@@ -1,3 +1,8 @@
+use mathlib.Core.Path.{_∙_}
+use native.Mathlib.Omega.{arith}
+use Rattle.text.specs.Bytes.{blank}
+use Rattle.text.proofs.Reading.{before-within}
+use Rattle.lines.proofs.CallLaws.{no-operator-read, bus-read, sus-read, other-read}
 use borrow.Author.Needs.{needs}
 use Rattle.lines.proofs.read_line.Statement.{statement}
 use Rattle.lines.proofs.read_line.Tie as tie
@@ -23,7 +28,7 @@ part-operator-number-start c = search needs
 
 -- src/lib.rt:150:29
 part-operator-number-end : tie.Need-part-operator-number-end
-part-operator-number-end c = ?
+part-operator-number-end c = omega (arith, before-within blank (c .before .before .args .line .now) 0 (omega arith))
 
 -- src/lib.rt:150:9
 operator-number-requires : tie.Need-operator-number-requires
@@ -43,19 +48,19 @@ in-order-requires c κs = search needs
 
 -- src/lib.rt:146:1
 returns : tie.Need-returns
-returns c = ?
+returns c = no-operator-read _ _ _ (c .before .before .before .end-of .ensures) (c .before .operator-number .ensures) (c .match .keys1)
 
 -- src/lib.rt:146:1
 returns-2 : tie.Need-returns-2
-returns-2 c = ?
+returns-2 c = c .space-then-value .ensures ∙ bus-read _ _ _ (c .before .before .before .before .end-of .ensures) (c .before .before .operator-number .ensures) (c .before .match .keys2)
 
 -- src/lib.rt:146:1
 returns-3 : tie.Need-returns-3
-returns-3 c = ?
+returns-3 c = c .spaces-of .ensures ∙ sus-read _ _ _ (c .before .before .before .before .end-of .ensures) (c .before .before .operator-number .ensures) (c .before .match .keys3)
 
 -- src/lib.rt:146:1
 returns-4 : tie.Need-returns-4
-returns-4 c = ?
+returns-4 c = c .in-order .ensures ∙ other-read _ _ _ (c .before .before .before .before .end-of .ensures) (c .before .before .operator-number .ensures) (c .before .match .rest .0 .0 .1) (c .before .match .rest .0 .1) (c .before .match .rest .1)
 
 pub read-line-spec : {M : Type 1} → statement M
 read-line-spec =

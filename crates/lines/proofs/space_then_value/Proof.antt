@@ -1,3 +1,6 @@
+use mathlib.Core.Path.{sym, _∙_}
+use Rattle.lines.proofs.ArgumentLaws.{no-number}
+use Rattle.lines.proofs.CallLaws.{space-first, no-space-first, value-next, no-value-next}
 use borrow.Author.Needs.{needs}
 use Rattle.lines.proofs.space_then_value.Statement.{statement}
 use Rattle.lines.proofs.space_then_value.Tie as tie
@@ -21,7 +24,7 @@ enum-told c = search needs
 
 -- src/lib.rt:101:9
 returns : tie.Need-returns
-returns c = ?
+returns c = sym (no-space-first _ _ _ _ (c .before .before .space-at .ensures) (c .enum-told .given .1))
 
 -- src/lib.rt:103:40
 argument-at-requires : tie.Need-argument-at-requires
@@ -33,7 +36,7 @@ enum-known-v c = search needs
 
 -- src/lib.rt:104:9
 returns-2 : tie.Need-returns-2
-returns-2 c = ?
+returns-2 c = sym (space-first _ _ _ _ (c .before .before .before .before .before .space-at .ensures) _ _ (c .before .before .before .s .given .1) ∙ no-value-next _ _ _ _ _ (c .before .argument-at .ensures) (no-number _ (c .match2 .keys2)))
 
 -- src/lib.rt:114:5
 completed-requires : tie.Need-completed-requires
@@ -41,7 +44,7 @@ completed-requires c κs = search needs
 
 -- src/lib.rt:97:1
 returns-3 : tie.Need-returns-3
-returns-3 c = ?
+returns-3 c = c .completed .ensures ∙ sym (space-first _ _ _ _ (c .before .before .before .before .before .before .before .before .space-at .ensures) _ _ (c .before .before .before .before .before .before .s .given .1) ∙ value-next _ _ _ _ _ (c .before .before .before .before .argument-at .ensures) _ _ (c .before .before .v .given .1))
 
 pub space-then-value-spec : {M : Type 1} → statement M
 space-then-value-spec =

@@ -1,3 +1,8 @@
+use mathlib.Core.Path.{sym, _∙_}
+use native.Mathlib.Omega.{arith}
+use Rattle.model.specs.Keys.{mostName}
+use Rattle.lines.proofs.ArgumentLaws.{no-number, name-fits}
+use Rattle.lines.proofs.CallLaws.{alone, node-given, no-node}
 use borrow.Author.Needs.{needs}
 use Rattle.lines.proofs.spaces_of.Statement.{statement}
 use Rattle.lines.proofs.spaces_of.Tie as tie
@@ -8,7 +13,7 @@ use Rattle.lines.proofs.completed.Reads as completed-reads
 
 -- src/lib.rt:122:9
 returns : tie.Need-returns
-returns c = ?
+returns c = alone _ _ (c .if1 .taken)
 
 -- src/lib.rt:131:40
 argument-at-requires : tie.Need-argument-at-requires
@@ -20,11 +25,11 @@ enum-known-n c = search needs
 
 -- src/lib.rt:132:9
 returns-2 : tie.Need-returns-2
-returns-2 c = ?
+returns-2 c = sym (no-node _ _ (c .before .before .if1 .left) _ (c .before .argument-at .ensures) (no-number _ (c .match .keys2)))
 
 -- src/lib.rt:136:21
 cast-t14 : tie.Need-cast-t14
-cast-t14 c = ?
+cast-t14 c = record { fits = omega (arith, name-fits mostName (c .before .before .before .before .before .before .args .line .now) (c .before .before .before .before .before .before .args .end) _ _ _ (c .before .before .before .argument-at .ensures) (c .before .n .given .1)) }
 
 -- src/lib.rt:142:5
 completed-requires : tie.Need-completed-requires
@@ -32,7 +37,7 @@ completed-requires c κs = search needs
 
 -- src/lib.rt:118:1
 returns-3 : tie.Need-returns-3
-returns-3 c = ?
+returns-3 c = c .completed .ensures ∙ sym (node-given _ _ (c .before .before .before .before .before .if1 .left) _ (c .before .before .before .before .argument-at .ensures) _ _ (c .before .before .n .given .1))
 
 pub spaces-of-spec : {M : Type 1} → statement M
 spaces-of-spec =
