@@ -2,8 +2,10 @@
 use mathlib.Core.Bool.{Bool, true, false}
 use mathlib.Core.List.{List, [], _∷_, _++_}
 use mathlib.Core.Path.{_≡_}
-use Prim.Native.Nat.{ℕ, _+_}
+use Prim.Native.Nat.{ℕ, _+_, _≤_}
 use lib.ListN.{length}
+use Rattle.model.specs.declared.Answer.{Answer}
+use Rattle.model.specs.declared.Answer.the-variants.{Refusal, Name, Value, YesNo, List as Listed}
 use Rattle.model.specs.declared.Pair.{Pair}
 use Rattle.model.specs.Pairs.{edgeOf, nodeOf}
 use Rattle.model.specs.Steps.{Reply, refusal, name, valued, yesNo, pairs}
@@ -40,7 +42,29 @@ answerText (pairs k ps) = signed L k ++ entriesText ps
 unfoldable pub answerLine : Reply → Text
 answerLine r = answerText r ++ (lineFeed ∷ [])
 
+-- the longest line: `L 2048`, 2,048 entries of at most 12 bytes, a line feed
+abbrev pub mostLine : ℕ
+mostLine = 24583
+
+-- lent bytes have room for a text from a place on
+abbrev pub Fits : Text → Text → ℕ → Type 0
+Fits bs out at = at + length bs ≤ length out
+
 -- a text put into lent bytes from a place on: the place behind it, and what the bytes hold
 pub record Put (bs : Text) (out : Text) (at : ℕ) (end : ℕ) (out′ : Text) : Type 0 where
   pub place : end ≡ at + length bs
   pub bytes : out′ ≡ written out at bs
+
+-- how many entries an answer lists
+unfoldable pub entryCount : Answer → ℕ
+entryCount (Refusal number) = 0
+entryCount (Name x) = 0
+entryCount (Value v) = 0
+entryCount (YesNo b) = 0
+entryCount (Listed k) = k
+
+-- what printing an answer asks: its text fits, its entries stand in the list, and their count is a number of 32 bits
+pub record Printable (text : Text) (a : Answer) (list : List ℕ) (out : Text) (at : ℕ) : Type 0 where
+  pub room : Fits text out at
+  pub held : entryCount a ≤ length list
+  pub counted : entryCount a ≤ 4294967295
