@@ -28,16 +28,16 @@ use Rattle.lines.proofs.ArgumentLaws.{takes-number, takes-none, takes-s
 
 -- what is left to read, behind n, g, m and v
 
-abbrev behindV : ℕ → ℕ → ℕ → ℕ → ℕ → List Text → Reading
+abbrev pub behindV : ℕ → ℕ → ℕ → ℕ → ℕ → List Text → Reading
 behindV o n g m v ws = takeSpace (within 1 50 o) ws (λ (s : Space) (vs : List Text). complete (callOf o n g m v s) vs)
 
-abbrev behindM : ℕ → ℕ → ℕ → ℕ → List Text → Reading
+abbrev pub behindM : ℕ → ℕ → ℕ → ℕ → List Text → Reading
 behindM o n g m ws = takeNumber (readsOf o .v) mostValue ws (behindV o n g m)
 
-abbrev behindG : ℕ → ℕ → ℕ → List Text → Reading
+abbrev pub behindG : ℕ → ℕ → ℕ → List Text → Reading
 behindG o n g ws = takeNumber (readsOf o .m) mostName ws (behindM o n g)
 
-abbrev behindN : ℕ → ℕ → List Text → Reading
+abbrev pub behindN : ℕ → ℕ → List Text → Reading
 behindN o n ws = takeNumber (readsOf o .g) mostName ws (behindG o n)
 
 -- one field, chosen of those that an operator reads

@@ -4,3 +4,4 @@ pub mod WordLaws
 pub mod LookUp
 pub mod ArgumentLaws
 pub mod CallLaws
+pub mod Reachable

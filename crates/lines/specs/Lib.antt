@@ -3,3 +3,4 @@ pub mod OperatorWords
 pub mod Letters
 pub mod Calls
 pub mod Places
+pub mod Reachable
