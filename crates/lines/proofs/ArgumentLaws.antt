@@ -1,15 +1,15 @@
 -- Arguments by their places, and by the words that they take.
-use mathlib.Core.Bool.{Bool, true, false, cond, true≢false}
+use mathlib.Core.Bool.{Bool, true, false, cond}
 use mathlib.Core.List.{List, [], _∷_}
-use mathlib.Core.Logic.{_⊎_, inl, inr}
+use mathlib.Core.Logic.{inl, inr}
 use mathlib.Core.Option.{Option, none, some}
 use mathlib.Core.Path.{_≡_, refl, sym, ap, _∙_, subst}
-use Prim.Native.Nat.{ℕ, zero, suc, _+_, _-_, _≤_, _<_}
+use Prim.Native.Nat.{ℕ, _+_, _-_, _≤_, _<_}
 use native.Mathlib.Omega.{arith}
 use types.Run.{OneOf}
 use denote.Enum.Declared.{tagOf}
 use Rattle.lines.proofs.Argument.{the-type}
-use lib.Dec.{eqb, ltb}
+use lib.Dec.{ltb}
 use borrow.Author.Tests.{ltb-true, ltb-false}
 use lib.ListN.{length, take, drop}
 use Rattle.model.specs.declared.Call.{Call}
@@ -22,12 +22,11 @@ use Rattle.text.proofs.Reading.{same-text, number-most}
 use Rattle.lines.specs.declared.Argument.{Argument}
 use Rattle.lines.specs.declared.Argument.the-variants.{Number, Universal, Missing, Unreadable}
 use Rattle.lines.specs.declared.Reading.{Reading}
-use Rattle.lines.specs.declared.Reading.the-variants.{Read, Refused}
+use Rattle.lines.specs.declared.Reading.the-variants.{Read}
 use Rattle.lines.specs.declared.arguments.SpaceArgument.{SpaceArgument}
 use Rattle.lines.specs.declared.arguments.SpaceArgument.the-variants.{Given, NotASpace}
 use Rattle.lines.specs.declared.numbers.Numeral.{Numeral}
 use Rattle.lines.specs.declared.numbers.Numeral.the-variants.{Value, NotANumber}
-use Rattle.lines.specs.Lines.{wordsOf}
 use Rattle.lines.specs.Calls.{refused, withNumber, takeNumber, takeSpace, complete}
 use Rattle.lines.specs.Places.{wordsBehind, asNumber, ofWord, firstOf, argumentAt, fieldAt, spaceOf, numeralOf}
 use Rattle.lines.proofs.LineLaws.{part-before}

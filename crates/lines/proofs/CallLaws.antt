@@ -1,22 +1,21 @@
 -- A call read argument by argument.
-use mathlib.Core.Bool.{Bool, true, false, cond, true≢false}
-use mathlib.Core.List.{List, [], _∷_}
+use mathlib.Core.Bool.{Bool, true, false}
+use mathlib.Core.List.{List}
 use mathlib.Core.Path.{_≡_, refl, sym, ap, _∙_}
 use Prim.Native.Nat.{ℕ, _+_, _-_, _≤_, _<_}
 use native.Mathlib.Omega.{arith}
-use lib.Dec.{eqb}
 use lib.ListN.{length, take, drop}
-use borrow.Author.Tests.{eq-eqb, ne-eqb}
+use borrow.Author.Tests.{ne-eqb}
 use Rattle.model.specs.declared.Reads.{Reads}
 use Rattle.model.specs.declared.Space.{Space}
-use Rattle.model.specs.declared.Space.the-variants.{Universe, Numbered}
+use Rattle.model.specs.declared.Space.the-variants.{Universe}
 use Rattle.model.specs.Keys.{mostName}
 use Rattle.model.specs.Operators.{readsOf, within}
 use Rattle.text.specs.Bytes.{Text, before, blank}
 use Rattle.lines.specs.declared.Argument.{Argument}
 use Rattle.lines.specs.declared.Argument.the-variants.{Number}
 use Rattle.lines.specs.declared.Reading.{Reading}
-use Rattle.lines.specs.declared.Reading.the-variants.{Read, Refused}
+use Rattle.lines.specs.declared.Reading.the-variants.{Read}
 use Rattle.lines.specs.declared.arguments.SpaceArgument.{SpaceArgument}
 use Rattle.lines.specs.declared.arguments.SpaceArgument.the-variants.{Given, NotASpace}
 use Rattle.lines.specs.OperatorWords.{operatorNumber}

@@ -1,9 +1,9 @@
 -- A word read digit by digit.
-use mathlib.Core.Bool.{Bool, true, false, cond, not, _&&_}
-use mathlib.Core.List.{List, [], _∷_}
+use mathlib.Core.Bool.{Bool, true, false, cond, _&&_, true≢false}
+use mathlib.Core.List.{[], _∷_}
 use mathlib.Core.Path.{_≡_, refl, sym, ap, _∙_}
-use mathlib.Core.Option.{Option, none, some}
-use Prim.Native.Nat.{ℕ, zero, suc, _+_, _-_, _*_, _≤_, _<_}
+use mathlib.Core.Option.{none, some}
+use Prim.Native.Nat.{ℕ, _+_, _-_, _*_, _≤_, _<_}
 use native.Mathlib.Omega.{arith}
 use lib.Dec.{eqb, leb}
 use lib.ListN.{length, getD, drop, drop-of-length-le}
@@ -11,8 +11,7 @@ use borrow.Author.Tests.{le-leb, lt-leb}
 use Rattle.text.specs.Bytes.{Text}
 use Rattle.text.specs.Numerals.{digitZero, isDigit, allDigits, plainDigits, numberAfter, readNumber}
 use Rattle.text.proofs.Reading.{rest, digit-yes, digit-below, digit-above, grows}
-use Rattle.lines.specs.declared.numbers.Numeral.{Numeral}
-use Rattle.lines.specs.declared.numbers.Numeral.the-variants.{Value, NotANumber}
+use Rattle.lines.specs.declared.numbers.Numeral.the-variants.{NotANumber}
 use Rattle.lines.specs.Places.{numeralOf, leadingZero, readDigits}
 
 -- the first digit
@@ -78,7 +77,7 @@ unfolding readNumber plainDigits leadingZero
 zero-leads most [] e = refl
 zero-leads most (b ∷ []) e =
     let z : true ≡ false = cc in
-    absurd (mathlib.Core.Bool.true≢false z)
+    absurd (true≢false z)
 zero-leads most (b ∷ c ∷ bs) e = rw e
 
 pub zero-refused : (most : ℕ) (w : Text) (r : Bool) → r ≡ leadingZero w → r ≡ true → NotANumber ≡ numeralOf (readNumber most w)

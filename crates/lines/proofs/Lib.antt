@@ -5,3 +5,4 @@ pub mod LookUp
 pub mod ArgumentLaws
 pub mod CallLaws
 pub mod Reachable
+pub mod Examples

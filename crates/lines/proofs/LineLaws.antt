@@ -1,15 +1,14 @@
 -- The lines of a script, one after the other.
 use mathlib.Core.Bool.{Bool, true, false, cond}
-use mathlib.Core.List.{List, [], _∷_}
+use mathlib.Core.List.{[], _∷_}
 use mathlib.Core.Path.{_≡_, refl, sym, ap, _∙_}
-use Prim.Native.Nat.{ℕ, zero, suc, _+_, _-_, _≤_, _<_}
+use Prim.Native.Nat.{ℕ, suc, _+_, _-_, _≤_, _<_}
 use native.Mathlib.Omega.{arith}
-use native.Mathlib.Numerals.{add-one}
 use lib.Dec.{eqb}
-use lib.ListN.{length, getD, take, drop, drop-of-length-le}
-use lib.Seq.{drop-drop, drop-cons}
+use lib.ListN.{length, take, drop, drop-of-length-le, length-drop}
+use lib.Seq.{drop-drop}
 use Rattle.text.specs.Bytes.{Text, before, lineFeed}
-use Rattle.text.proofs.Reading.{before-take}
+use Rattle.text.proofs.Reading.{before-take, before-within}
 use Rattle.lines.specs.Lines.{inFront, linesOf}
 
 -- the part of a text up to a byte, by where it ends
@@ -50,10 +49,14 @@ first-of (b ∷ bs) h = first-line b bs
 -- the lines from a place on: the line there, and those behind it, which begin past its line feed
 pub next-line : (script : Text) (from : ℕ) (line : Text) → from < length script → line ≡ before lineFeed (drop from script) → linesOf (drop from script) ≡ line ∷ linesOf (drop (from + length line + 1) script)
 next-line script from line h e =
-    let f = first-of (drop from script) (omega (arith, lib.ListN.length-drop from script)) in
+    let f = first-of (drop from script) (omega (arith, length-drop from script)) in
     let d = drop-drop (length (before lineFeed (drop from script)) + 1) from script in
     let n : from + (length (before lineFeed (drop from script)) + 1) ≡ from + length (before lineFeed (drop from script)) + 1 = omega arith in
     f
     ∙ ap (λ (x : Text). before lineFeed (drop from script) ∷ linesOf x) d
     ∙ ap (λ (k : ℕ). before lineFeed (drop from script) ∷ linesOf (drop k script)) n
     ∙ ap (λ (l : Text). l ∷ linesOf (drop (from + length l + 1) script)) (sym e)
+
+-- a line ends within the script
+pub line-within : (script : Text) (from : ℕ) (line : Text) → from ≤ length script → line ≡ before lineFeed (drop from script) → from + length line ≤ length script
+line-within script from line h e = omega (arith, before-within lineFeed script from h, ap length e)

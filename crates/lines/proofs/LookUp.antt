@@ -1,14 +1,14 @@
 -- The number of a word, where it is compared with some of the operators' words alone.
 use mathlib.Core.Bool.{Bool, true, false, cond, not, _&&_, true≢false}
 use mathlib.Core.List.{List, [], _∷_}
-use mathlib.Core.Path.{_≡_, refl, sym, ap, _∙_, subst}
+use mathlib.Core.Path.{_≡_, refl, sym, ap, _∙_}
 use Prim.Native.Nat.{ℕ, zero, suc, _+_, _≤_, _<_}
 use native.Mathlib.Omega.{arith}
 use lib.Dec.{eqb, ltb}
 use lib.ListN.{length, getD}
 use borrow.Author.Tests.{eq-eqb, ne-eqb, eqb-true, lt-ltb}
 use Rattle.model.proofs.Bools.{and-left, and-right, and-both, no-not, failed}
-use Rattle.text.specs.Bytes.{Text, sameText, A, B, C, D, G, I, N, O, P, S, U, «V», X}
+use Rattle.text.specs.Bytes.{Text, sameText, A, B, C, D, I, O, S, U, «V», X}
 use Rattle.text.proofs.Reading.{same-text}
 use Rattle.lines.specs.OperatorWords.{operatorWords, numberFrom, operatorNumber}
 use Rattle.lines.specs.Letters.{begins, beginsTwo}

@@ -1,13 +1,11 @@
 -- No operator is out of reach: each call has a line that reads as it.
-use mathlib.Core.Bool.{Bool, true, false, cond, not, _&&_, _||_, true≢false}
+use mathlib.Core.Bool.{Bool, true, false, cond, not, _&&_, true≢false}
 use mathlib.Core.List.{List, [], _∷_, _++_}
-use mathlib.Core.Option.{Option, none, some}
 use mathlib.Core.Path.{_≡_, refl, sym, ap, _∙_, subst}
-use Prim.Native.Nat.{ℕ, zero, suc, _+_, _-_, _≤_, _<_}
+use Prim.Native.Nat.{ℕ, _≤_}
 use native.Mathlib.Omega.{arith}
 use lib.Dec.{eqb, leb}
-use lib.ListN.{length, getD}
-use borrow.Author.Tests.{eqb-true, eqb-false, eq-eqb, ne-eqb, leb-true}
+use borrow.Author.Tests.{eqb-true, eqb-false, ne-eqb, leb-true}
 use Rattle.model.specs.declared.Call.{Call}
 use Rattle.model.specs.declared.Space.{Space}
 use Rattle.model.specs.declared.SpaceName.{SpaceName}
@@ -15,14 +13,14 @@ use Rattle.model.specs.declared.Space.the-variants.{Universe, Numbered}
 use Rattle.model.specs.Buffer.{everyRecord}
 use Rattle.model.specs.Keys.{mostName}
 use Rattle.model.specs.Operators.{readsOf, within}
-use Rattle.model.proofs.Bools.{and-left, and-right, and-both, no-not, failed, clash}
+use Rattle.model.proofs.Bools.{and-left, and-right, and-both, no-not, failed}
 use Rattle.model.proofs.Steps.{every-record}
 use Rattle.text.specs.Bytes.{Text, sameText, blank, U}
-use Rattle.text.specs.Numerals.{isDigit, allDigits, readNumber, printedNumber}
+use Rattle.text.specs.Numerals.{isDigit, allDigits, printedNumber}
 use Rattle.text.proofs.Reading.{same-text}
 use Rattle.text.proofs.Printing.{reads-back, digits-printed}
 use Rattle.lines.specs.declared.Reading.{Reading}
-use Rattle.lines.specs.declared.Reading.the-variants.{Read, Refused}
+use Rattle.lines.specs.declared.Reading.the-variants.{Read}
 use Rattle.lines.specs.Lines.{inFront, wordsOf}
 use Rattle.lines.specs.OperatorWords.{operatorWords, numberFrom, operatorNumber}
 use Rattle.lines.specs.Calls.{mostValue, withNumber, takeNumber, takeSpace, complete, callOf, inOrder, spaceThenValue, spaces, arguments, readWords, readLine}
@@ -215,8 +213,10 @@ no-operator-out-of-reach c f = whole c f ∙ go (eqb (c .operator) 57) refl (eqb
   where
     Claim : Call → Type 0
     Claim d = arguments (operatorNumber (lettersOf (d .operator))) (argumentsOf d) ≡ Read (readable d)
+
     at : (o : ℕ) → Type 0
     at o = Claim (callOf o (c .n .0) (c .g .0) (c .m .0) (c .v) (c .s))
+
     go : (a : Bool) → eqb (c .operator) 57 ≡ a → (b : Bool) → eqb (c .operator) 56 ≡ b → (d : Bool) → eqb (c .operator) 52 ≡ d → at (c .operator)
     go true e b h d k = subst at (sym (eqb-true (c .operator) 57 e)) (reads-57 (c .n .0) (c .g .0) (c .m .0) (c .v) (c .s) (f .nodeFits))
     go false e true h d k = subst at (sym (eqb-true (c .operator) 56 h)) (reads-56 (c .n .0) (c .g .0) (c .m .0) (c .v) (c .s))

@@ -1,6 +1,6 @@
 -- The first letters of a word, by which its operator is looked up.
-use mathlib.Core.Bool.{Bool, true, false, _&&_}
-use mathlib.Core.List.{List, [], _∷_}
+use mathlib.Core.Bool.{Bool, false, _&&_}
+use mathlib.Core.List.{[], _∷_}
 use Prim.Native.Nat.{ℕ}
 use lib.Dec.{eqb}
 use Rattle.text.specs.Bytes.{Text}

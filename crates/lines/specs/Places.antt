@@ -1,5 +1,5 @@
 -- Words by their places in a line: what the functions that read arguments answer.
-use mathlib.Core.Bool.{Bool, true, false, cond, _&&_}
+use mathlib.Core.Bool.{Bool, false, cond, _&&_}
 use mathlib.Core.List.{List, [], _∷_}
 use mathlib.Core.Option.{Option, none, some}
 use Prim.Native.Nat.{ℕ, _+_}
@@ -7,7 +7,6 @@ use lib.Dec.{eqb, leb, ltb}
 use lib.ListN.{length, drop}
 use Rattle.text.specs.Bytes.{Text, sameText, U}
 use Rattle.text.specs.Numerals.{digitZero, allDigits, numberAfter, readNumber}
-use Rattle.model.specs.declared.Space.{Space}
 use Rattle.model.specs.declared.Space.the-variants.{Universe, Numbered}
 use Rattle.lines.specs.declared.numbers.Numeral.{Numeral}
 use Rattle.lines.specs.declared.numbers.Numeral.the-variants.{Value, NotANumber}

@@ -43,7 +43,7 @@ pub enum Reading {
 }
 
 // The line that begins at a place of the script, as that part of it: up to the line feed, or to the end.
-// It is public for the crate above, which keeps the place within the script.
+// It is public for the crate above, which proves that the place is within the script.
 pub fn line_at(script: &[u8], from: usize) -> &[u8]
     requires { ⌜ from ≤ length (now script) ⌝ }
     ensures { λ r. ⌜ now r ≡ before lineFeed (drop from (now (script .entry))) ⌝ }

@@ -1,7 +1,6 @@
 // "plain digits without a leading zero (zero itself is `0`), names to 65,535, values to 4,294,967,295".
 ghost use mathlib.Core.Path.{_≡_};
 ghost use Prim.Native.Nat.{_-_, _≤_};
-ghost use lib.ListN.{length};
 ghost use Rattle.text.specs.Numerals.{digitZero, readNumber};
 ghost use Rattle.lines.specs.Places.{numeralOf, leadingZero, readDigits};
 

@@ -1,17 +1,17 @@
 -- Texts read byte by byte: the part before a byte, texts that are the same, and the numbers of digits.
-use mathlib.Core.Bool.{Bool, true, false, cond, not, _&&_, true≢false, false≢true}
-use mathlib.Core.List.{List, [], _∷_}
-use mathlib.Core.Path.{_≡_, refl, sym, ap, _∙_, subst}
-use mathlib.Core.Option.{Option, none, some}
-use Prim.Native.Nat.{ℕ, zero, suc, _+_, _-_, _*_, _≤_, _<_}
+use mathlib.Core.Bool.{Bool, true, false, cond, _&&_, false≢true}
+use mathlib.Core.List.{[], _∷_}
+use mathlib.Core.Path.{_≡_, refl, ap, _∙_}
+use mathlib.Core.Option.{none, some}
+use Prim.Native.Nat.{ℕ, suc, _+_, _-_, _*_, _≤_, _<_}
 use native.Mathlib.Omega.{arith}
 use native.Mathlib.Numerals.{add-one}
-use lib.Dec.{eqb, leb, ltb}
+use lib.Dec.{eqb, leb}
 use lib.ListN.{length, getD, take, drop, drop-of-length-le, length-drop}
-use lib.Seq.{drop-cons, drop-length}
-use borrow.Author.Tests.{eqb-true, eq-eqb, ne-eqb, le-leb, lt-leb, leb-true, leb-false}
+use lib.Seq.{drop-cons}
+use borrow.Author.Tests.{eqb-true, eq-eqb, ne-eqb, le-leb, lt-leb, leb-true}
 use Rattle.text.specs.Bytes.{Text, before, sameText}
-use Rattle.text.specs.Numerals.{digitZero, isDigit, allDigits, plainDigits, numberAfter, readNumber}
+use Rattle.text.specs.Numerals.{digitZero, isDigit, plainDigits, numberAfter, readNumber}
 
 -- the rest of a text from a place in it on
 pub rest : (t : Text) (at : ℕ) → at < length t → drop at t ≡ getD t at 0 ∷ drop (at + 1) t
@@ -132,11 +132,7 @@ unfolding numberAfter
 grows [] a = omega arith
 grows (b ∷ bs) a = omega (arith, grows bs (a * 10 + (b - digitZero)))
 
--- a word that is a number, and one that is past the most that it may be
-pub number-read : (most : ℕ) (w : Text) → plainDigits w ≡ true → numberAfter 0 w ≤ most → readNumber most w ≡ some (numberAfter 0 w)
-unfolding readNumber
-number-read most w p h = rw (p, le-leb (numberAfter 0 w) most h)
-
+-- a number that is read is at most what it may be
 pub number-most : (most : ℕ) (w : Text) (x : ℕ) → readNumber most w ≡ some x → x ≤ most
 unfolding readNumber
 number-most most w x e = go (plainDigits w) (leb (numberAfter 0 w) most) refl e

@@ -4,11 +4,9 @@ use Rattle.lines.proofs.completed.Tie as tie
 use Rattle.lines.proofs.completed.Reads as reads
 use Rattle.lines.proofs.completed.Lts as lts
 
--- src/lib.rt:60:9
 returns : tie.Need-returns
 returns c = something-follows _ _ _ (c .if1 .taken)
 
--- src/lib.rt:56:1
 returns-2 : tie.Need-returns-2
 returns-2 c = nothing-follows _ _ _ (c .if1 .left)
 

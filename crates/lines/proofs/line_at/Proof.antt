@@ -9,23 +9,18 @@ use Rattle.lines.proofs.line_at.Reads as reads
 use Rattle.lines.proofs.line_at.Lts as lts
 use Rattle.lines.proofs.words.end_of.Reads as end-of-reads
 
--- src/lib.rt:51:9
 end-of-requires : tie.Need-end-of-requires
 end-of-requires c κs = search needs
 
--- src/lib.rt:52:5
 sub-result : tie.Need-sub-result
 sub-result c = search needs
 
--- src/lib.rt:52:5
 part-result-start : tie.Need-part-result-start
 part-result-start c = search needs
 
--- src/lib.rt:52:5
 part-result-end : tie.Need-part-result-end
 part-result-end c = omega (arith, before-within lineFeed (c .before .before .args .script .now) (c .before .before .args .from) (c .before .before .pre))
 
--- src/lib.rt:47:1
 returns : tie.Need-returns
 returns c = part-before lineFeed _ _ _ (c .before .end-of .ensures)
 

@@ -14,51 +14,39 @@ use Rattle.lines.proofs.space_then_value.Reads as space-then-value-read
 use Rattle.lines.proofs.spaces_of.Reads as spaces-of-reads
 use Rattle.lines.proofs.words.end_of.Reads as end-of-reads
 
--- src/lib.rt:149:9
 end-of-requires : tie.Need-end-of-requires
 end-of-requires c κs = search needs
 
--- src/lib.rt:150:29
 sub-operator-number : tie.Need-sub-operator-number
 sub-operator-number c = search needs
 
--- src/lib.rt:150:29
 part-operator-number-start : tie.Need-part-operator-number-start
 part-operator-number-start c = search needs
 
--- src/lib.rt:150:29
 part-operator-number-end : tie.Need-part-operator-number-end
 part-operator-number-end c = omega (arith, before-within blank (c .before .before .args .line .now) 0 (omega arith))
 
--- src/lib.rt:150:9
 operator-number-requires : tie.Need-operator-number-requires
 operator-number-requires c κs = search needs
 
--- src/lib.rt:153:15
 space-then-value-requires : tie.Need-space-then-value-requires
 space-then-value-requires c κs = search needs
 
--- src/lib.rt:154:15
 spaces-of-requires : tie.Need-spaces-of-requires
 spaces-of-requires c κs = search needs
 
--- src/lib.rt:155:14
 in-order-requires : tie.Need-in-order-requires
 in-order-requires c κs = search needs
 
--- src/lib.rt:146:1
 returns : tie.Need-returns
 returns c = no-operator-read _ _ _ (c .before .before .before .end-of .ensures) (c .before .operator-number .ensures) (c .match .keys1)
 
--- src/lib.rt:146:1
 returns-2 : tie.Need-returns-2
 returns-2 c = c .space-then-value .ensures ∙ bus-read _ _ _ (c .before .before .before .before .end-of .ensures) (c .before .before .operator-number .ensures) (c .before .match .keys2)
 
--- src/lib.rt:146:1
 returns-3 : tie.Need-returns-3
 returns-3 c = c .spaces-of .ensures ∙ sus-read _ _ _ (c .before .before .before .before .end-of .ensures) (c .before .before .operator-number .ensures) (c .before .match .keys3)
 
--- src/lib.rt:146:1
 returns-4 : tie.Need-returns-4
 returns-4 c = c .in-order .ensures ∙ other-read _ _ _ (c .before .before .before .before .end-of .ensures) (c .before .before .operator-number .ensures) (c .before .match .rest .0 .0 .1) (c .before .match .rest .0 .1) (c .before .match .rest .1)
 

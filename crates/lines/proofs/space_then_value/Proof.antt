@@ -10,39 +10,30 @@ use Rattle.lines.proofs.arguments.argument_at.Reads as argument-at-read
 use Rattle.lines.proofs.arguments.space_at.Reads as space-at-reads
 use Rattle.lines.proofs.completed.Reads as completed-reads
 
--- src/lib.rt:100:44
 space-at-requires : tie.Need-space-at-requires
 space-at-requires c κs = search needs
 
--- src/lib.rt:100:30
 enum-known-s : tie.Need-enum-known-s
 enum-known-s c = search needs
 
--- src/lib.rt:101:9
 enum-told : tie.Need-enum-told
 enum-told c = search needs
 
--- src/lib.rt:101:9
 returns : tie.Need-returns
 returns c = sym (no-space-first _ _ _ _ (c .before .before .space-at .ensures) (c .enum-told .given .1))
 
--- src/lib.rt:103:40
 argument-at-requires : tie.Need-argument-at-requires
 argument-at-requires c κs = search needs
 
--- src/lib.rt:103:26
 enum-known-v : tie.Need-enum-known-v
 enum-known-v c = search needs
 
--- src/lib.rt:104:9
 returns-2 : tie.Need-returns-2
 returns-2 c = sym (space-first _ _ _ _ (c .before .before .before .before .before .space-at .ensures) _ _ (c .before .before .before .s .given .1) ∙ no-value-next _ _ _ _ _ (c .before .argument-at .ensures) (no-number _ (c .match2 .keys2)))
 
--- src/lib.rt:114:5
 completed-requires : tie.Need-completed-requires
 completed-requires c κs = search needs
 
--- src/lib.rt:97:1
 returns-3 : tie.Need-returns-3
 returns-3 c = c .completed .ensures ∙ sym (space-first _ _ _ _ (c .before .before .before .before .before .before .before .before .space-at .ensures) _ _ (c .before .before .before .before .before .before .s .given .1) ∙ value-next _ _ _ _ _ (c .before .before .before .before .argument-at .ensures) _ _ (c .before .before .v .given .1))
 

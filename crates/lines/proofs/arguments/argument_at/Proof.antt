@@ -12,35 +12,27 @@ use Rattle.lines.proofs.arguments.argument_at.Lts as lts
 use Rattle.lines.proofs.arguments.of_word.Reads as of-word-reads
 use Rattle.lines.proofs.words.end_of.Reads as end-of-reads
 
--- src/arguments.rt:47:9
 returns : tie.Need-returns
 returns c = none-behind _ _ _ (c .if1 .taken)
 
--- src/arguments.rt:49:16
 add-from : tie.Need-add-from
 add-from c = search needs
 
--- src/arguments.rt:50:9
 end-of-requires : tie.Need-end-of-requires
 end-of-requires c κs = search needs
 
--- src/arguments.rt:51:13
 sub-of-word : tie.Need-sub-of-word
 sub-of-word c = search needs
 
--- src/arguments.rt:51:13
 part-of-word-start : tie.Need-part-of-word-start
 part-of-word-start c = search needs
 
--- src/arguments.rt:51:13
 part-of-word-end : tie.Need-part-of-word-end
 part-of-word-end c = omega (arith, before-within blank (c .before .before .before .args .line .now) (c .before .before .before .args .end + 1) (omega arith))
 
--- src/arguments.rt:51:5
 of-word-requires : tie.Need-of-word-requires
 of-word-requires c κs = search needs
 
--- src/arguments.rt:43:1
 returns-2 : tie.Need-returns-2
 returns-2 c = c .of-word .ensures ∙ one-behind _ _ _ _ (c .before .before .before .if1 .left) (c .before .before .end-of .ensures)
 

@@ -8,15 +8,12 @@ use Rattle.lines.proofs.arguments.field_at.Reads as reads
 use Rattle.lines.proofs.arguments.field_at.Lts as lts
 use Rattle.lines.proofs.arguments.argument_at.Reads as argument-at-reads
 
--- src/arguments.rt:59:9
 returns : tie.Need-returns
 returns c = not-read _ _ _ _ (not-yes _ (c .if1 .taken))
 
--- src/arguments.rt:61:5
 argument-at-requires : tie.Need-argument-at-requires
 argument-at-requires c κs = search needs
 
--- src/arguments.rt:55:1
 returns-2 : tie.Need-returns-2
 returns-2 c = c .argument-at .ensures ∙ is-read _ _ _ _ (not-no _ (c .before .if1 .left))
 

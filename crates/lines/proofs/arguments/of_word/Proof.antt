@@ -7,35 +7,27 @@ use Rattle.lines.proofs.arguments.of_word.Lts as lts
 use Rattle.lines.proofs.numbers.number_in.Reads as number-in-reads
 use Rattle.lines.proofs.words.same.Reads as same-reads
 
--- src/arguments.rt:33:19
 slice-aggregate-same : tie.Need-slice-aggregate-same
 slice-aggregate-same c = search needs
 
--- src/arguments.rt:33:8
 same-requires : tie.Need-same-requires
 same-requires c κs = search needs
 
--- src/arguments.rt:34:9
 returns : tie.Need-returns
 returns c = is-universe _ _ _ _ (c .before .same .ensures) (c .if1 .taken)
 
--- src/arguments.rt:36:29
 number-in-requires : tie.Need-number-in-requires
 number-in-requires c κs = search needs
 
--- src/arguments.rt:36:24
 enum-known-x : tie.Need-enum-known-x
 enum-known-x c = search needs
 
--- src/arguments.rt:37:9
 enum-told : tie.Need-enum-told
 enum-told c = search needs
 
--- src/arguments.rt:37:9
 returns-2 : tie.Need-returns-2
 returns-2 c = is-unreadable _ _ _ _ _ (c .before .before .before .before .same .ensures) (c .before .before .before .if1 .left) (c .before .before .number-in .ensures) (c .enum-told .given .1)
 
--- src/arguments.rt:30:1
 returns-3 : tie.Need-returns-3
 returns-3 c = is-number _ _ _ _ _ _ (c .before .before .before .before .before .same .ensures) (c .before .before .before .before .if1 .left) (c .before .before .before .number-in .ensures) (c .before .x .given .1)
 

@@ -1,4 +1,4 @@
-use mathlib.Core.Bool.{true, false, cond}
+use mathlib.Core.Bool.{cond}
 use mathlib.Core.Path.{sym, ap, _∙_}
 use native.Mathlib.Omega.{arith}
 use Rattle.model.specs.Keys.{mostName}
@@ -13,50 +13,39 @@ use Rattle.lines.proofs.arguments.space_at.Reads as reads
 use Rattle.lines.proofs.arguments.space_at.Lts as lts
 use Rattle.lines.proofs.arguments.argument_at.Reads as argument-at-reads
 
--- src/arguments.rt:68:11
 argument-at-requires : tie.Need-argument-at-requires
 argument-at-requires c κs = search needs
 
--- src/arguments.rt:69:26
 enum-known-x : tie.Need-enum-known-x
 enum-known-x c = search needs
 
--- src/arguments.rt:69:86
 cast-t9 : tie.Need-cast-t9
 cast-t9 c = record { fits = omega (arith, name-fits mostName (c .before .before .before .before .before .args .line .now) (c .before .before .before .before .before .args .end) _ _ _ (c .before .before .before .argument-at .ensures) (c .before .x .given .1)) }
 
--- src/arguments.rt:70:29
 enum-known-after : tie.Need-enum-known-after
 enum-known-after c = search needs
 
--- src/arguments.rt:71:33
 enum-told : tie.Need-enum-told
 enum-told c = search needs
 
--- src/arguments.rt:73:16
 enum-told-2 : tie.Need-enum-told-2
 enum-told-2 c = search needs
 
--- src/arguments.rt:74:17
 returns : tie.Need-returns
 returns c = ap (λ b. cond b (Given Universe (c .before .before .before .before .before .args .end)) NotASpace) (sym (c .if1 .taken)) ∙ missing-space _ _ _ _ (c .before .before .before .argument-at .ensures) (c .before .enum-told2 .given .1)
 
--- src/arguments.rt:65:1
 returns-2 : tie.Need-returns-2
 unfolding spaceOf
 returns-2 c = ap (spaceOf (c .before .before .before .before .before .args .optional) (c .before .before .before .before .before .args .end)) (sym (c .before .x .given .1) ∙ c .before .before .before .argument-at .ensures)
 
--- src/arguments.rt:65:1
 returns-3 : tie.Need-returns-3
 unfolding spaceOf
 returns-3 c = ap (spaceOf (c .before .before .before .before .before .args .optional) (c .before .before .before .before .before .args .end)) (sym (c .before .after .given .1) ∙ c .before .before .before .argument-at .ensures)
 
--- src/arguments.rt:65:1
 returns-4 : tie.Need-returns-4
 unfolding spaceOf
 returns-4 c = ap (spaceOf (c .before .before .before .before .args .optional) (c .before .before .before .before .args .end)) (sym (c .enum-told .given .1) ∙ c .before .before .argument-at .ensures)
 
--- src/arguments.rt:65:1
 returns-5 : tie.Need-returns-5
 returns-5 c = ap (λ b. cond b (Given Universe (c .before .before .before .before .before .args .end)) NotASpace) (sym (c .if1 .left)) ∙ missing-space _ _ _ _ (c .before .before .before .argument-at .ensures) (c .before .enum-told2 .given .1)
 

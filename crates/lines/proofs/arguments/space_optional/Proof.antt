@@ -4,11 +4,9 @@ use Rattle.lines.proofs.arguments.space_optional.Tie as tie
 use Rattle.lines.proofs.arguments.space_optional.Reads as reads
 use Rattle.lines.proofs.arguments.space_optional.Lts as lts
 
--- src/arguments.rt:23:1
 returns : tie.Need-returns
 returns c = rw (le-leb 1 _ (c .if1 .taken))
 
--- src/arguments.rt:23:1
 returns-2 : tie.Need-returns-2
 returns-2 c = rw (lt-leb 1 _ (c .if1 .left))
 

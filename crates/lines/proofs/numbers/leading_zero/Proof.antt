@@ -5,15 +5,12 @@ use Rattle.lines.proofs.numbers.leading_zero.Tie as tie
 use Rattle.lines.proofs.numbers.leading_zero.Reads as reads
 use Rattle.lines.proofs.numbers.leading_zero.Lts as lts
 
--- src/numbers.rt:29:9
 returns : tie.Need-returns
 returns c = leading-short _ (c .if1 .taken)
 
--- src/numbers.rt:31:5
 shared-slice-read-result : tie.Need-shared-slice-read-result
 shared-slice-read-result c = search needs
 
--- src/numbers.rt:25:1
 returns-2 : tie.Need-returns-2
 returns-2 c = leading-first _ (c .before .if1 .left)
 

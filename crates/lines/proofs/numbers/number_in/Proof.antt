@@ -9,23 +9,18 @@ use Rattle.lines.proofs.numbers.number_in.Lts as lts
 use Rattle.lines.proofs.numbers.digits_in.Reads as digits-in-reads
 use Rattle.lines.proofs.numbers.leading_zero.Reads as leading-zero-reads
 
--- src/numbers.rt:63:9
 returns : tie.Need-returns
 returns c = no-digits _ _ (c .if1 .taken)
 
--- src/numbers.rt:65:8
 leading-zero-requires : tie.Need-leading-zero-requires
 leading-zero-requires c κs = search needs
 
--- src/numbers.rt:66:9
 returns-2 : tie.Need-returns-2
 returns-2 c = zero-refused _ _ _ (c .before .leading-zero .ensures) (c .if2 .taken)
 
--- src/numbers.rt:68:5
 digits-in-requires : tie.Need-digits-in-requires
 digits-in-requires c κs = search needs
 
--- src/numbers.rt:59:1
 returns-3 : tie.Need-returns-3
 returns-3 c = c .digits-in .ensures ∙ ap numeralOf (digits-whole _ _ (c .before .before .before .if1 .left) (sym (c .before .before .leading-zero .ensures) ∙ c .before .if2 .left))
 

@@ -12,47 +12,36 @@ use Rattle.lines.proofs.operator_words.lists_all.Reads as lists-all-rea
 use Rattle.lines.proofs.operator_words.lists_inpointing.Reads as lists-inpointing-reads
 use Rattle.lines.proofs.operator_words.lists_outpointing.Reads as lists-outpointing-reads
 
--- src/operator_words.rt:297:9
 returns : tie.Need-returns
 returns c = no-short _ (c .if1 .taken)
 
--- src/operator_words.rt:299:18
 shared-slice-read-second : tie.Need-shared-slice-read-second
 shared-slice-read-second c = search needs
 
--- src/operator_words.rt:301:17
 lists-outpointing-requires : tie.Need-lists-outpointing-requires
 lists-outpointing-requires c κs = begins-with-two S O _ (c .before .before .before .before .pre) (c .before .before .if1 .left) (c .match .keys1)
 
--- src/operator_words.rt:302:17
 lists-inpointing-requires : tie.Need-lists-inpointing-requires
 lists-inpointing-requires c κs = begins-with-two S I _ (c .before .before .before .before .pre) (c .before .before .if1 .left) (c .match .keys2)
 
--- src/operator_words.rt:303:17
 lists-adjacent-requires : tie.Need-lists-adjacent-requires
 lists-adjacent-requires c κs = begins-with-two S A _ (c .before .before .before .before .pre) (c .before .before .if1 .left) (c .match .keys3)
 
--- src/operator_words.rt:304:17
 lists-all-requires : tie.Need-lists-all-requires
 lists-all-requires c κs = begins-with-two S U _ (c .before .before .before .before .pre) (c .before .before .if1 .left) (c .match .keys4)
 
--- src/operator_words.rt:292:1
 returns-2 : tie.Need-returns-2
 returns-2 c = search needs
 
--- src/operator_words.rt:292:1
 returns-3 : tie.Need-returns-3
 returns-3 c = search needs
 
--- src/operator_words.rt:292:1
 returns-4 : tie.Need-returns-4
 returns-4 c = search needs
 
--- src/operator_words.rt:292:1
 returns-5 : tie.Need-returns-5
 returns-5 c = search needs
 
--- src/operator_words.rt:292:1
 returns-6 : tie.Need-returns-6
 unfolding operatorWords begins
 returns-6 c = no-second S _ (c .before .before .before .before .pre) (c .match .rest .0 .0 .0 .1) (c .match .rest .0 .0 .1) (c .match .rest .0 .1) (c .match .rest .1) compared

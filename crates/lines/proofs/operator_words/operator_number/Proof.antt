@@ -13,63 +13,48 @@ use Rattle.lines.proofs.operator_words.list_number.Reads as list-number
 use Rattle.lines.proofs.operator_words.remove_number.Reads as remove-number-reads
 use Rattle.lines.proofs.operator_words.value_number.Reads as value-number-reads
 
--- src/operator_words.rt:314:9
 returns : tie.Need-returns
 returns c = no-short _ (omega (arith, c .if1 .taken))
 
--- src/operator_words.rt:316:17
 shared-slice-read-first : tie.Need-shared-slice-read-first
 shared-slice-read-first c = search needs
 
--- src/operator_words.rt:318:17
 create-number-requires : tie.Need-create-number-requires
 create-number-requires c κs = begins-with C _ (c .before .before .if1 .left) (c .match .keys1)
 
--- src/operator_words.rt:319:17
 bind-number-requires : tie.Need-bind-number-requires
 bind-number-requires c κs = begins-with B _ (c .before .before .if1 .left) (c .match .keys2)
 
--- src/operator_words.rt:320:17
 value-number-requires : tie.Need-value-number-requires
 value-number-requires c κs = begins-with «V» _ (c .before .before .if1 .left) (c .match .keys3)
 
--- src/operator_words.rt:321:17
 exists-number-requires : tie.Need-exists-number-requires
 exists-number-requires c κs = begins-with X _ (c .before .before .if1 .left) (c .match .keys4)
 
--- src/operator_words.rt:322:17
 remove-number-requires : tie.Need-remove-number-requires
 remove-number-requires c κs = begins-with D _ (c .before .before .if1 .left) (c .match .keys5)
 
--- src/operator_words.rt:323:17
 list-number-requires : tie.Need-list-number-requires
 list-number-requires c κs = begins-with S _ (c .before .before .if1 .left) (c .match .keys6)
 
--- src/operator_words.rt:310:1
 returns-2 : tie.Need-returns-2
 returns-2 c = search needs
 
--- src/operator_words.rt:310:1
 returns-3 : tie.Need-returns-3
 returns-3 c = search needs
 
--- src/operator_words.rt:310:1
 returns-4 : tie.Need-returns-4
 returns-4 c = search needs
 
--- src/operator_words.rt:310:1
 returns-5 : tie.Need-returns-5
 returns-5 c = search needs
 
--- src/operator_words.rt:310:1
 returns-6 : tie.Need-returns-6
 returns-6 c = search needs
 
--- src/operator_words.rt:310:1
 returns-7 : tie.Need-returns-7
 returns-7 c = search needs
 
--- src/operator_words.rt:310:1
 returns-8 : tie.Need-returns-8
 returns-8 c = no-first _ (c .match .rest .0 .0 .0 .0 .0 .1) (c .match .rest .0 .0 .0 .0 .1) (c .match .rest .0 .0 .0 .1) (c .match .rest .0 .0 .1) (c .match .rest .0 .1) (c .match .rest .1)
 

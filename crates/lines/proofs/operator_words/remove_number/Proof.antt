@@ -12,47 +12,36 @@ use Rattle.lines.proofs.operator_words.removes_inpointing.Reads as remo
 use Rattle.lines.proofs.operator_words.removes_one.Reads as removes-one-reads
 use Rattle.lines.proofs.operator_words.removes_outpointing.Reads as removes-outpointing-reads
 
--- src/operator_words.rt:279:9
 returns : tie.Need-returns
 returns c = no-short _ (c .if1 .taken)
 
--- src/operator_words.rt:281:18
 shared-slice-read-second : tie.Need-shared-slice-read-second
 shared-slice-read-second c = search needs
 
--- src/operator_words.rt:283:17
 removes-outpointing-requires : tie.Need-removes-outpointing-requires
 removes-outpointing-requires c κs = begins-with-two D O _ (c .before .before .before .before .pre) (c .before .before .if1 .left) (c .match .keys1)
 
--- src/operator_words.rt:284:17
 removes-inpointing-requires : tie.Need-removes-inpointing-requires
 removes-inpointing-requires c κs = begins-with-two D I _ (c .before .before .before .before .pre) (c .before .before .if1 .left) (c .match .keys2)
 
--- src/operator_words.rt:285:17
 removes-adjacent-requires : tie.Need-removes-adjacent-requires
 removes-adjacent-requires c κs = begins-with-two D A _ (c .before .before .before .before .pre) (c .before .before .if1 .left) (c .match .keys3)
 
--- src/operator_words.rt:286:17
 removes-one-requires : tie.Need-removes-one-requires
 removes-one-requires c κs = begins-with-two D U _ (c .before .before .before .before .pre) (c .before .before .if1 .left) (c .match .keys4)
 
--- src/operator_words.rt:274:1
 returns-2 : tie.Need-returns-2
 returns-2 c = search needs
 
--- src/operator_words.rt:274:1
 returns-3 : tie.Need-returns-3
 returns-3 c = search needs
 
--- src/operator_words.rt:274:1
 returns-4 : tie.Need-returns-4
 returns-4 c = search needs
 
--- src/operator_words.rt:274:1
 returns-5 : tie.Need-returns-5
 returns-5 c = search needs
 
--- src/operator_words.rt:274:1
 returns-6 : tie.Need-returns-6
 unfolding operatorWords begins
 returns-6 c = no-second D _ (c .before .before .before .before .pre) (c .match .rest .0 .0 .0 .1) (c .match .rest .0 .0 .1) (c .match .rest .0 .1) (c .match .rest .1) compared

@@ -11,33 +11,26 @@ use Rattle.lines.proofs.operator_words.removes_one.Reads as reads
 use Rattle.lines.proofs.operator_words.removes_one.Lts as lts
 use Rattle.lines.proofs.words.same.Reads as same-reads
 
--- src/operator_words.rt:181:19
 slice-aggregate-same : tie.Need-slice-aggregate-same
 slice-aggregate-same c = search needs
 
--- src/operator_words.rt:181:8
 same-requires : tie.Need-same-requires
 same-requires c κs = search needs
 
--- src/operator_words.rt:182:9
 returns : tie.Need-returns
 unfolding operatorWords
 returns c = told 48 (omega arith) _ _ _ refl (c .before .same .ensures) (c .if1 .taken)
 
--- src/operator_words.rt:184:19
 slice-aggregate-same-2 : tie.Need-slice-aggregate-same-2
 slice-aggregate-same-2 c = search needs
 
--- src/operator_words.rt:184:8
 same-requires-2 : tie.Need-same-requires-2
 same-requires-2 c κs = search needs
 
--- src/operator_words.rt:185:9
 returns-2 : tie.Need-returns-2
 unfolding operatorWords
 returns-2 c = told 54 (omega arith) _ _ _ refl (c .before .same2 .ensures) (c .if2 .taken)
 
--- src/operator_words.rt:177:1
 returns-3 : tie.Need-returns-3
 unfolding operatorWords beginsTwo
 returns-3 c = no-operator (beginsTwo D U) _ (c .before .before .before .before .before .before .before .pre) (other _ (c .before .before .before .before .same .ensures) (c .before .before .before .if1 .left) (other _ (c .before .same2 .ensures) (c .if2 .left) compared))

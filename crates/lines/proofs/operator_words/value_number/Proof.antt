@@ -11,59 +11,46 @@ use Rattle.lines.proofs.operator_words.value_number.Reads as reads
 use Rattle.lines.proofs.operator_words.value_number.Lts as lts
 use Rattle.lines.proofs.words.same.Reads as same-reads
 
--- src/operator_words.rt:60:19
 slice-aggregate-same : tie.Need-slice-aggregate-same
 slice-aggregate-same c = search needs
 
--- src/operator_words.rt:60:8
 same-requires : tie.Need-same-requires
 same-requires c κs = search needs
 
--- src/operator_words.rt:61:9
 returns : tie.Need-returns
 unfolding operatorWords
 returns c = told 6 (omega arith) _ _ _ refl (c .before .same .ensures) (c .if1 .taken)
 
--- src/operator_words.rt:63:19
 slice-aggregate-same-2 : tie.Need-slice-aggregate-same-2
 slice-aggregate-same-2 c = search needs
 
--- src/operator_words.rt:63:8
 same-requires-2 : tie.Need-same-requires-2
 same-requires-2 c κs = search needs
 
--- src/operator_words.rt:64:9
 returns-2 : tie.Need-returns-2
 unfolding operatorWords
 returns-2 c = told 7 (omega arith) _ _ _ refl (c .before .same2 .ensures) (c .if2 .taken)
 
--- src/operator_words.rt:66:19
 slice-aggregate-same-3 : tie.Need-slice-aggregate-same-3
 slice-aggregate-same-3 c = search needs
 
--- src/operator_words.rt:66:8
 same-requires-3 : tie.Need-same-requires-3
 same-requires-3 c κs = search needs
 
--- src/operator_words.rt:67:9
 returns-3 : tie.Need-returns-3
 unfolding operatorWords
 returns-3 c = told 46 (omega arith) _ _ _ refl (c .before .same3 .ensures) (c .if3 .taken)
 
--- src/operator_words.rt:69:19
 slice-aggregate-same-4 : tie.Need-slice-aggregate-same-4
 slice-aggregate-same-4 c = search needs
 
--- src/operator_words.rt:69:8
 same-requires-4 : tie.Need-same-requires-4
 same-requires-4 c κs = search needs
 
--- src/operator_words.rt:70:9
 returns-4 : tie.Need-returns-4
 unfolding operatorWords
 returns-4 c = told 52 (omega arith) _ _ _ refl (c .before .same4 .ensures) (c .if4 .taken)
 
--- src/operator_words.rt:56:1
 returns-5 : tie.Need-returns-5
 unfolding operatorWords begins
 returns-5 c = no-operator (begins «V») _ (c .before .before .before .before .before .before .before .before .before .before .before .before .before .pre) (other _ (c .before .before .before .before .before .before .before .before .before .before .same .ensures) (c .before .before .before .before .before .before .before .before .before .if1 .left) (other _ (c .before .before .before .before .before .before .before .same2 .ensures) (c .before .before .before .before .before .before .if2 .left) (other _ (c .before .before .before .before .same3 .ensures) (c .before .before .before .if3 .left) (other _ (c .before .same4 .ensures) (c .if4 .left) compared))))

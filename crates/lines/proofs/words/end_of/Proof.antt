@@ -15,31 +15,24 @@ Inv-loop text from end at₀ at = (at ≤ length text) × (from + length (before
 abbrev μ-loop : tie.MeasureT-loop
 μ-loop text from end at₀ at = length text - at
 
--- src/words.rt:13:5
 loop-holds : tie.Need-loop-holds Inv-loop μ-loop
 loop-holds c = (c .pre, refl)
 
--- src/words.rt:14:12
 shared-slice-read-if1 : tie.Need-shared-slice-read-if1 Inv-loop μ-loop
 shared-slice-read-if1 c = omega arith
 
--- src/words.rt:15:13
 returns : tie.Need-returns Inv-loop μ-loop
 returns c = omega (arith, none-at-stop (c .before .before .before .before .args .end) (c .before .before .before .before .args .text .now) (c .before .before .before .loop .at) (c .before .before .loop-test .taken) (c .if1 .taken))
 
--- src/words.rt:17:9
 add-at : tie.Need-add-at Inv-loop μ-loop
 add-at c = omega arith
 
--- src/words.rt:13:5
 loop-less : tie.Need-loop-less Inv-loop μ-loop
 loop-less c = omega arith
 
--- src/words.rt:13:5
 loop-again : tie.Need-loop-again Inv-loop μ-loop
 loop-again c = (omega arith, omega (arith, one-more (c .before .before .before .before .args .end) (c .before .before .before .before .args .text .now) (c .before .before .before .loop .at) (c .before .before .loop-test .taken) (c .if1 .left)))
 
--- src/words.rt:8:1
 returns-2 : tie.Need-returns-2 Inv-loop μ-loop
 returns-2 c = omega (arith, none-at-end (c .before .before .args .end) (c .before .before .args .text .now) (c .before .loop .at) (c .loop-test .left))
 

@@ -1,4 +1,4 @@
-use Prim.Native.Nat.{_≤_, _+_, _-_}
+use Prim.Native.Nat.{_≤_, _-_}
 use mathlib.Core.Path.{_≡_, refl, sym, _∙_}
 use native.Mathlib.Omega.{arith}
 use lib.ListN.{length, drop}
@@ -15,39 +15,30 @@ Inv-loop word letters i₀ i = (i ≤ length word) × (length word ≡ length le
 abbrev μ-loop : tie.MeasureT-loop
 μ-loop word letters i₀ i = length word - i
 
--- src/words.rt:27:9
 returns : tie.Need-returns Inv-loop μ-loop
 returns c = sym (other-length _ _ (c .if1 .taken))
 
--- src/words.rt:30:5
 loop-holds : tie.Need-loop-holds Inv-loop μ-loop
 loop-holds c = (omega arith, omega (arith, c .if1 .left), refl)
 
--- src/words.rt:31:12
 shared-slice-read-if2 : tie.Need-shared-slice-read-if2 Inv-loop μ-loop
 shared-slice-read-if2 c = omega arith
 
--- src/words.rt:31:23
 shared-slice-read-if2-2 : tie.Need-shared-slice-read-if2-2 Inv-loop μ-loop
 shared-slice-read-if2-2 c = omega arith
 
--- src/words.rt:32:13
 returns-2 : tie.Need-returns-2 Inv-loop μ-loop
 returns-2 c = sym (c .before .before .before .before .loop .inv .2 ∙ same-off _ _ _ (c .before .before .before .loop-test .taken) (omega arith) (c .if2 .taken))
 
--- src/words.rt:34:9
 add-i : tie.Need-add-i Inv-loop μ-loop
 add-i c = omega arith
 
--- src/words.rt:30:5
 loop-less : tie.Need-loop-less Inv-loop μ-loop
 loop-less c = omega arith
 
--- src/words.rt:30:5
 loop-again : tie.Need-loop-again Inv-loop μ-loop
 loop-again c = (omega arith, c .before .before .before .before .loop .inv .1, c .before .before .before .before .loop .inv .2 ∙ same-on _ _ _ (c .before .before .before .loop-test .taken) (omega arith) (c .if2 .left))
 
--- src/words.rt:23:1
 returns-3 : tie.Need-returns-3 Inv-loop μ-loop
 returns-3 c = sym (c .before .loop .inv .2 ∙ same-at-end _ _ _ (c .loop-test .left) (c .before .loop .inv .1))
 
