@@ -1,0 +1,8 @@
+pub mod Digits
+pub mod LineLaws
+pub mod WordLaws
+pub mod LookUp
+pub mod ArgumentLaws
+pub mod CallLaws
+pub mod Reachable
+pub mod Examples

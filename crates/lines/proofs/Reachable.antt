@@ -1,0 +1,227 @@
+-- No operator is out of reach: each call has a line that reads as it.
+use mathlib.Core.Bool.{Bool, true, false, cond, not, _&&_, true≢false}
+use mathlib.Core.List.{List, [], _∷_, _++_}
+use mathlib.Core.Path.{_≡_, refl, sym, ap, _∙_, subst}
+use Prim.Native.Nat.{ℕ, _≤_}
+use native.Mathlib.Omega.{arith}
+use lib.Dec.{eqb, leb}
+use borrow.Author.Tests.{eqb-true, eqb-false, ne-eqb, leb-true}
+use Rattle.model.specs.declared.Call.{Call}
+use Rattle.model.specs.declared.Space.{Space}
+use Rattle.model.specs.declared.SpaceName.{SpaceName}
+use Rattle.model.specs.declared.Space.the-variants.{Universe, Numbered}
+use Rattle.model.specs.Buffer.{everyRecord}
+use Rattle.model.specs.Keys.{mostName}
+use Rattle.model.specs.Operators.{readsOf, within}
+use Rattle.model.proofs.Bools.{and-left, and-right, and-both, no-not, failed}
+use Rattle.model.proofs.Steps.{every-record}
+use Rattle.text.specs.Bytes.{Text, sameText, blank, U}
+use Rattle.text.specs.Numerals.{isDigit, allDigits, printedNumber}
+use Rattle.text.proofs.Reading.{same-text}
+use Rattle.text.proofs.Printing.{reads-back, digits-printed}
+use Rattle.lines.specs.declared.Reading.{Reading}
+use Rattle.lines.specs.declared.Reading.the-variants.{Read}
+use Rattle.lines.specs.Lines.{inFront, wordsOf}
+use Rattle.lines.specs.OperatorWords.{operatorWords, numberFrom, operatorNumber}
+use Rattle.lines.specs.Calls.{mostValue, withNumber, takeNumber, takeSpace, complete, callOf, inOrder, spaceThenValue, spaces, arguments, readWords, readLine}
+use Rattle.lines.specs.Reachable.{joined, lettersOf, spaceText, ifRead, orderedOf, argumentsOf, lineOf, readable, SpaceFits, Fitting}
+use Rattle.lines.proofs.CallLaws.{behindN, behindG, behindM, behindV}
+
+-- words without a blank, joined, are parted again
+
+abbrev plain : Text → Bool
+plain [] = true
+plain (b ∷ bs) = not (eqb b blank) && plain bs
+
+abbrev allPlain : List Text → Bool
+allPlain [] = true
+allPlain (w ∷ ws) = plain w && allPlain ws
+
+not-blank : (b : ℕ) (bs : Text) → plain (b ∷ bs) ≡ true → eqb b blank ≡ false
+not-blank b bs e = failed (eqb b blank) (λ f. true≢false (sym (and-left (not (eqb b blank)) (plain bs) e) ∙ ap not f))
+
+words-blank : (w t : Text) → plain w ≡ true → wordsOf (w ++ (blank ∷ t)) ≡ w ∷ wordsOf t
+unfolding wordsOf inFront
+words-blank [] t e = refl
+words-blank (b ∷ bs) t e =
+    let n = not-blank b bs e in
+    rw n (ap (inFront b) (words-blank bs t (and-right (not (eqb b blank)) (plain bs) e)))
+
+words-one : (w : Text) → plain w ≡ true → wordsOf w ≡ w ∷ []
+unfolding wordsOf inFront
+words-one [] e = refl
+words-one (b ∷ bs) e =
+    let n = not-blank b bs e in
+    rw n (ap (inFront b) (words-one bs (and-right (not (eqb b blank)) (plain bs) e)))
+
+parted : (w : Text) (ws : List Text) → plain w ≡ true → allPlain ws ≡ true → wordsOf (joined w ws) ≡ w ∷ ws
+unfolding joined
+parted w [] e f = words-one w e
+parted w (x ∷ xs) e f =
+    words-blank w (joined x xs) e
+    ∙ ap (λ (vs : List Text). w ∷ vs) (parted x xs (and-left (plain x) (allPlain xs) f) (and-right (plain x) (allPlain xs) f))
+
+-- the words of a line have no blank
+
+digits-plain : (w : Text) → allDigits w ≡ true → plain w ≡ true
+unfolding allDigits isDigit
+digits-plain [] e = refl
+digits-plain (b ∷ bs) e =
+    let d = leb-true 48 b (and-left (leb 48 b) _ (and-left (isDigit b) (allDigits bs) e)) in
+    and-both (not (eqb b blank)) (plain bs)
+    (no-not (eqb b blank) (ne-eqb b blank (λ k. omega arith)))
+    (digits-plain bs (and-right (isDigit b) (allDigits bs) e))
+
+printed-plain : (x : ℕ) → x ≤ mostValue → plain (printedNumber x) ≡ true
+printed-plain x h = digits-plain (printedNumber x) (digits-printed x h)
+
+space-plain : (s : Space) → SpaceFits s → plain (spaceText s) ≡ true
+unfolding spaceText
+space-plain Universe h = refl
+space-plain (Numbered x) h = printed-plain (x .0) (omega arith)
+
+read-plain : (read : Bool) (w : Text) (ws : List Text) → plain w ≡ true → allPlain ws ≡ true → allPlain (ifRead read w ws) ≡ true
+unfolding ifRead
+read-plain true w ws e f = and-both (plain w) (allPlain ws) e f
+read-plain false w ws e f = f
+
+letters-plain : (o : ℕ) → 1 ≤ o → o ≤ 57 → plain (lettersOf o) ≡ true
+unfolding everyRecord lettersOf operatorWords
+letters-plain o h k = every-record (λ (i : ℕ). plain (lettersOf i)) 57 refl o h k
+
+ordered-plain : (c : Call) → Fitting c → allPlain (orderedOf c) ≡ true
+unfolding orderedOf
+ordered-plain c f =
+    read-plain (readsOf (c .operator) .n) _ _ (printed-plain (c .n .0) (omega (arith, f .nodeFits)))
+    (read-plain (readsOf (c .operator) .g) _ _ (printed-plain (c .g .0) (omega (arith, f .edgeFits)))
+    (read-plain (readsOf (c .operator) .m) _ _ (printed-plain (c .m .0) (omega (arith, f .otherFits)))
+    (read-plain (readsOf (c .operator) .v) _ _ (printed-plain (c .v) (f .valueFits))
+    (read-plain (readsOf (c .operator) .s) _ [] (space-plain (c .s) (f .spaceFits)) refl))))
+
+either : (b : Bool) (x y : List Text) → allPlain x ≡ true → allPlain y ≡ true → allPlain (cond b x y) ≡ true
+either true x y e f = e
+either false x y e f = f
+
+arguments-plain : (c : Call) → Fitting c → allPlain (argumentsOf c) ≡ true
+unfolding argumentsOf
+arguments-plain c f =
+    either (eqb (c .operator) 52) (spaceText (c .s) ∷ printedNumber (c .v) ∷ []) (orderedOf c)
+    (and-both (plain (spaceText (c .s))) _ (space-plain (c .s) (f .spaceFits)) (and-both (plain (printedNumber (c .v))) true (printed-plain (c .v) (f .valueFits)) refl))
+    (ordered-plain c f)
+
+-- a printed field reads back
+
+take-printed : (read : Bool) (most x : ℕ) (ws : List Text) (then : ℕ → List Text → Reading) → x ≤ most → most ≤ mostValue → takeNumber read most (ifRead read (printedNumber x) ws) then ≡ then (cond read x 0) ws
+unfolding takeNumber ifRead withNumber
+take-printed true most x ws then h k =
+    let b = reads-back most x h k in
+    rw b
+take-printed false most x ws then h k = refl
+
+-- a printed number is not U
+not-u : (x : ℕ) → x ≤ mostValue → sameText (printedNumber x) (U ∷ []) ≡ false
+unfolding allDigits isDigit
+not-u x h = failed _ (λ e. true≢false (sym (digits-printed x h) ∙ ap allDigits (same-text (printedNumber x) (U ∷ []) e)))
+
+universe-space : (optional : Bool) (ws : List Text) (then : Space → List Text → Reading) → takeSpace optional ((U ∷ []) ∷ ws) then ≡ then Universe ws
+unfolding takeSpace sameText
+universe-space optional ws then = refl
+
+printed-space : (optional : Bool) (x : SpaceName) (ws : List Text) (then : Space → List Text → Reading) → x .0 ≤ mostName → takeSpace optional (printedNumber (x .0) ∷ ws) then ≡ then (Numbered x) ws
+unfolding takeSpace withNumber
+printed-space optional x ws then h =
+    let n = not-u (x .0) (omega arith) in
+    let b = reads-back mostName (x .0) h (omega arith) in
+    rw (n, b)
+
+take-space : (optional : Bool) (s : Space) (ws : List Text) (then : Space → List Text → Reading) → SpaceFits s → takeSpace optional (spaceText s ∷ ws) then ≡ then s ws
+unfolding spaceText
+take-space optional Universe ws then h = universe-space optional ws then
+take-space optional (Numbered x) ws then h = printed-space optional x ws then h
+
+-- the line of a call, by its words
+whole : (c : Call) → Fitting c → readLine (lineOf c) ≡ arguments (operatorNumber (lettersOf (c .operator))) (argumentsOf c)
+unfolding readLine readWords lineOf
+whole c f = ap readWords (parted (lettersOf (c .operator)) (argumentsOf c) (letters-plain (c .operator) (f .least) (f .last)) (arguments-plain c f))
+
+-- 57, 56 and 52
+
+reads-57 : (n g m v : ℕ) (s : Space) → n ≤ mostName → arguments (operatorNumber (lettersOf 57)) (argumentsOf (callOf 57 n g m v s)) ≡ Read (readable (callOf 57 n g m v s))
+unfolding lettersOf operatorWords operatorNumber numberFrom sameText arguments argumentsOf orderedOf ifRead readsOf spaces takeNumber withNumber complete readable
+reads-57 n g m v s h =
+    let b = reads-back mostName n h (omega arith) in
+    rw b
+
+reads-56 : (n g m v : ℕ) (s : Space) → arguments (operatorNumber (lettersOf 56)) (argumentsOf (callOf 56 n g m v s)) ≡ Read (readable (callOf 56 n g m v s))
+unfolding lettersOf operatorWords operatorNumber numberFrom sameText arguments argumentsOf orderedOf ifRead readsOf spaces readable
+reads-56 n g m v s = refl
+
+value-last : (s : Space) (v : ℕ) → v ≤ mostValue → takeNumber true mostValue (printedNumber v ∷ []) (λ (x : ℕ) (ws : List Text). complete (callOf 52 0 0 0 x s) ws) ≡ Read (callOf 52 0 0 0 v s)
+unfolding takeNumber withNumber complete
+value-last s v h =
+    let b = reads-back mostValue v h (omega arith) in
+    rw b
+
+reads-52 : (n g m v : ℕ) (s : Space) → v ≤ mostValue → SpaceFits s → arguments (operatorNumber (lettersOf 52)) (argumentsOf (callOf 52 n g m v s)) ≡ Read (readable (callOf 52 n g m v s))
+unfolding lettersOf operatorWords operatorNumber numberFrom sameText arguments argumentsOf readsOf spaceThenValue readable
+reads-52 n g m v s h k =
+    take-space false s (printedNumber v ∷ []) (λ (t : Space) (ws : List Text). takeNumber true mostValue ws (λ (x : ℕ) (vs : List Text). complete (callOf 52 0 0 0 x t) vs)) k
+    ∙ value-last s v h
+
+-- the others
+
+number-back : (o : ℕ) → 1 ≤ o → o ≤ 56 → operatorNumber (lettersOf o) ≡ o
+unfolding everyRecord lettersOf operatorWords operatorNumber numberFrom sameText
+number-back o h k = eqb-true (operatorNumber (lettersOf o)) o (every-record (λ (i : ℕ). eqb (operatorNumber (lettersOf i)) i) 56 refl o h k)
+
+space-asked : (o : ℕ) → 1 ≤ o → o ≤ 55 → readsOf o .s ≡ true
+unfolding everyRecord readsOf
+space-asked o h k = every-record (λ (i : ℕ). readsOf i .s) 55 refl o h k
+
+space-last : (read optional : Bool) (s : Space) (then : Space → List Text → Reading) → read ≡ true → SpaceFits s → takeSpace optional (ifRead read (spaceText s) []) then ≡ then (cond read s Universe) []
+unfolding ifRead
+space-last true optional s then e h = take-space optional s [] then h
+space-last false optional s then e h = absurd (true≢false (sym e))
+
+in-order : (c : Call) → Fitting c → c .operator ≤ 55 → inOrder (c .operator) (orderedOf c) ≡ Read (readable c)
+unfolding inOrder orderedOf readable complete
+in-order c f k =
+    let o = c .operator in
+    let r = readsOf (c .operator) in
+    let n = cond (r .n) (c .n .0) 0 in
+    let g = cond (r .g) (c .g .0) 0 in
+    let m = cond (r .m) (c .m .0) 0 in
+    let v = cond (r .v) (c .v) 0 in
+    take-printed (r .n) mostName (c .n .0) _ (behindN o) (f .nodeFits) (omega arith)
+    ∙ take-printed (r .g) mostName (c .g .0) _ (behindG o n) (f .edgeFits) (omega arith)
+    ∙ take-printed (r .m) mostName (c .m .0) _ (behindM o n g) (f .otherFits) (omega arith)
+    ∙ take-printed (r .v) mostValue (c .v) _ (behindV o n g m) (f .valueFits) (omega arith)
+    ∙ space-last (r .s) (within 1 50 o) (c .s) (λ (s : Space) (ws : List Text). complete (callOf o n g m v s) ws) (space-asked o (f .least) k) (f .spaceFits)
+
+reads-other : (c : Call) → Fitting c → c .operator ≤ 55 → (c .operator ≡ 52 → ⊥) → arguments (operatorNumber (lettersOf (c .operator))) (argumentsOf c) ≡ Read (readable c)
+unfolding arguments argumentsOf
+reads-other c f k b =
+    let z = ne-eqb (c .operator) 0 (λ e. omega (arith, f .least)) in
+    let p = ne-eqb (c .operator) 52 b in
+    let q = ne-eqb (c .operator) 56 (λ e. omega arith) in
+    let i = number-back (c .operator) (f .least) (omega arith) in
+    rw (i, z, p, q) (in-order c f k)
+
+-- every call of an operator from 1 to 57 has a line, and the line reads as it
+pub no-operator-out-of-reach : (c : Call) → Fitting c → readLine (lineOf c) ≡ Read (readable c)
+no-operator-out-of-reach c f = whole c f ∙ go (eqb (c .operator) 57) refl (eqb (c .operator) 56) refl (eqb (c .operator) 52) refl
+  where
+    Claim : Call → Type 0
+    Claim d = arguments (operatorNumber (lettersOf (d .operator))) (argumentsOf d) ≡ Read (readable d)
+
+    at : (o : ℕ) → Type 0
+    at o = Claim (callOf o (c .n .0) (c .g .0) (c .m .0) (c .v) (c .s))
+
+    go : (a : Bool) → eqb (c .operator) 57 ≡ a → (b : Bool) → eqb (c .operator) 56 ≡ b → (d : Bool) → eqb (c .operator) 52 ≡ d → at (c .operator)
+    go true e b h d k = subst at (sym (eqb-true (c .operator) 57 e)) (reads-57 (c .n .0) (c .g .0) (c .m .0) (c .v) (c .s) (f .nodeFits))
+    go false e true h d k = subst at (sym (eqb-true (c .operator) 56 h)) (reads-56 (c .n .0) (c .g .0) (c .m .0) (c .v) (c .s))
+    go false e false h true k = subst at (sym (eqb-true (c .operator) 52 k)) (reads-52 (c .n .0) (c .g .0) (c .m .0) (c .v) (c .s) (f .valueFits) (f .spaceFits))
+    go false e false h false k =
+        let p = eqb-false (c .operator) 57 e in
+        let q = eqb-false (c .operator) 56 h in
+        reads-other c f (omega (arith, f .last)) (eqb-false (c .operator) 52 k)

@@ -1,0 +1,76 @@
+-- Document 01: the line that makes a call. Its letters are those of the table, its arguments those that are read, "one blank before each".
+use mathlib.Core.Bool.{Bool, true, false, cond}
+use mathlib.Core.List.{List, [], _∷_, _++_}
+use Prim.Native.Nat.{ℕ, _-_, _≤_}
+use lib.Dec.{eqb}
+use lib.ListN.{getD}
+use Rattle.model.specs.declared.Call.{Call}
+use Rattle.model.specs.declared.Space.{Space}
+use Rattle.model.specs.declared.Space.the-variants.{Universe, Numbered}
+use Rattle.model.specs.Keys.{mostName}
+use Rattle.model.specs.Operators.{readsOf}
+use Rattle.text.specs.Bytes.{Text, blank, S, U}
+use Rattle.text.specs.Numerals.{printedNumber}
+use Rattle.lines.specs.OperatorWords.{operatorWords}
+use Rattle.lines.specs.Calls.{mostValue, callOf}
+
+-- "one blank before each": a word, and the words behind it, as a line
+unfoldable pub joined : Text → List Text → Text
+joined w [] = w
+joined w (x ∷ xs) = w ++ (blank ∷ joined x xs)
+
+-- "numbers | operators": the letters of an operator; those of 57 are SUS
+unfoldable pub lettersOf : ℕ → Text
+lettersOf o = getD operatorWords (o - 1) (S ∷ U ∷ S ∷ [])
+
+-- "UNIVERSE is `U`"
+unfoldable pub spaceText : Space → Text
+spaceText Universe = U ∷ []
+spaceText (Numbered x) = printedNumber (x .0)
+
+-- a field that is read, in front of the words of the others
+unfoldable pub ifRead : Bool → Text → List Text → List Text
+ifRead false w ws = ws
+ifRead true w ws = w ∷ ws
+
+-- "n g m v s", those that are read
+unfoldable pub orderedOf : Call → List Text
+orderedOf c =
+    ifRead (readsOf (c .operator) .n) (printedNumber (c .n .0))
+    (ifRead (readsOf (c .operator) .g) (printedNumber (c .g .0))
+    (ifRead (readsOf (c .operator) .m) (printedNumber (c .m .0))
+    (ifRead (readsOf (c .operator) .v) (printedNumber (c .v))
+    (ifRead (readsOf (c .operator) .s) (spaceText (c .s)) []))))
+
+-- "52 s v"
+unfoldable pub argumentsOf : Call → List Text
+argumentsOf c = cond (eqb (c .operator) 52) (spaceText (c .s) ∷ printedNumber (c .v) ∷ []) (orderedOf c)
+
+-- the line that makes a call
+unfoldable pub lineOf : Call → Text
+lineOf c = joined (lettersOf (c .operator)) (argumentsOf c)
+
+-- "Fields not read have no effect": the call with 0 and UNIVERSE in those
+unfoldable pub readable : Call → Call
+readable c =
+    callOf (c .operator)
+    (cond (readsOf (c .operator) .n) (c .n .0) 0)
+    (cond (readsOf (c .operator) .g) (c .g .0) 0)
+    (cond (readsOf (c .operator) .m) (c .m .0) 0)
+    (cond (readsOf (c .operator) .v) (c .v) 0)
+    (cond (readsOf (c .operator) .s) (c .s) Universe)
+
+-- "names to 65,535, values to 4,294,967,295": a space that is a number is a name
+abbrev pub SpaceFits : Space → Type 0
+SpaceFits Universe = Unit {0}
+SpaceFits (Numbered x) = x .0 ≤ mostName
+
+-- a call of one of the 57 operators whose fields fit
+pub record Fitting (c : Call) : Type 0 where
+  pub least : 1 ≤ c .operator
+  pub last : c .operator ≤ 57
+  pub nodeFits : c .n .0 ≤ mostName
+  pub edgeFits : c .g .0 ≤ mostName
+  pub otherFits : c .m .0 ≤ mostName
+  pub valueFits : c .v ≤ mostValue
+  pub spaceFits : SpaceFits (c .s)

@@ -1,0 +1,68 @@
+// "plain digits without a leading zero (zero itself is `0`), names to 65,535, values to 4,294,967,295".
+ghost use mathlib.Core.Path.{_≡_};
+ghost use Prim.Native.Nat.{_-_, _≤_};
+ghost use Rattle.text.specs.Numerals.{digitZero, readNumber};
+ghost use Rattle.lines.specs.Places.{numeralOf, leadingZero, readDigits};
+
+// What a word gives as a number.
+pub enum Numeral {
+    // A number.
+    Value(u32),
+    // A word that is none, or that is past the most that it may be.
+    NotANumber,
+}
+
+// The number of a digit.
+fn digit_value(b: u8) -> u64
+    requires { ⌜ digitZero ≤ b ⌝ }
+    ensures { λ r. ⌜ r ≡ b - digitZero ⌝ }
+{
+    (b - b'0') as u64
+}
+
+// Does a word of several bytes begin with the digit 0.
+fn leading_zero(word: &[u8]) -> bool
+    ensures { λ r. ⌜ r ≡ leadingZero (now (word .entry)) ⌝ }
+{
+    if word.len() < 2 {
+        return false;
+    }
+    word[0] == b'0'
+}
+
+// The number that a word of digits gives; it stops once the number is past the most that it may be.
+fn digits_in(word: &[u8], most: u32) -> Numeral
+    ensures { λ r. ⌜ r ≡ numeralOf (readDigits most 0 (now (word .entry))) ⌝ }
+{
+    let limit = most as u64;
+    let mut value: u64 = 0;
+    let mut i = 0;
+    while i < word.len() {
+        let b = word[i];
+        if b < b'0' {
+            return Numeral::NotANumber;
+        }
+        if b > b'9' {
+            return Numeral::NotANumber;
+        }
+        value = value * 10 + digit_value(b);
+        if value > limit {
+            return Numeral::NotANumber;
+        }
+        i += 1;
+    }
+    Numeral::Value(value as u32)
+}
+
+// The number that a word gives.
+pub fn number_in(word: &[u8], most: u32) -> Numeral
+    ensures { λ r. ⌜ r ≡ numeralOf (readNumber most (now (word .entry))) ⌝ }
+{
+    if word.len() == 0 {
+        return Numeral::NotANumber;
+    }
+    if leading_zero(word) {
+        return Numeral::NotANumber;
+    }
+    digits_in(word, most)
+}

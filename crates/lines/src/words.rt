@@ -1,0 +1,37 @@
+// Bytes of a text: where a part ends, and whether two texts are the same.
+ghost use mathlib.Core.Path.{_≡_};
+ghost use Prim.Native.Nat.{_+_, _≤_};
+ghost use lib.ListN.{length, drop};
+ghost use Rattle.text.specs.Bytes.{before, sameText};
+
+// The place of the first byte `end` from a place on; the text's length where there is none.
+pub fn end_of(text: &[u8], from: usize, end: u8) -> usize
+    requires { ⌜ from ≤ length (now text) ⌝ }
+    ensures { λ r. ⌜ r ≡ from + length (before end (drop from (now (text .entry)))) ⌝ }
+{
+    let mut at = from;
+    while at < text.len() {
+        if text[at] == end {
+            return at;
+        }
+        at += 1;
+    }
+    at
+}
+
+// Are two texts the same.
+pub fn same(word: &[u8], letters: &[u8]) -> bool
+    ensures { λ r. ⌜ r ≡ sameText (now (word .entry)) (now (letters .entry)) ⌝ }
+{
+    if word.len() != letters.len() {
+        return false;
+    }
+    let mut i = 0;
+    while i < word.len() {
+        if word[i] != letters[i] {
+            return false;
+        }
+        i += 1;
+    }
+    true
+}
