@@ -1,24 +1,27 @@
 -- One line on a store: a call and its answer printed, or a refusal printed and no call.
 use mathlib.Core.Bool.{true}
-use mathlib.Core.List.{List}
+use mathlib.Core.List.{List, [], _∷_}
 use mathlib.Core.Path.{_≡_, refl, sym, _∙_, ap, ap₂, subst}
-use Prim.Native.Nat.{ℕ, _≤_}
+use Prim.Native.Nat.{ℕ, _+_, _≤_}
 use native.Mathlib.Omega.{arith}
-use lib.ListN.{length}
+use lib.ListN.{length, getD, length-append}
 use Rattle.model.specs.declared.Call.{Call}
 use Rattle.model.specs.declared.Answer.{Answer}
 use Rattle.model.specs.declared.Answer.the-variants.{Refusal}
 use Rattle.model.specs.Steps.{Reply}
 use Rattle.model.specs.Machine.{State, Outcome, machine}
 use Rattle.model.specs.Buffer.{capacityOf, tuplesOf, isStore, pastRecords}
-use Rattle.model.specs.OneCall.{answerOf, listAfter, observed, OnStore}
+use Rattle.model.specs.OneCall.{answerOf, listCount, listAfter, observed, OnStore}
 use Rattle.model.proofs.Store.{store-rules}
-use Rattle.model.proofs.CallLists.{observed-machine}
-use Rattle.text.specs.Bytes.{Text}
+use Rattle.model.proofs.CallLists.{observed-machine, answer-within}
+use Rattle.text.specs.Bytes.{Text, lineFeed}
+use Rattle.text.specs.Numerals.{printedNumber}
+use Rattle.text.proofs.Printing.{printed-ten}
 use Rattle.lines.specs.declared.Reading.{Reading}
 use Rattle.lines.specs.declared.Reading.the-variants.{Read, Refused}
 use Rattle.lines.specs.Calls.{readLine}
-use Rattle.print.specs.Answers.{answerLine, Put}
+use Rattle.print.specs.Answers.{answerText, answerLine, mostLine, Put, Printable}
+use Rattle.print.proofs.Lengths.{line-printable}
 use Rattle.script.specs.Scripts.{scriptRecords, scriptPlaces, outcomeOf, lineOutcome}
 use Rattle.script.specs.Runs.{Ready, Called, call, no-call, LineRun, lineList}
 
@@ -38,16 +41,22 @@ module _ (b l : List ℕ) (line : Text) (out : Text) (at : ℕ) where
       ∙ ap (λ (o : Outcome). o .answer) (as-machine c R)
       ∙ ap (λ (r : Reading). outcomeOf (tuplesOf b) r .answer) (sym e)
 
+  -- there is room for the answer of a call
+  pub call-printable : (c : Call) (a : Answer) (b′ l′ : List ℕ) → Ready b l → OnStore b l c a b′ l′ → length l′ ≡ length l → ((i : ℕ) → getD l′ i 0 ≤ 4294967295) → at + mostLine ≤ length out
+      → Printable (answerLine (observed a l′)) a l′ out at
+  call-printable c a b′ l′ R O k f room =
+      line-printable a l′ out at (omega (arith, answer-within b l b′ l′ c a O k)) (omega (arith, R .places)) f room
+
   pub call-run : (c : Call) (a : Answer) (b′ l′ : List ℕ) (end : ℕ) (out′ : Text) → Ready b l → readLine line ≡ Read c → OnStore b l c a b′ l′ → length l′ ≡ length l
-      → Put (answerLine (observed a l′)) out at end out′ → end ≤ length out → LineRun b l line out at b′ l′ end out′
-  call-run c a b′ l′ end out′ R e O k P w =
+      → ((i : ℕ) → getD l′ i 0 ≤ 4294967295) → at + mostLine ≤ length out → Put (answerLine (observed a l′)) out at end out′ → LineRun b l line out at b′ l′ end out′
+  call-run c a b′ l′ end out′ R e O k f room P =
       record {
         called =
             subst (Called b l b′ l′) (sym e)
             (call (subst (λ (x : Answer). OnStore b l c x b′ l′) (O .answer) O));
         places = k;
         put = subst (λ (r : Reply). Put (answerLine r) out at end out′) (call-reply c a b′ l′ R e O) P;
-        within = w;
+        within = omega (arith, P .place, call-printable c a b′ l′ R O k f room .room);
       }
 
   -- a line that does not read as a call
@@ -55,14 +64,29 @@ module _ (b l : List ℕ) (line : Text) (out : Text) (at : ℕ) where
   unfolding lineOutcome outcomeOf observed
   refused-reply number e = ap (λ (r : Reading). outcomeOf (tuplesOf b) r .answer) (sym e)
 
-  pub refused-run : (number end : ℕ) (out′ : Text) → readLine line ≡ Refused number → Put (answerLine (observed (Refusal number) l)) out at end out′ → end ≤ length out
+  -- there is room for a refusal
+  pub refused-printable : (number : ℕ) → at + mostLine ≤ length out → Printable (answerLine (observed (Refusal number) l)) (Refusal number) l out at
+  unfolding observed listCount answerLine answerText
+  refused-printable number room =
+      record {
+        room =
+            omega (
+              arith,
+              printed-ten number,
+              length-append (printedNumber number) (lineFeed ∷ []),
+            );
+        held = omega arith;
+        counted = omega arith;
+      }
+
+  pub refused-run : (number end : ℕ) (out′ : Text) → readLine line ≡ Refused number → at + mostLine ≤ length out → Put (answerLine (observed (Refusal number) l)) out at end out′
       → LineRun b l line out at b l end out′
-  refused-run number end out′ e P w =
+  refused-run number end out′ e room P =
       record {
         called = subst (Called b l b l) (sym e) (no-call refl refl);
         places = refl;
         put = subst (λ (r : Reply). Put (answerLine r) out at end out′) (refused-reply number e) P;
-        within = w;
+        within = omega (arith, P .place, refused-printable number room .room);
       }
 
 -- ---- what is left

@@ -4,19 +4,20 @@ use mathlib.Core.List.{List, [], _∷_, _++_, append-assoc, append-nil}
 use mathlib.Core.Path.{_≡_, refl, sym, _∙_, ap, subst}
 use Prim.Native.Nat.{ℕ, _+_, _-_, _≤_, _<_}
 use native.Mathlib.Omega.{arith}
-use borrow.Author.Tests.{le-leb, lt-leb}
-use lib.Dec.{leb}
+use borrow.Author.Tests.{le-leb, lt-leb, ltb-true, ltb-false}
+use lib.Dec.{leb, ltb}
 use lib.ListN.{length, drop, length-append}
 use Rattle.model.specs.Machine.{State}
 use Rattle.model.specs.Buffer.{tuplesOf, pastRecords}
-use Rattle.text.specs.Bytes.{Text, written}
+use Rattle.text.specs.Bytes.{Text, lineFeed, before, written}
 use Rattle.text.proofs.Written.{written-nil, written-twice, length-written}
 use Rattle.lines.specs.Lines.{linesOf}
 use Rattle.lines.specs.Calls.{readLine}
+use Rattle.lines.proofs.LineLaws.{no-lines, next-line, line-within}
 use Rattle.print.specs.Answers.{answerLine, Put, mostLine}
 use Rattle.script.specs.declared.Block.{Block}
 use Rattle.script.specs.Scripts.{lineOutcome}
-use Rattle.script.specs.Runs.{Ready, LineRun, Run, lineList, printedBefore, runLines, BlockRun}
+use Rattle.script.specs.Runs.{Ready, LineRun, Run, lineList, printedBefore, runLines, nextLine, BlockRun}
 use Rattle.script.proofs.LineRuns.{LineLeft, line-left}
 
 -- no line is run
@@ -48,6 +49,16 @@ one-line room ts l x xs h = ap (λ (b : Bool). cond b (firstRun room ts l x xs) 
 printed-twice : (xs ys : Text) (r : Run) → printedBefore xs (printedBefore ys r) ≡ printedBefore (xs ++ ys) r
 printed-twice xs ys r = ap (λ (zs : Text). record { text = zs; state = r .state; list = r .list; rest = r .rest }) (sym (append-assoc xs ys (r .text)))
 
+-- a run that has no room for a line, though the output had, has run one
+moved : {whole : ℕ} (from at size : ℕ) → whole - size < mostLine → mostLine ≤ whole → from ≤ at → (at ≡ from → size ≡ 0) → from < at
+moved {whole} from at size short room onward unmoved = go (ltb from at) refl
+  where
+    go : (t : Bool) → ltb from at ≡ t → from < at
+    go true e = ltb-true from at e
+    go false e =
+        let h : at ≤ from = ltb-false from at e in
+        absurd (omega (arith, unmoved (omega arith)))
+
 -- the lines of a script from place `from` to place `at`, run on a store and printed to the first `size` bytes of an output
 pub record Running (b₀ l₀ : List ℕ) (script : Text) (from : ℕ) (out₀ : Text) (b l : List ℕ) (at size : ℕ) (out : Text) : Type 0 where
   pub ready : Ready b l
@@ -60,6 +71,42 @@ pub record Running (b₀ l₀ : List ℕ) (script : Text) (from : ℕ) (out₀ :
   pub done : Text
   pub put : Put done out₀ 0 size out
   pub run : runLines (length out₀) (tuplesOf b₀) l₀ (linesOf (drop from script)) ≡ printedBefore done (runLines (length out₀ - size) (tuplesOf b) l (linesOf (drop at script)))
+
+-- ---- the next line
+
+-- the line at a place, and where the next one starts
+pub record NextLine (script : Text) (at : ℕ) (line : Text) (next : ℕ) : Type 0 where
+  pub onward : at < next
+  pub within : next ≤ length script
+  pub split : linesOf (drop at script) ≡ line ∷ linesOf (drop next script)
+
+pub next-of : (script : Text) (at : ℕ) (line : Text) (next : ℕ) → at < length script → line ≡ before lineFeed (drop at script) → next ≡ nextLine (length script) (at + length line) → NextLine script at line next
+next-of script at line next some e n = go (ltb (at + length line) (length script)) refl
+  where
+    behind : linesOf (drop at script) ≡ line ∷ linesOf (drop (at + length line + 1) script)
+    behind = next-line script at line some e
+
+    inside : at + length line ≤ length script
+    inside = line-within script at line (omega arith) e
+
+    chosen : (t : Bool) → ltb (at + length line) (length script) ≡ t → next ≡ cond t (at + length line + 1) (at + length line)
+    chosen t f = n ∙ ap (λ (u : Bool). cond u (at + length line + 1) (at + length line)) f
+
+    go : (t : Bool) → ltb (at + length line) (length script) ≡ t → NextLine script at line next
+    go true f =
+        let h : at + length line < length script = ltb-true (at + length line) (length script) f in
+        let q : next ≡ at + length line + 1 = chosen true f in
+        record { onward = omega arith; within = omega arith; split = behind ∙ ap (λ (k : ℕ). line ∷ linesOf (drop k script)) (sym q) }
+    go false f =
+        let h : length script ≤ at + length line = ltb-false (at + length line) (length script) f in
+        let q : next ≡ at + length line = chosen false f in
+        record {
+          onward = omega arith;
+          within = omega (arith, inside);
+          split = behind ∙ ap (λ (xs : List Text). line ∷ xs) (no-lines script (at + length line + 1) (omega arith) ∙ sym (no-lines script next (omega arith)));
+        }
+
+-- ---- line after line
 
 module _ (b₀ l₀ : List ℕ) (script : Text) (from : ℕ) (out₀ : Text) where
   pub run-start : Ready b₀ l₀ → from ≤ length script → Running b₀ l₀ script from out₀ b₀ l₀ from 0 out₀
@@ -79,31 +126,31 @@ module _ (b₀ l₀ : List ℕ) (script : Text) (from : ℕ) (out₀ : Text) whe
       }
 
   -- one more line
-  pub run-line : (b l : List ℕ) (at size : ℕ) (out line : Text) (b′ l′ : List ℕ) (end : ℕ) (out′ : Text) (next : ℕ)
-      → Running b₀ l₀ script from out₀ b l at size out → mostLine ≤ length out₀ - size
-      → at < next → next ≤ length script → linesOf (drop at script) ≡ line ∷ linesOf (drop next script)
-      → LineRun b l line out size b′ l′ end out′ → Running b₀ l₀ script from out₀ b′ l′ next end out′
-  run-line b l at size out line b′ l′ end out′ next S room onward within split L =
+  pub run-line-on : (b l : List ℕ) (at size : ℕ) (out line : Text) (b′ l′ : List ℕ) (end : ℕ) (out′ : Text) (next : ℕ)
+      → Running b₀ l₀ script from out₀ b l at size out → mostLine ≤ length out - size
+      → NextLine script at line next → LineRun b l line out size b′ l′ end out′ → Running b₀ l₀ script from out₀ b′ l′ next end out′
+  run-line-on b l at size out line b′ l′ end out′ next S wide X L =
       let left : LineLeft b l line b′ l′ = line-left b l (S .ready) line out size b′ l′ end out′ L in
       let a : Text = answerLine (lineOutcome (tuplesOf b) line .answer) in
       let sized : length out ≡ length out₀
       = ap length (S .put .bytes) ∙ length-written out₀ 0 (S .done) (omega (arith, S .put .place, S .fits)) in
+      let room : mostLine ≤ length out₀ - size = omega arith in
       let grown : length (S .done ++ a) ≡ length (S .done) + length a = length-append (S .done) a in
       let room′ : length out₀ - size - length a ≡ length out₀ - end = omega (arith, L .put .place) in
       let later : Run = runLines (length out₀ - end) (tuplesOf b′) l′ (linesOf (drop next script)) in
       let first : runLines (length out₀ - size) (tuplesOf b) l (linesOf (drop at script)) ≡ printedBefore a later
-      = ap (runLines (length out₀ - size) (tuplesOf b) l) split
-        ∙ one-line (length out₀ - size) (tuplesOf b) l line (linesOf (drop next script)) room
-        ∙ ap (λ (n : ℕ). printedBefore a (runLines n (lineOutcome (tuplesOf b) line .state) (lineList (tuplesOf b) (readLine line) l) (linesOf (drop next script)))) room′
-        ∙ ap (λ (ts : State). printedBefore a (runLines (length out₀ - end) ts (lineList (tuplesOf b) (readLine line) l) (linesOf (drop next script)))) (sym (left .tuples))
-        ∙ ap (λ (k : List ℕ). printedBefore a (runLines (length out₀ - end) (tuplesOf b′) k (linesOf (drop next script)))) (sym (left .list)) in
+      = ap (runLines (length out₀ - size) (tuplesOf b) l) (X .split)
+      ∙ one-line (length out₀ - size) (tuplesOf b) l line (linesOf (drop next script)) room
+      ∙ ap (λ (n : ℕ). printedBefore a (runLines n (lineOutcome (tuplesOf b) line .state) (lineList (tuplesOf b) (readLine line) l) (linesOf (drop next script)))) room′
+      ∙ ap (λ (ts : State). printedBefore a (runLines (length out₀ - end) ts (lineList (tuplesOf b) (readLine line) l) (linesOf (drop next script)))) (sym (left .tuples))
+      ∙ ap (λ (k : List ℕ). printedBefore a (runLines (length out₀ - end) (tuplesOf b′) k (linesOf (drop next script)))) (sym (left .list)) in
       record {
         ready = left .ready;
         words = left .size ∙ S .words;
         past = left .past ∙ S .past;
-        within = within;
-        onward = omega (arith, S .onward);
-        unmoved = λ e. absurd (omega (arith, S .onward, e));
+        within = X .within;
+        onward = omega (arith, S .onward, X .onward);
+        unmoved = λ e. absurd (omega (arith, S .onward, X .onward, e));
         fits = omega (arith, L .within, sized);
         done = S .done ++ a;
         put =
@@ -133,7 +180,27 @@ module _ (b₀ l₀ : List ℕ) (script : Text) (from : ℕ) (out₀ : Text) whe
         past = S .past;
         list = sym (ap (λ (u : Run). u .list) done);
         put = subst (λ (bs : Text). Put bs out₀ 0 size out) (sym (ap (λ (u : Run). u .text) done ∙ append-nil (S .done))) (S .put);
+        fits = S .fits;
         within = S .within;
         rest = sym (ap (λ (u : Run). u .rest) done);
         forward = forward;
       }
+
+  -- the output keeps its length
+  pub run-sized : (b l : List ℕ) (at size : ℕ) (out : Text) → Running b₀ l₀ script from out₀ b l at size out → length out ≡ length out₀
+  run-sized b l at size out S = ap length (S .put .bytes) ∙ length-written out₀ 0 (S .done) (omega (arith, S .put .place, S .fits))
+
+  -- the run ends where there is no room for a line ..
+  pub run-short : (b l : List ℕ) (at size : ℕ) (out : Text) → Running b₀ l₀ script from out₀ b l at size out → length out - size < mostLine
+      → BlockRun (runLines (length out₀) (tuplesOf b₀) l₀ (linesOf (drop from script))) b₀ script from out₀ (record { next = at; length = size }) b l out
+  run-short b l at size out S h =
+      let short : length out₀ - size < mostLine = omega (arith, run-sized b l at size out S) in
+      run-end b l at size out S (no-room (length out₀ - size) (tuplesOf b) l (linesOf (drop at script)) short)
+      (λ some room. moved from at size short room (S .onward) (S .unmoved))
+
+  -- .. or where the script ends
+  pub run-whole : (b l : List ℕ) (at size : ℕ) (out : Text) → Running b₀ l₀ script from out₀ b l at size out → length script ≤ at
+      → BlockRun (runLines (length out₀) (tuplesOf b₀) l₀ (linesOf (drop from script))) b₀ script from out₀ (record { next = at; length = size }) b l out
+  run-whole b l at size out S h =
+      run-end b l at size out S (no-line (length out₀ - size) (tuplesOf b) l (linesOf (drop at script)) (no-lines script at h))
+      (λ some room. omega (arith, some))

@@ -77,6 +77,7 @@ pub record BlockRun (u : Run) (b : List ℕ) (script : Text) (from : ℕ) (out :
   pub past : pastRecords b′ ≡ pastRecords b
   pub list : l′ ≡ u .list
   pub put : Put (u .text) out 0 (r .length) out′
+  pub fits : r .length ≤ length out
   pub within : r .next ≤ length script
   pub rest : linesOf (drop (r .next) script) ≡ u .rest
   -- at least one line is run, where there is one and the output is long enough
