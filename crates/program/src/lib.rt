@@ -2,28 +2,29 @@
 // No contract can say what is read or written: what a script prints is in the contracts of crate script.
 use libc::STDIN_FILENO;
 use libc::STDOUT_FILENO;
+ghost use mathlib.Core.Path.{_≡_};
 ghost use Prim.Native.Nat.{_≤_};
 ghost use lib.ListN.{length};
-ghost use Rattle.print.specs.Answers.{mostLine};
-ghost use Rattle.script.specs.Runs.{Ready};
+ghost use Rattle.model.specs.Steps.{refusal};
+ghost use Rattle.text.specs.Bytes.{written};
+ghost use Rattle.print.specs.Answers.{answerLine, mostLine};
+ghost use Rattle.script.specs.Runs.{Ready, ScriptRun};
 
-// Runs the lines of a script and writes what they print, block by block; stops where the output takes no more.
+// Runs the lines of a script and writes what they print, block by block; `out` is left with the last block in it.
 fn run_lines(store: &mut [u32], list: &mut [u32], script: &[u8], out: &mut [u8])
     requires { ⌜ Ready (now store) (now list) × (mostLine ≤ length (now out)) ⌝ }
-    ensures { λ _. ⌜ Ready (now (store .exit)) (now (list .exit)) ⌝ }
+    ensures { λ _. ⌜ ScriptRun (now (store .entry)) (now (list .entry)) (now (script .entry)) (now (store .exit)) (now (list .exit)) ⌝ }
 {
     let mut at = 0;
     while at < script.len() {
         let block = script::run_block(store, list, script, at, out);
         let length = block.length;
-        if !io::write_all(STDOUT_FILENO, &out[..length]) {
-            return;
-        }
+        io::write_all(STDOUT_FILENO, &out[..length]);
         at = block.next;
     }
 }
 
-// Runs a script of at most 65,536 bytes on a fresh store with 2,048 records and an answer list of 2,048 places.
+// Runs a script on a fresh store with 2,048 records and an answer list of 2,048 places.
 fn run_script(script: &[u8], out: &mut [u8])
     requires { ⌜ mostLine ≤ length (now out) ⌝ }
 {
@@ -36,6 +37,7 @@ fn run_script(script: &[u8], out: &mut [u8])
 // Refuses an input that is too long.
 fn refuse(out: &mut [u8])
     requires { ⌜ mostLine ≤ length (now out) ⌝ }
+    ensures { λ _. ⌜ now (out .exit) ≡ written (now (out .entry)) 0 (answerLine (refusal 11)) ⌝ }
 {
     let length = script::refuse_input(out);
     io::write_all(STDOUT_FILENO, &out[..length]);

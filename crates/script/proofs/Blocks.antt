@@ -1,43 +1,96 @@
 -- Lines that are run in blocks print what they print one after the other, and leave the same state.
 use mathlib.Core.Bool.{Bool, true, false, cond}
 use mathlib.Core.List.{List, [], _∷_, _++_, append-assoc}
-use mathlib.Core.Path.{_≡_, refl, _∙_, ap}
-use Prim.Native.Nat.{ℕ, _-_}
+use mathlib.Core.Path.{_≡_, refl, sym, _∙_, ap, ap₂}
+use Prim.Native.Nat.{ℕ, _-_, _≤_}
+use native.Mathlib.Omega.{arith}
 use lib.Dec.{leb}
-use lib.ListN.{length}
+use lib.ListN.{length, drop}
+use Rattle.model.specs.Buffer.{tuplesOf, pastRecords}
 use Rattle.model.specs.Machine.{State}
 use Rattle.text.specs.Bytes.{Text}
+use Rattle.lines.specs.Lines.{linesOf}
 use Rattle.lines.specs.Calls.{readLine}
+use Rattle.lines.proofs.LineLaws.{no-lines}
 use Rattle.print.specs.Answers.{answerLine, mostLine}
+use Rattle.script.specs.declared.Block.{Block}
 use Rattle.script.specs.Scripts.{lineOutcome, linesOutput, linesFinal}
-use Rattle.script.specs.Runs.{Run, lineList, printedBefore, runLines}
+use Rattle.script.specs.Runs.{Ready, Run, lineList, linesList, printedBefore, runLines, BlockRun, ScriptRun}
 
 -- a run of the first of some lines, and then the lines that are left
-pub record AsAll (ts : State) (xs : List Text) (r : Run) : Type 0 where
+pub record AsAll (ts : State) (l : List ℕ) (xs : List Text) (r : Run) : Type 0 where
   pub output : r .text ++ linesOutput (r .state) (r .rest) ≡ linesOutput ts xs
   pub final : linesFinal (r .state) (r .rest) ≡ linesFinal ts xs
+  pub list : linesList (r .state) (r .list) (r .rest) ≡ linesList ts l xs
 
-not-run : (ts : State) (l : List ℕ) (xs : List Text) → AsAll ts xs (record { text = []; state = ts; list = l; rest = xs })
-not-run ts l xs = record { output = refl; final = refl }
+not-run : (ts : State) (l : List ℕ) (xs : List Text) → AsAll ts l xs (record { text = []; state = ts; list = l; rest = xs })
+not-run ts l xs = record { output = refl; final = refl; list = refl }
 
-one-more : (ts : State) (x : Text) (xs : List Text) (r : Run) → AsAll (lineOutcome ts x .state) xs r → AsAll ts (x ∷ xs) (printedBefore (answerLine (lineOutcome ts x .answer)) r)
-unfolding linesOutput linesFinal
-one-more ts x xs r R =
+one-more : (ts : State) (l : List ℕ) (x : Text) (xs : List Text) (r : Run) → AsAll (lineOutcome ts x .state) (lineList ts (readLine x) l) xs r → AsAll ts l (x ∷ xs) (printedBefore (answerLine (lineOutcome ts x .answer)) r)
+unfolding linesOutput linesFinal linesList
+one-more ts l x xs r R =
     record {
       output = append-assoc (answerLine (lineOutcome ts x .answer)) (r .text) (linesOutput (r .state) (r .rest)) ∙ ap (λ (bs : Text). answerLine (lineOutcome ts x .answer) ++ bs) (R .output);
       final = R .final;
+      list = R .list;
     }
 
-either : (b : Bool) (ts : State) (xs : List Text) (r s : Run) → AsAll ts xs r → AsAll ts xs s → AsAll ts xs (cond b r s)
-either true ts xs r s R S = R
-either false ts xs r s R S = S
+either : (b : Bool) (ts : State) (l : List ℕ) (xs : List Text) (r s : Run) → AsAll ts l xs r → AsAll ts l xs s → AsAll ts l xs (cond b r s)
+either true ts l xs r s R S = R
+either false ts l xs r s R S = S
 
 -- what a run prints, and then what the lines that are left print, is what all lines print; and so the state
-pub run-as-all : (room : ℕ) (ts : State) (l : List ℕ) (xs : List Text) → AsAll ts xs (runLines room ts l xs)
+pub run-as-all : (room : ℕ) (ts : State) (l : List ℕ) (xs : List Text) → AsAll ts l xs (runLines room ts l xs)
 unfolding runLines
 run-as-all room ts l [] = not-run ts l []
 run-as-all room ts l (x ∷ xs) =
-    either (leb mostLine room) ts (x ∷ xs) _ _
-    (one-more ts x xs _
+    either (leb mostLine room) ts l (x ∷ xs) _ _
+    (one-more ts l x xs _
     (run-as-all (room - length (answerLine (lineOutcome ts x .answer))) (lineOutcome ts x .state) (lineList ts (readLine x) l) xs))
     (not-run ts l (x ∷ xs))
+
+-- ---- block after block
+
+-- the lines of a script before place `at`, run on a store
+pub record Going (b₀ l₀ : List ℕ) (script : Text) (b l : List ℕ) (at : ℕ) : Type 0 where
+  pub ready : Ready b l
+  pub words : length b ≡ length b₀
+  pub past : pastRecords b ≡ pastRecords b₀
+  pub within : at ≤ length script
+  pub final : linesFinal (tuplesOf b) (linesOf (drop at script)) ≡ linesFinal (tuplesOf b₀) (linesOf script)
+  pub list : linesList (tuplesOf b) l (linesOf (drop at script)) ≡ linesList (tuplesOf b₀) l₀ (linesOf script)
+
+module _ (b₀ l₀ : List ℕ) (script : Text) where
+  pub go-start : Ready b₀ l₀ → Going b₀ l₀ script b₀ l₀ 0
+  go-start R = record { ready = R; words = refl; past = refl; within = omega arith; final = refl; list = refl }
+
+  pub go-on : (b l b′ l′ : List ℕ) (at : ℕ) (out : Text) (r : Block) (out′ : Text) → Going b₀ l₀ script b l at
+      → BlockRun (runLines (length out) (tuplesOf b) l (linesOf (drop at script))) b script at out r b′ l′ out′ → Going b₀ l₀ script b′ l′ (r .next)
+  go-on b l b′ l′ at out r out′ G B =
+      let xs : List Text = linesOf (drop at script) in
+      let u : Run = runLines (length out) (tuplesOf b) l xs in
+      let A : AsAll (tuplesOf b) l xs u = run-as-all (length out) (tuplesOf b) l xs in
+      record {
+        ready = B .ready;
+        words = B .size ∙ G .words;
+        past = B .past ∙ G .past;
+        within = B .within;
+        final = ap₂ linesFinal (B .tuples) (B .rest) ∙ A .final ∙ G .final;
+        list =
+            ap (λ (ts : State). linesList ts l′ (linesOf (drop (r .next) script))) (B .tuples)
+            ∙ ap₂ (linesList (u .state)) (B .list) (B .rest)
+            ∙ A .list
+            ∙ G .list;
+      }
+
+  pub go-end : (b l : List ℕ) (at : ℕ) → Going b₀ l₀ script b l at → length script ≤ at → ScriptRun b₀ l₀ script b l
+  unfolding linesFinal linesList
+  go-end b l at G h =
+      let none : linesOf (drop at script) ≡ [] = no-lines script at h in
+      record {
+        ready = G .ready;
+        tuples = ap (linesFinal (tuplesOf b)) (sym none) ∙ G .final;
+        size = G .words;
+        past = G .past;
+        list = ap (linesList (tuplesOf b) l) (sym none) ∙ G .list;
+      }

@@ -1,3 +1,4 @@
 pub mod Blocks
+pub mod Fresh
 pub mod LineRuns
 pub mod Turns

@@ -8,14 +8,14 @@ use lib.ListN.{length, getD, length-append}
 use Rattle.model.specs.declared.Call.{Call}
 use Rattle.model.specs.declared.Answer.{Answer}
 use Rattle.model.specs.declared.Answer.the-variants.{Refusal}
-use Rattle.model.specs.Steps.{Reply}
+use Rattle.model.specs.Steps.{Reply, refusal}
 use Rattle.model.specs.Machine.{State, Outcome, machine}
 use Rattle.model.specs.Buffer.{capacityOf, tuplesOf, isStore, pastRecords}
 use Rattle.model.specs.OneCall.{answerOf, listCount, listAfter, observed, OnStore}
 use Rattle.model.proofs.Store.{store-rules}
 use Rattle.model.proofs.CallLists.{observed-machine, answer-within}
 use Rattle.text.specs.Bytes.{Text, lineFeed}
-use Rattle.text.specs.Numerals.{printedNumber}
+use Rattle.text.specs.Numerals.{printedNumber, printedIn}
 use Rattle.text.proofs.Printing.{printed-ten}
 use Rattle.lines.specs.declared.Reading.{Reading}
 use Rattle.lines.specs.declared.Reading.the-variants.{Read, Refused}
@@ -131,3 +131,8 @@ module _ (b l : List ℕ) (R : Ready b l) where
 
   pub line-left : (line out : Text) (at : ℕ) (b′ l′ : List ℕ) (end : ℕ) (out′ : Text) → LineRun b l line out at b′ l′ end out′ → LineLeft b l line b′ l′
   line-left line out at b′ l′ end out′ L = left-of (readLine line) line b′ l′ refl (L .places) (L .called)
+
+-- the line `R 11`
+pub refusal-length : length (answerLine (refusal 11)) ≡ 5
+unfolding answerLine answerText printedNumber printedIn
+refusal-length = refl

@@ -16,7 +16,7 @@ use Rattle.lines.specs.Lines.{linesOf}
 use Rattle.lines.specs.Calls.{readLine}
 use Rattle.print.specs.Answers.{answerLine, Put, mostLine}
 use Rattle.script.specs.declared.Block.{Block}
-use Rattle.script.specs.Scripts.{scriptRecords, scriptPlaces, lineOutcome}
+use Rattle.script.specs.Scripts.{scriptRecords, scriptPlaces, lineOutcome, linesFinal}
 
 -- a store and an answer list for a script: "a store with C = 2,048 and an answer list of 2,048 places"
 pub record Ready (b l : List ℕ) : Type 0 where
@@ -52,6 +52,11 @@ unfoldable pub lineList : State → Reading → List ℕ → List ℕ
 lineList ts (Read c) l = listAfter (machine scriptRecords ts c scriptPlaces .answer) l
 lineList ts (Refused number) l = l
 
+-- the answer list after some lines
+unfoldable pub linesList : State → List ℕ → List Text → List ℕ
+linesList ts l [] = l
+linesList ts l (x ∷ xs) = linesList (lineOutcome ts x .state) (lineList ts (readLine x) l) xs
+
 -- a text printed before what a run prints
 abbrev pub printedBefore : Text → Run → Run
 printedBefore bs r = record { text = bs ++ r .text; state = r .state; list = r .list; rest = r .rest }
@@ -82,3 +87,13 @@ pub record BlockRun (u : Run) (b : List ℕ) (script : Text) (from : ℕ) (out :
   pub rest : linesOf (drop (r .next) script) ≡ u .rest
   -- at least one line is run, where there is one and the output is long enough
   pub forward : from < length script → mostLine ≤ length out → from < r .next
+
+-- ---- a whole script
+
+-- what a script leaves of a store and a list when all its lines are run
+pub record ScriptRun (b l : List ℕ) (script : Text) (b′ l′ : List ℕ) : Type 0 where
+  pub ready : Ready b′ l′
+  pub tuples : tuplesOf b′ ≡ linesFinal (tuplesOf b) (linesOf script)
+  pub size : length b′ ≡ length b
+  pub past : pastRecords b′ ≡ pastRecords b
+  pub list : l′ ≡ linesList (tuplesOf b) l (linesOf script)
