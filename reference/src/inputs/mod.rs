@@ -25,27 +25,16 @@ pub fn all(top: &Path) -> io::Result<Vec<(&'static str, Vec<u8>)>> {
     ])
 }
 
-/// The folder of a program crate. The files of one that is not there yet are
-/// in `reference/programs`.
+/// The folder of a program crate.
 pub fn folder(top: &Path, name: &str) -> PathBuf {
-    let waiting = top.join("reference/programs").join(name);
-    if waiting.exists() {
-        waiting
-    } else {
-        top.join("crates").join(name)
-    }
+    top.join("crates").join(name)
 }
 
 /// The folders of program crates that have an input.
 pub fn folders(top: &Path) -> io::Result<Vec<PathBuf>> {
     let mut folders = Vec::new();
-    for parent in ["crates", "reference/programs"] {
-        let parent = top.join(parent);
-        if parent.exists() {
-            for entry in fs::read_dir(parent)? {
-                folders.push(entry?.path());
-            }
-        }
+    for entry in fs::read_dir(top.join("crates"))? {
+        folders.push(entry?.path());
     }
     folders.retain(|folder| is_program(folder) && folder.join("stdin").exists());
     folders.sort();
