@@ -28,7 +28,7 @@ pub data PreparedBy : List ℕ → Preparation → List ℕ → Type 0 where
   prepared : (κs : Lfts 1) (a : Dens κs prepare-kinds.ps) (r : resT prepare-kinds.r κs .Denot) (e : AtExit (endedOf 1 prepare-kinds.ps prepare-kinds.r) κs)
       → prepare-reads.Learnt κs a r e → PreparedBy (a .0 .now) r (e .0 .now)
 
-prepared-preparing : {raw b : List ℕ} {r : Preparation} → PreparedBy raw r b → Preparing raw r b
+pub prepared-preparing : {raw b : List ℕ} {r : Preparation} → PreparedBy raw r b → Preparing raw r b
 prepared-preparing (prepared κs a r e P) = P .0
 
 -- "Each later call gets the buffer as the call before left it, answered or refused": calls of `execute`, from a buffer to a buffer

@@ -2,3 +2,4 @@ pub mod Blocks
 pub mod Fresh
 pub mod LineRuns
 pub mod Turns
+pub mod Whole
