@@ -38,11 +38,11 @@ abbrev at : Call → ℕ → Call
 at c o = record { operator = o; n = c .n; g = c .g; m = c .m; v = c .v; s = c .s }
 
 -- at each number 1 to 57 with the fields of c, f gives for the call what it gives for the readable call
-abbrev Unread : {A : Type 0} → (Call → A) → Call → Type 0
-Unread f c = downFrom (λ (o : ℕ). f (at c o)) 57 ≡ downFrom (λ (o : ℕ). f (readable (at c o))) 57
+abbrev AllUnread : {A : Type 0} → (Call → A) → Call → Type 0
+AllUnread f c = downFrom (λ (o : ℕ). f (at c o)) 57 ≡ downFrom (λ (o : ℕ). f (readable (at c o))) 57
 
 -- and so for c itself, where its number is an operator's
-unread : {A : Type 0} (f : Call → A) (c : Call) → noOperator c ≡ false → Unread f c → f c ≡ f (readable c)
+unread : {A : Type 0} (f : Call → A) (c : Call) → noOperator c ≡ false → AllUnread f c → f c ≡ f (readable c)
 unfolding noOperator
 unread f c e u =
     let o : ℕ = c .operator in
@@ -51,7 +51,7 @@ unread f c e u =
     (leb-true 1 o (and-left (leb 1 o) (leb o 57) w)) (leb-true o 57 (and-right (leb 1 o) (leb o 57) w))
 
 -- conditions 2 to 4
-call-unread : (c : Call) → Unread ofCall c
+call-unread : (c : Call) → AllUnread ofCall c
 unfolding readable readsOf noOperator zeroName destroysUniverse ofCall
 call-unread c = refl
 
@@ -60,7 +60,7 @@ module _ (C : ℕ) (ts : State) (room : ℕ) where
   abbrev stops : Call → List Stop
   stops c = ofTuples ts c room
 
-  stops-unread : (c : Call) → Unread stops c
+  stops-unread : (c : Call) → AllUnread stops c
   unfolding readable table operatorOf readsOf objectKeys listed wouldList spaceAbsent nodeAbsent secondAbsent workedOn edgeAbsent listShort ofTuples
   stops-unread c = refl
 
@@ -68,7 +68,7 @@ module _ (C : ℕ) (ts : State) (room : ℕ) where
   abbrev filled : Call → Bool
   filled c = full C c ts
 
-  filled-unread : (c : Call) → Unread filled c
+  filled-unread : (c : Call) → AllUnread filled c
   unfolding readable table operatorOf readsOf objectKeys created wouldAdd full
   filled-unread c = refl
 
@@ -76,7 +76,7 @@ module _ (C : ℕ) (ts : State) (room : ℕ) where
   abbrev answered : Call → Reply
   answered c = reply (operatorOf (c .operator)) c ts
 
-  answered-unread : (c : Call) → Unread answered c
+  answered-unread : (c : Call) → AllUnread answered c
   unfolding readable table operatorOf readsOf objectKeys listed firstArgument reply
   answered-unread c = refl
 
@@ -84,7 +84,7 @@ module _ (C : ℕ) (ts : State) (room : ℕ) where
   abbrev left : Call → State
   left c = after (operatorOf (c .operator)) c ts
 
-  left-unread : (c : Call) → Unread left c
+  left-unread : (c : Call) → AllUnread left c
   unfolding readable table operatorOf readsOf objectKeys created destroyed after
   left-unread c = refl
 
