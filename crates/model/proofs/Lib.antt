@@ -13,3 +13,4 @@ pub mod Store
 pub mod Prepared
 pub mod CallLists
 pub mod Cases
+pub mod Unread

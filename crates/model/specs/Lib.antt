@@ -6,6 +6,7 @@ pub mod Pairs
 pub mod Steps
 pub mod Refusals
 pub mod Machine
+pub mod Unread
 pub mod Buffer
 pub mod Rules
 pub mod Entries
