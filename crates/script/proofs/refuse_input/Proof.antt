@@ -1,6 +1,7 @@
+use native.Mathlib.Omega.{arith}
 use Rattle.script.proofs.LineRuns.{refused-printable}
 use Rattle.model.specs.OneCall.{observed}
-use mathlib.Core.List.{[], _∷_}
+use mathlib.Core.List.{[]}
 use borrow.Author.Needs.{needs}
 use Rattle.script.proofs.refuse_input.Statement.{statement}
 use Rattle.script.proofs.refuse_input.Tie as tie
@@ -14,7 +15,7 @@ slice-aggregate-put-answer c = search needs
 
 -- src/lib.rt:84:5
 put-answer-requires : tie.Need-put-answer-requires
-put-answer-requires c κs = refused-printable [] (0 ∷ []) [] _ 0 11 (c .before .before .before .pre)
+put-answer-requires c κs = refused-printable [] _ [] _ _ _ (omega (arith, c .before .before .before .pre))
 
 -- src/lib.rt:79:1
 same-length : tie.Need-same-length

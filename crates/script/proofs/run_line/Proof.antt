@@ -24,7 +24,7 @@ execute-known-requires c κs = search needs
 
 -- src/lib.rt:37:13
 put-answer-requires : tie.Need-put-answer-requires
-put-answer-requires c κs = call-printable _ _ (c .before .before .before .before .before .before .before .before .before .before .before .before .before .before .before .before .before .args .line .now) _ (c .before .before .before .before .before .before .before .before .before .before .before .before .before .before .before .before .before .args .at) _ _ _ _ (c .before .before .before .before .before .before .before .before .before .before .before .before .before .before .before .before .before .pre .0) (c .before .before .before .before .before .before .execute-known .ensures) (c .before .before .before .before .before .before .execute-known .kept .1 .1 .0) (λ i. omega (arith, c .before .before .slice-known5 .given i)) (c .before .before .before .before .before .before .before .before .before .before .before .before .before .before .before .before .before .pre .1)
+put-answer-requires c κs = call-printable _ _ (c .before .before .before .before .before .before .before .before .before .before .before .before .before .before .before .before .before .args .line .now) _ _ _ _ _ _ (c .before .before .before .before .before .before .before .before .before .before .before .before .before .before .before .before .before .pre .0) (c .before .before .before .before .before .before .execute-known .ensures) (c .before .before .before .before .before .before .execute-known .kept .1 .1 .0) (λ i. omega (arith, c .before .before .slice-known5 .given i)) (omega (arith, c .before .before .before .before .before .before .before .before .before .before .before .before .before .before .before .before .before .pre .1))
 
 -- src/lib.rt:39:26
 enum-known-reading-2 : tie.Need-enum-known-reading-2
@@ -32,7 +32,7 @@ enum-known-reading-2 c = search needs
 
 -- src/lib.rt:39:37
 put-answer-requires-2 : tie.Need-put-answer-requires-2
-put-answer-requires-2 c κs = refused-printable (c .before .before .before .before .before .before .before .before .before .before .args .store .now) _ (c .before .before .before .before .before .before .before .before .before .before .args .line .now) _ (c .before .before .before .before .before .before .before .before .before .before .args .at) _ (c .before .before .before .before .before .before .before .before .before .before .pre .1)
+put-answer-requires-2 c κs = refused-printable (c .before .before .before .before .before .before .before .before .before .before .args .store .now) _ (c .before .before .before .before .before .before .before .before .before .before .args .line .now) _ _ _ (omega (arith, c .before .before .before .before .before .before .before .before .before .before .pre .1))
 
 -- src/lib.rt:23:1
 same-length : tie.Need-same-length
