@@ -60,6 +60,9 @@ before-length end (b ∷ bs) = go (eqb b end) (before-length end bs)
 pub before-within : (end : ℕ) (t : Text) (from : ℕ) → from ≤ length t → from + length (before end (drop from t)) ≤ length t
 before-within end t from h = omega (arith, before-length end (drop from t), length-drop from t)
 
+pub ends-within : (end : ℕ) (t : Text) (from stop : ℕ) → from ≤ length t → stop ≡ from + length (before end (drop from t)) → stop ≤ length t
+ends-within end t from stop h e = omega (arith, before-within end t from h)
+
 -- texts that are the same
 
 pub same-text : (x y : Text) → sameText x y ≡ true → x ≡ y

@@ -1,6 +1,5 @@
-use native.Mathlib.Omega.{arith}
 use Rattle.text.specs.Bytes.{lineFeed}
-use Rattle.text.proofs.Reading.{before-within}
+use Rattle.text.proofs.Reading.{ends-within}
 use Rattle.lines.proofs.LineLaws.{part-before}
 use borrow.Author.Needs.{needs}
 use Rattle.lines.proofs.line_at.Statement.{statement}
@@ -19,7 +18,7 @@ part-result-start : tie.Need-part-result-start
 part-result-start c = search needs
 
 part-result-end : tie.Need-part-result-end
-part-result-end c = omega (arith, before-within lineFeed (c .before .before .args .script .now) (c .before .before .args .from) (c .before .before .pre))
+part-result-end c = ends-within _ _ _ _ (c .before .before .pre) (c .end-of .ensures)
 
 returns : tie.Need-returns
 returns c = part-before lineFeed _ _ _ (c .before .end-of .ensures)

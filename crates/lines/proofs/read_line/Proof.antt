@@ -1,7 +1,6 @@
 use mathlib.Core.Path.{_∙_}
 use native.Mathlib.Omega.{arith}
-use Rattle.text.specs.Bytes.{blank}
-use Rattle.text.proofs.Reading.{before-within}
+use Rattle.text.proofs.Reading.{ends-within}
 use Rattle.lines.proofs.CallLaws.{no-operator-read, bus-read, sus-read, other-read}
 use borrow.Author.Needs.{needs}
 use Rattle.lines.proofs.read_line.Statement.{statement}
@@ -24,7 +23,7 @@ part-operator-number-start : tie.Need-part-operator-number-start
 part-operator-number-start c = search needs
 
 part-operator-number-end : tie.Need-part-operator-number-end
-part-operator-number-end c = omega (arith, before-within blank (c .before .before .args .line .now) 0 (omega arith))
+part-operator-number-end c = ends-within _ _ _ _ (omega arith) (c .end-of .ensures)
 
 operator-number-requires : tie.Need-operator-number-requires
 operator-number-requires c κs = search needs

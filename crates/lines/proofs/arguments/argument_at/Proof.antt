@@ -1,8 +1,6 @@
 use mathlib.Core.Path.{_∙_}
-use Prim.Native.Nat.{_+_}
 use native.Mathlib.Omega.{arith}
-use Rattle.text.specs.Bytes.{blank}
-use Rattle.text.proofs.Reading.{before-within}
+use Rattle.text.proofs.Reading.{ends-within}
 use Rattle.lines.proofs.ArgumentLaws.{none-behind, one-behind}
 use borrow.Author.Needs.{needs}
 use Rattle.lines.proofs.arguments.argument_at.Statement.{statement}
@@ -28,7 +26,7 @@ part-of-word-start : tie.Need-part-of-word-start
 part-of-word-start c = search needs
 
 part-of-word-end : tie.Need-part-of-word-end
-part-of-word-end c = omega (arith, before-within blank (c .before .before .before .args .line .now) (c .before .before .before .args .end + 1) (omega arith))
+part-of-word-end c = ends-within _ _ _ _ (omega arith) (c .end-of .ensures)
 
 of-word-requires : tie.Need-of-word-requires
 of-word-requires c κs = search needs
