@@ -24,7 +24,8 @@ use Rattle.lines.specs.declared.Reading.the-variants.{Read}
 use Rattle.lines.specs.Lines.{inFront, wordsOf}
 use Rattle.lines.specs.OperatorWords.{operatorWords, numberFrom, operatorNumber}
 use Rattle.lines.specs.Calls.{mostValue, withNumber, takeNumber, takeSpace, complete, callOf, inOrder, spaceThenValue, spaces, arguments, readWords, readLine}
-use Rattle.lines.specs.Reachable.{joined, lettersOf, spaceText, ifRead, orderedOf, argumentsOf, lineOf, readable, SpaceFits, Fitting}
+use Rattle.model.specs.Unread.{readable}
+use Rattle.lines.specs.Reachable.{joined, lettersOf, spaceText, ifRead, orderedOf, argumentsOf, lineOf, SpaceFits, Fitting}
 use Rattle.lines.proofs.CallLaws.{behindN, behindG, behindM, behindV}
 
 -- words without a blank, joined, are parted again

@@ -12,7 +12,7 @@ use Rattle.model.specs.Operators.{readsOf}
 use Rattle.text.specs.Bytes.{Text, blank, S, U}
 use Rattle.text.specs.Numerals.{printedNumber}
 use Rattle.lines.specs.OperatorWords.{operatorWords}
-use Rattle.lines.specs.Calls.{mostValue, callOf}
+use Rattle.lines.specs.Calls.{mostValue}
 
 -- "one blank before each": a word, and the words behind it, as a line
 unfoldable pub joined : Text → List Text → Text
@@ -49,16 +49,6 @@ argumentsOf c = cond (eqb (c .operator) 52) (spaceText (c .s) ∷ printedNumber 
 -- the line that makes a call
 unfoldable pub lineOf : Call → Text
 lineOf c = joined (lettersOf (c .operator)) (argumentsOf c)
-
--- "Fields not read have no effect": the call with 0 and UNIVERSE in those
-unfoldable pub readable : Call → Call
-readable c =
-    callOf (c .operator)
-    (cond (readsOf (c .operator) .n) (c .n .0) 0)
-    (cond (readsOf (c .operator) .g) (c .g .0) 0)
-    (cond (readsOf (c .operator) .m) (c .m .0) 0)
-    (cond (readsOf (c .operator) .v) (c .v) 0)
-    (cond (readsOf (c .operator) .s) (c .s) Universe)
 
 -- "names to 65,535, values to 4,294,967,295": a space that is a number is a name
 abbrev pub SpaceFits : Space → Type 0

@@ -1,0 +1,13 @@
+-- Every call of the operators 1 to 57 has a line that does what the call does.
+use mathlib.Core.Path.{_≡_, sym, _∙_, ap}
+use Rattle.model.specs.declared.Call.{Call}
+use Rattle.model.specs.Machine.{State, machine}
+use Rattle.model.specs.Unread.{readable}
+use Rattle.model.proofs.Unread.{unread-fields}
+use Rattle.lines.specs.Reachable.{lineOf, Fitting}
+use Rattle.lines.proofs.Reachable.{no-operator-out-of-reach}
+use Rattle.script.specs.Scripts.{scriptRecords, scriptPlaces, outcomeOf, lineOutcome}
+
+pub line-of-call : (ts : State) (c : Call) → Fitting c → lineOutcome ts (lineOf c) ≡ machine scriptRecords ts c scriptPlaces
+unfolding lineOutcome outcomeOf
+line-of-call ts c f = ap (outcomeOf ts) (no-operator-out-of-reach c f) ∙ sym (unread-fields scriptRecords ts c scriptPlaces)
