@@ -25,7 +25,7 @@ loop-holds c = (go-start _ _ _ (c .before .before .before .before .pre .0), refl
 
 -- src/lib.rt:20:13
 run-block-requires : tie.Need-run-block-requires Inv-loop μ-loop
-run-block-requires c κs = (c .before .before .before .before .loop .inv .0 .ready, c .before .before .before .before .loop .inv .0 .within)
+run-block-requires c κs = (c .before .before .before .before .loop .inv .0 .ready, omega (arith, c .before .before .before .before .loop .inv .0 .within))
 
 -- src/lib.rt:22:38
 slice-reshare-prefix-write-all : tie.Need-slice-reshare-prefix-write-all Inv-loop μ-loop
@@ -41,7 +41,7 @@ write-all-requires c κs = search needs
 
 -- src/lib.rt:19:5
 loop-less : tie.Need-loop-less Inv-loop μ-loop
-loop-less c = omega (arith, c .before .before .before .before .before .before .before .before .run-block .ensures .forward (c .before .before .before .before .before .before .before .before .before .before .before .before .loop-test .taken) (omega (arith, c .before .before .before .before .before .before .before .before .before .before .before .before .before .loop .inv .1, c .before .before .before .before .before .before .before .before .before .before .before .before .before .before .before .before .before .before .pre .1)), c .before .before .before .before .before .before .before .before .run-block .ensures .within)
+loop-less c = omega (arith, c .before .before .before .before .before .before .before .before .run-block .ensures .forward (omega (arith, c .before .before .before .before .before .before .before .before .before .before .before .before .loop-test .taken)) (omega (arith, c .before .before .before .before .before .before .before .before .before .before .before .before .before .loop .inv .1, c .before .before .before .before .before .before .before .before .before .before .before .before .before .before .before .before .before .before .pre .1)), c .before .before .before .before .before .before .before .before .run-block .ensures .within)
 
 -- src/lib.rt:19:5
 loop-again : tie.Need-loop-again Inv-loop μ-loop
