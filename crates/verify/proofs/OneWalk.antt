@@ -13,13 +13,13 @@ use Rattle.model.specs.declared.Key.{Key}
 use Rattle.model.specs.Ordered.{isLess}
 use Rattle.model.specs.Keys.{Tuple, sameKey, spaceKey, nodeKey, compareKeys}
 use Rattle.model.specs.Tuples.{Tuples, present}
-use Rattle.model.specs.Buffer.{word, capacityOf, next, ends, usedChain, keyAt, tupleAt, tuplesOf, ascendsFromUniverse, everyRecord, everyKey, smallKey, noEdgeWithoutNode, edgeHasEnd, nodeSupported, edgeSupported}
+use Rattle.model.specs.Buffer.{word, capacityOf, next, usedChain, keyAt, tupleAt, tuplesOf, ascendsFromUniverse, everyRecord, everyKey, smallKey, noEdgeWithoutNode, edgeHasEnd, nodeSupported, edgeSupported}
 use Rattle.model.proofs.Bools.{and-left, and-right, and-both, not-yes}
 use Rattle.model.proofs.Tuples.{same-key}
-use Rattle.verify.specs.Checks.{Walkable, UsedEnds, UsedFound, Held, Marks, MarksFit, withNamed, walkedFrom, tuplesFrom, shapedKey, goodKey, keysRight, keyFollows, stoppedWalk, startsRight, usedWalk, supported, settled, endThere, endShown, everyEnd, Listed, keptCount}
-use Rattle.verify.specs.declared.chains.Walked.{Walked}
+use Rattle.verify.specs.Checks.{Walkable, endsWithin, walkedOn, stepped, FreeWalk, UsedEnds, UsedFound, Held, Marks, MarksFit, withNamed, walkedFrom, tuplesFrom, shapedKey, goodKey, keysRight, keyFollows, stoppedWalk, startsRight, usedWalk, supported, settled, endThere, endShown, everyEnd, Listed, keptCount}
+use Rattle.verify.specs.declared.chains.Walk.{Walk}
 use Rattle.verify.proofs.Capacity.{some-record, few-records}
-use Rattle.verify.proofs.Walks.{Walking, walking-start, walking-on, walking-end, walking-stop}
+use Rattle.verify.proofs.Walks.{walked-on, walked-end, walked-long, walked-far, found-ends, free-first, free-next}
 use Rattle.verify.proofs.Rest.{AscendsLeft, ascends-empty, ascends-not-first, ascends-start, ascends-next, ascends-no, ascends-end, EveryLeft, every-start, every-next, every-no, every-end, every-held, tuples-next, tuples-none}
 use Rattle.verify.proofs.Hints.{named-marks, named-fit}
 use Rattle.verify.proofs.Shows.{marks-fit, Stands, Settled, settled-all, end-shown-there}
@@ -176,13 +176,15 @@ module _ (b : List ℕ) (U : UsedEnds b) where
 -- ---- the walk
 
 -- what is left of the walk
-pub record Using (b ms list : List ℕ) (key : Key) (sure : Bool) (kept left last at : ℕ) : Type 0 where
-  pub walking : Walking b (word b 1) left at last
+pub record Using (b ms list : List ℕ) (key : Key) (sure : Bool) (kept left last at : ℕ) (free : Walk) : Type 0 where
+  pub few : left ≤ capacityOf b
+  pub same : walkedOn b (record { at = at; left = left; last = last }) ≡ walkedFrom b (word b 1)
   pub fit : MarksFit b ms
   pub listed : Listed b list kept
   pub room : kept + left < capacityOf b
-  pub keyed : ends (usedChain b) ≡ true → Keyed b key at ms
-  pub undecided : ends (usedChain b) ≡ true → sure ≡ true → Open b list key at kept
+  pub beside : FreeWalk b free left
+  pub keyed : endsWithin (capacityOf b) (usedChain b) ≡ true → Keyed b key at ms
+  pub undecided : endsWithin (capacityOf b) (usedChain b) ≡ true → sure ≡ true → Open b list key at kept
 
 module _ (b : List ℕ) where
   pub starts-none : (h : ℕ) → h ≡ word b 1 → h ≡ 0 → false ≡ startsRight b
@@ -207,15 +209,15 @@ module _ (b : List ℕ) where
     head-key h f = ap (λ (i : ℕ). sameKey (keyAt b i) (spaceKey 0)) f ∙ and-right (not (eqb (word b 1) 0)) _ yes-starts
 
 module _ (b : List ℕ) (w : Walkable b) where
-  used-ends : ends (usedChain b) ≡ true → UsedEnds b
+  used-ends : endsWithin (capacityOf b) (usedChain b) ≡ true → UsedEnds b
   used-ends e = record { walkable = w; ended = e }
 
   -- given up: the chain does not end, or its keys are not right
-  pub given-up : (ends (usedChain b) ≡ true → false ≡ keysRight (tuplesOf b)) → stoppedWalk ≡ usedWalk b
+  pub given-up : (endsWithin (capacityOf b) (usedChain b) ≡ true → false ≡ keysRight (tuplesOf b)) → stoppedWalk ≡ usedWalk b
   unfolding usedWalk
-  given-up h = sym (ap (λ (t : Bool). cond t (walkedFrom b (word b 1)) stoppedWalk) (go (ends (usedChain b)) refl))
+  given-up h = sym (ap (λ (t : Bool). cond t (walkedFrom b (word b 1)) stoppedWalk) (go (endsWithin (capacityOf b) (usedChain b)) refl))
     where
-      go : (e : Bool) → ends (usedChain b) ≡ e → (e && keysRight (tuplesOf b)) ≡ false
+      go : (e : Bool) → endsWithin (capacityOf b) (usedChain b) ≡ e → (e && keysRight (tuplesOf b)) ≡ false
       go true f = sym (h f)
       go false f = refl
 
@@ -230,35 +232,38 @@ module _ (b : List ℕ) (w : Walkable b) where
 
   pub using-start : (r : Bool) → r ≡ startsRight b → r ≡ true → (h : ℕ) → h ≡ word b 1 → (k : Key) → k ≡ nodeKey 0 0
       → (C n : ℕ) → C ≡ capacityOf b → n ≡ next b h → (ms : List ℕ) → Marks b ms → (list : List ℕ) → length list ≡ keptCount
-      → Using b ms list k true 0 (C - 1) h n
-  using-start r s y h e k g C n d f ms M list size =
+      → (v : Walk) → v ≡ record { at = word b 2; left = C; last = 0 } → Using b ms list k true 0 (C - 1) h n v
+  unfolding walkedFrom
+  using-start r s y h e k g C n d f ms M list size v x =
       let high : word b 1 ≤ capacityOf b = w .usedHead in
       let h≢ : h ≢ 0 = head-some b r s y h e in
       let t : sameKey (keyAt b h) (spaceKey 0) ≡ true = head-key b r s y h e in
       let same : k ≡ keyAt b h = g ∙ sym (same-key (keyAt b h) (spaceKey 0) t) in
       let t′ : sameKey k (spaceKey 0) ≡ true = ap (λ (x : Key). sameKey x (spaceKey 0)) same ∙ t in
       record {
-        walking =
-            subst (λ (i : ℕ). Walking b i (C - 1) n h) e
-            (walking-on b h C h 0 n w (walking-start b h C d (omega arith)) h≢ (λ z. omega (arith, some-record b (w .least) (w .most))) f);
+        few = omega arith;
+        same =
+            walked-on b C h 0 n h≢ (λ z. omega (arith, some-record b (w .least) (w .most))) (omega arith) (omega arith) f
+            ∙ ap₂ (λ (i c : ℕ). walkedOn b (record { at = i; left = c; last = 0 })) e d;
         fit = marks-fit b ms M;
         listed = record { size = size; few = omega arith; named = λ j l. absurd (omega arith) };
         room = omega (arith, some-record b (w .least) (w .most));
+        beside = free-first b v C d x;
         keyed = λ u. keyed-start b (used-ends u) h n e h≢ f k same t′ ms M;
         undecided = λ u v. open-start b (used-ends u) h n e h≢ f k same t′ list;
       }
 
-  module _ (ms list : List ℕ) (key : Key) (sure : Bool) (kept left last at : ℕ) (W : Using b ms list key sure kept left last at) where
-    -- a record of the walk is one of 2,048 at most
-    pub using-low : at ≤ 4096
-    using-low = omega (arith, W .walking .high, few-records b (w .least) (w .most))
+  module _ (ms list : List ℕ) (key : Key) (sure : Bool) (kept left last at : ℕ) (v : Walk) (W : Using b ms list key sure kept left last at v) where
+    -- a record is one of 2,048 at most
+    pub using-low : at ≤ capacityOf b → at ≤ 4096
+    using-low h = omega (arith, few-records b (w .least) (w .most))
 
     pub using-room : left ≢ 0 → kept < keptCount
     using-room h = omega (arith, W .room, few-records b (w .least) (w .most))
 
-    ended : at ≡ 0 → ends (usedChain b) ≡ true
-    unfolding walkedFrom usedChain
-    ended z = sym (ap (λ (x : Walked). x .ended) (walking-end b (word b 1) left at last (W .walking) z))
+    ended : at ≡ 0 → endsWithin (capacityOf b) (usedChain b) ≡ true
+    unfolding usedChain
+    ended z = sym (found-ends b (word b 1) _ (walked-end b left at last z ∙ W .same))
 
     pub using-end : at ≡ 0 → record { ended = true; count = capacityOf b - left; last = last } ≡ usedWalk b
     unfolding usedWalk
@@ -267,24 +272,31 @@ module _ (b : List ℕ) (w : Walkable b) where
         let K = W .keyed u in
         let k : true ≡ keysRight (tuplesOf b)
         = both-right b (ascends-end b (used-ends u) key at (K .ascends) z) (every-end goodKey b at (K .good) z) in
-        walking-end b (word b 1) left at last (W .walking) z
-        ∙ sym (ap (λ (t : Bool). cond t (walkedFrom b (word b 1)) stoppedWalk) (and-both (ends (usedChain b)) _ u (sym k)))
+        walked-end b left at last z ∙ W .same
+        ∙ sym (ap (λ (t : Bool). cond t (walkedFrom b (word b 1)) stoppedWalk) (and-both (endsWithin (capacityOf b) (usedChain b)) _ u (sym k)))
 
-    pub using-found : at ≡ 0 → (count : ℕ) → UsedFound b ms list (record { ended = true; count = count; last = last; sure = sure; kept = kept })
+    pub using-found : at ≡ 0 → UsedFound b ms list sure kept v
     unfolding everyKey
-    using-found z count =
+    using-found z =
         let u = ended z in
         record {
           shows = W .keyed u .marks;
           listed = W .listed;
+          beside = record { few = W .beside .few; enough = omega arith; same = W .beside .same };
           decided = λ y. W .undecided u y .left ∙ ap (λ (ts : Tuples). everyEnd b list kept && everyKey (supported (tuplesOf b)) ts) (tuples-none b at z) ∙ and-true (everyEnd b list kept);
         }
 
+    -- the chain does not end with records of at most C
+    not-ended : stoppedWalk ≡ walkedOn b (record { at = at; left = left; last = last }) → stoppedWalk ≡ usedWalk b
+    unfolding usedChain
+    not-ended e = given-up (λ u. absurd (false≢true (found-ends b (word b 1) _ (e ∙ W .same) ∙ u)))
+
+    pub using-far : (C : ℕ) → C ≡ capacityOf b → C < at → stoppedWalk ≡ usedWalk b
+    using-far C e h = not-ended (walked-far b left at last (omega arith))
+
     module _ (at≢ : at ≢ 0) where
       pub using-stop : left ≡ 0 → stoppedWalk ≡ usedWalk b
-      using-stop z =
-          given-up
-          (λ u. absurd (false≢true (unfold walkedFrom usedChain in ap (λ (x : Walked). x .ended) (walking-stop b (word b 1) left at last (W .walking) at≢ z) ∙ u)))
+      using-stop z = not-ended (walked-long b left at last at≢ z)
 
       module _ (k : Key) (g : k ≡ keyAt b at) where
         pub using-no : keyFollows key k ≡ false → stoppedWalk ≡ usedWalk b
@@ -295,17 +307,20 @@ module _ (b : List ℕ) (w : Walkable b) where
             go K U false e h = not-ascending b (ascends-no b U key at (K .ascends) at≢ k g e)
             go K U true e h = not-good b (every-no goodKey b at w (K .good) at≢ (ap goodKey (sym g) ∙ h))
 
-        pub using-next : keyFollows key k ≡ true → left ≢ 0 → (sure′ : Bool) → sure′ ≡ (sure && settled b ms key k)
+        pub using-next : at ≤ capacityOf b → keyFollows key k ≡ true → left ≢ 0 → (sure′ : Bool) → sure′ ≡ (sure && settled b ms key k)
             → (kept′ : ℕ) → kept′ ≡ cond (endShown b ms k) kept (suc kept) → (list′ : List ℕ) → list′ ≡ cond (endShown b ms k) list (set list kept at)
-            → (ms′ : List ℕ) → ms′ ≡ withNamed ms k at → (n : ℕ) → n ≡ next b at → Using b ms′ list′ k sure′ kept′ (left - 1) at n
+            → (ms′ : List ℕ) → ms′ ≡ withNamed ms k at → (n : ℕ) → n ≡ next b at
+            → (v′ : Walk) → v′ ≡ stepped b v → Using b ms′ list′ k sure′ kept′ (left - 1) at n v′
         unfolding keyFollows
-        using-next t left≢ sure′ y kept′ p list′ q ms′ m n f =
+        using-next high t left≢ sure′ y kept′ p list′ q ms′ m n f v′ x =
             let good : goodKey k ≡ true = and-right (isLess (compareKeys key k)) _ t in
             let room : kept < keptCount = using-room left≢ in
             record {
-              walking = walking-on b (word b 1) left at last n w (W .walking) at≢ left≢ f;
-              fit = named-fit b ms k at ms′ m (W .fit) (W .walking .high);
-              listed = keep-listed b list kept (W .listed) at at≢ (W .walking .high) room (endShown b ms k) list′ kept′ q p;
+              few = omega (arith, W .few);
+              same = walked-on b left at last n at≢ left≢ (W .few) high f ∙ W .same;
+              beside = free-next b v left left≢ (W .beside) v′ x;
+              fit = named-fit b ms k at ms′ m (W .fit) high;
+              listed = keep-listed b list kept (W .listed) at at≢ high room (endShown b ms k) list′ kept′ q p;
               room = more (endShown b ms k) p;
               keyed =
                   λ u. keyed-next b (used-ends u) key at ms (W .keyed u) at≢ n f k g (and-left (isLess (compareKeys key k)) _ t) good ms′ m;

@@ -1,8 +1,9 @@
 -- Document 01, "A store is a buffer of 10 to 12,297 words where: ..": the test `isStore` of the model in the parts that the check takes one after another.
 -- proofs/Parts.antt proves that the parts together are the test.
 use mathlib.Core.Bool.{Bool, true, false, cond, not, _&&_, _||_}
-use mathlib.Core.List.{List, _++_, map}
+use mathlib.Core.List.{List, [], _∷_, _++_, map}
 use mathlib.Core.Logic.{_≢_}
+use mathlib.Core.Option.{Option, none, some}
 use mathlib.Core.Path.{_≡_}
 use Prim.Native.Nat.{ℕ, zero, suc, _+_, _-_, _*_, _%_, _≤_, _<_}
 use lib.Dec.{eqb, leb, ltb}
@@ -13,6 +14,7 @@ use Rattle.model.specs.Keys.{keyOf, spaceKey, nodeKey, edgeKey, isEdge, compare
 use Rattle.model.specs.Tuples.{Tuples, present}
 use Rattle.model.specs.Buffer.{word, leastLength, mostLength, fitsLength, capacityOf, sizeWord, next, keyAt, tupleAt, walk, ends, orNothing, usedChain, freeChain, usedOf, freeOf, tuplesOf, count, everyRecord, ascendsFromUniverse, smallKey, noEdgeWithoutNode, edgeHasEnd, nodeSupported, edgeSupported, everyKey}
 use Rattle.model.specs.Rules.{Chain}
+use Rattle.verify.specs.declared.chains.Walk.{Walk}
 use Rattle.verify.specs.declared.chains.Walked.{Walked}
 use Rattle.verify.specs.declared.keys.Used.{Used}
 
@@ -26,13 +28,12 @@ headsFit b = fitsLength b && (eqb (word b 0) (sizeWord b) && (leb (word b 1) (ca
 unfoldable pub nextsWithin : List ℕ → Bool
 nextsWithin b = everyRecord (λ (i : ℕ). leb (next b i) (capacityOf b)) (capacityOf b)
 
--- what these two tests give: chains stay within the records
+-- what the first of them gives
 pub record Walkable (b : List ℕ) : Type 0 where
   pub least : leastLength ≤ length b
   pub most : length b ≤ mostLength
   pub usedHead : word b 1 ≤ capacityOf b
   pub freeHead : word b 2 ≤ capacityOf b
-  pub nexts : (i : ℕ) → 1 ≤ i → i ≤ capacityOf b → next b i ≤ capacityOf b
 
 -- ---- the two chains
 
@@ -43,6 +44,20 @@ metOnce b = everyRecord (λ (i : ℕ). eqb (count i (usedOf b ++ freeOf b)) 1) (
 -- both chains end, they meet each record exactly once, "word 3 is right"
 unfoldable pub chainsRight : List ℕ → Bool
 chainsRight b = ends (usedChain b) && (ends (freeChain b) && (metOnce b && eqb (word b 3) (length (usedOf b))))
+
+-- every next at most C, and the chains right
+unfoldable pub linksRight : List ℕ → Bool
+linksRight b = nextsWithin b && chainsRight b
+
+-- are the records of a list at most C
+unfoldable pub allWithin : ℕ → List ℕ → Bool
+allWithin C [] = true
+allWithin C (i ∷ is) = leb i C && allWithin C is
+
+-- does a chain end, with records of at most C
+unfoldable pub endsWithin : ℕ → Option (List ℕ) → Bool
+endsWithin C none = false
+endsWithin C (some is) = allWithin C is
 
 -- how many records a chain meets from its start, counted up to so many
 unfoldable pub steps : (ℕ → ℕ) → ℕ → ℕ → ℕ
@@ -56,21 +71,41 @@ lastMet link zero i d = d
 lastMet link (suc most) zero d = d
 lastMet link (suc most) (suc i) d = lastMet link most (link (suc i)) (suc i)
 
--- a walk of at most C records from a head: does the chain end, how many records it meets, the last of them
+-- a walk that is given up
+abbrev pub stoppedWalk : Walked
+stoppedWalk = record { ended = false; count = 0; last = 0 }
+
+-- what a walk finds from where it is: does the chain end with records of at most C, how many records it meets, the last of them
+unfoldable pub walkedOn : List ℕ → Walk → Walked
+walkedOn b w =
+    cond (endsWithin (capacityOf b) (walk (next b) (w .left) (w .at)))
+    (record {
+      ended = true;
+      count = (capacityOf b - w .left) + steps (next b) (w .left) (w .at);
+      last = lastMet (next b) (w .left) (w .at) (w .last);
+    })
+    stoppedWalk
+
+-- a walk of at most C records from a head
 unfoldable pub walkedFrom : List ℕ → ℕ → Walked
-walkedFrom b i =
-    record {
-      ended = ends (walk (next b) (capacityOf b) i);
-      count = steps (next b) (capacityOf b) i;
-      last = lastMet (next b) (capacityOf b) i 0;
-    }
+walkedFrom b head = walkedOn b (record { at = head; left = capacityOf b; last = 0 })
+
+-- a walk one record on; one that has ended stays, and so does one that leaves the records
+unfoldable pub stepped : List ℕ → Walk → Walk
+stepped b w = cond (eqb (w .at) 0 || ltb (capacityOf b) (w .at)) w (record { at = next b (w .at); left = w .left - 1; last = w .at })
+
+-- a walk of the free chain that has gone some records on, with so many to go at least
+pub record FreeWalk (b : List ℕ) (w : Walk) (most : ℕ) : Type 0 where
+  pub few : w .left ≤ capacityOf b
+  pub enough : most ≤ w .left
+  pub same : walkedOn b w ≡ walkedFrom b (word b 2)
 
 -- ---- the used chain, once it is known to end
 
--- chains stay within the records, and the used chain ends
+-- the used chain ends, with records of at most C
 pub record UsedEnds (b : List ℕ) : Type 0 where
   pub walkable : Walkable b
-  pub ended : ends (usedChain b) ≡ true
+  pub ended : endsWithin (capacityOf b) (usedChain b) ≡ true
 
 -- the records of a chain from a record on
 unfoldable pub recordsFrom : List ℕ → ℕ → List ℕ
@@ -84,6 +119,7 @@ tuplesFrom b i = map (tupleAt b) (recordsFrom b i)
 pub record OnChain (b : List ℕ) (i : ℕ) : Type 0 where
   pub high : i ≤ capacityOf b
   pub chain : Chain (next b) i (recordsFrom b i)
+  pub within : allWithin (capacityOf b) (recordsFrom b i) ≡ true
   pub short : length (recordsFrom b i) ≤ capacityOf b
 
 -- ---- keys
@@ -104,12 +140,9 @@ keysRight ts = ascendsFromUniverse ts && everyKey goodKey ts
 unfoldable pub keyFollows : Key → Key → Bool
 keyFollows j k = isLess (compareKeys j k) && goodKey k
 
--- a walk that is given up
-abbrev pub stoppedWalk : Walked
-stoppedWalk = record { ended = false; count = 0; last = 0 }
-
+-- a walk of the used chain that is given up
 abbrev pub stoppedUsed : Used
-stoppedUsed = record { ended = false; count = 0; last = 0; sure = false; kept = 0 }
+stoppedUsed = record { ended = false; count = 0; last = 0; sure = false; kept = 0; free = record { at = 0; left = 0; last = 0 } }
 
 -- what a walk of the used chain finds of the chain
 abbrev pub walkedOf : Used → Walked
@@ -121,7 +154,7 @@ startsRight b = not (eqb (word b 1) 0) && sameKey (keyAt b (word b 1)) (spaceKey
 
 -- the walk of the used chain, given up where its keys are not right
 unfoldable pub usedWalk : List ℕ → Walked
-usedWalk b = cond (ends (usedChain b) && keysRight (tuplesOf b)) (walkedFrom b (word b 1)) stoppedWalk
+usedWalk b = cond (endsWithin (capacityOf b) (usedChain b) && keysRight (tuplesOf b)) (walkedFrom b (word b 1)) stoppedWalk
 
 -- ---- a key in a chain whose keys ascend
 
@@ -241,8 +274,9 @@ pub record Listed (b list : List ℕ) (kept : ℕ) : Type 0 where
   pub few : kept ≤ keptCount
   pub named : (j : ℕ) → j < kept → (getD list j 0 ≢ 0) × (getD list j 0 ≤ capacityOf b)
 
--- what a walk of the used chain leaves where it is not given up: marks, and records whose second ends decide where it is sure
-pub record UsedFound (b marks list : List ℕ) (u : Used) : Type 0 where
+-- what a walk of the used chain leaves where it is not given up: marks, records whose second ends decide where it is sure, and the free chain walked beside it
+pub record UsedFound (b marks list : List ℕ) (sure : Bool) (kept : ℕ) (free : Walk) : Type 0 where
   pub shows : Marks b marks
-  pub listed : Listed b list (u .kept)
-  pub decided : u .sure ≡ true → everyKey (supported (tuplesOf b)) (tuplesOf b) ≡ everyEnd b list (u .kept)
+  pub listed : Listed b list kept
+  pub decided : sure ≡ true → everyKey (supported (tuplesOf b)) (tuplesOf b) ≡ everyEnd b list kept
+  pub beside : FreeWalk b free 0

@@ -1,4 +1,6 @@
 // The keys of the used chain: do they ascend, and is each one that a store may hold.
+use super::chains::Walk;
+use super::chains::step;
 use super::ends::keep_end;
 use super::ends::still_sure;
 use super::layout::capacity;
@@ -8,7 +10,7 @@ use model::Key;
 ghost use mathlib.Core.Bool.{true};
 ghost use mathlib.Core.Path.{_≡_};
 ghost use lib.ListN.{length};
-ghost use Rattle.model.specs.Buffer.{smallKey};
+ghost use Rattle.model.specs.Buffer.{word, smallKey};
 ghost use Rattle.verify.specs.Checks.{Walkable, shapedKey, goodKey, keyFollows, startsRight, stoppedUsed, walkedOf, usedWalk, UsedFound, Marks, keptCount};
 
 // Are the words of a key at most 65,535.
@@ -72,6 +74,8 @@ pub struct Used {
     pub sure: bool,
     // How many are kept.
     pub kept: usize,
+    // The free chain, walked as far.
+    pub free: Walk,
 }
 
 // A walk that is given up.
@@ -84,6 +88,11 @@ fn stopped() -> Used
         last: 0,
         sure: false,
         kept: 0,
+        free: Walk {
+            at: 0,
+            left: 0,
+            last: 0,
+        },
     }
 }
 
@@ -99,36 +108,52 @@ fn starts_right(b: &[u32]) -> bool
     records::key_same(records::key_of(b, head), node_key(0, 0))
 }
 
-// Walks the used chain over at most C records; gives up where its keys do not ascend from (0,0,0,0) or a store may not hold one.
+// The walk of the free chain, at its head.
+fn free_start(b: &[u32], c: usize) -> Walk
+    requires { ⌜ Walkable (now b) ⌝ }
+    ensures { λ r. ⌜ r ≡ record { at = word (now (b .entry)) 2; left = c; last = 0 } ⌝ }
+{
+    Walk {
+        at: records::head_word(b, 2),
+        left: c,
+        last: 0,
+    }
+}
+
+// Walks the used chain over at most C records, and the free chain beside it; gives up where its keys do not ascend from (0,0,0,0), a store may not hold one, or a next is above C.
 // It marks the records whose keys tuples may name, but the first, and keeps those whose second ends the marks do not show.
 pub fn walk_used(b: &[u32], marks: &mut [u16], list: &mut [u16]) -> Used
     requires { ⌜ Walkable (now b) × Marks (now b) (now marks) × (length (now list) ≡ keptCount) ⌝ }
     ensures answer { λ r. ⌜ walkedOf r ≡ usedWalk (now (b .entry)) ⌝ }
-    ensures lent { λ r. ⌜ (r .ended ≡ true → UsedFound (now (b .entry)) (now (marks .exit)) (now (list .exit)) r) ⌝ }
+    ensures lent { λ r. ⌜ (r .ended ≡ true → UsedFound (now (b .entry)) (now (marks .exit)) (now (list .exit)) (r .sure) (r .kept) (r .free)) ⌝ }
 {
     if !starts_right(b) {
         return stopped();
     }
-    let head = records::head_word(b, 1);
     let c = capacity(b);
+    let mut free = free_start(b, c);
     let mut key = node_key(0, 0);
     let mut sure = true;
     let mut kept = 0;
     let mut left = c - 1;
-    let mut last = head;
-    let mut at = records::next_of(b, head);
+    let mut last = records::head_word(b, 1);
+    let mut at = records::next_of(b, last);
     while at != 0 {
-        let k = records::key_of(b, at);
-        let after = records::next_of(b, at);
-        if !key_follows(key, k) {
+        if at > c {
             return stopped();
         }
         if left == 0 {
             return stopped();
         }
+        let k = records::key_of(b, at);
+        let after = records::next_of(b, at);
+        if !key_follows(key, k) {
+            return stopped();
+        }
         sure = still_sure(b, marks, sure, key, k);
         kept = keep_end(b, marks, list, kept, k, at);
         mark_named(marks, k, at);
+        free = step(b, c, free);
         key = k;
         last = at;
         at = after;
@@ -140,5 +165,6 @@ pub fn walk_used(b: &[u32], marks: &mut [u16], list: &mut [u16]) -> Used
         last,
         sure,
         kept,
+        free,
     }
 }

@@ -16,7 +16,7 @@ ghost use mathlib.Core.Bool.{_&&_};
 ghost use mathlib.Core.Path.{_≡_};
 ghost use Rattle.model.specs.Buffer.{Preparing, tuplesOf, everyKey, sound, isStore};
 ghost use Rattle.verify.specs.Prepare.{afterPreparing};
-ghost use Rattle.verify.specs.Checks.{Walkable, chainsRight, Sorted, supported, UsedFound};
+ghost use Rattle.verify.specs.Checks.{Walkable, linksRight, Sorted, supported, UsedFound};
 
 // Prepares the buffer as a store that holds UNIVERSE alone, and gives C; a length outside 10 to 12,297 words is refused (1).
 pub fn prepare(buffer: &mut [u32]) -> Preparation
@@ -39,7 +39,7 @@ pub fn prepare(buffer: &mut [u32]) -> Preparation
 // Is all there that the tuples name, after the walk of the used chain.
 // What the walk found can only say yes; where it does not, the whole chain is searched again, and the first edge tuple without both ends ends the check.
 fn named_right(b: &[u32], marks: &[u16], list: &[u16], used: Used) -> bool
-    requires { ⌜ Sorted (now b) × UsedFound (now b) (now marks) (now list) used ⌝ }
+    requires { ⌜ Sorted (now b) × UsedFound (now b) (now marks) (now list) (used .sure) (used .kept) (used .free) ⌝ }
     ensures { λ r. ⌜ r ≡ everyKey (supported (tuplesOf (now (b .entry)))) (tuplesOf (now (b .entry))) ⌝ }
 {
     if used.sure {
@@ -56,7 +56,7 @@ fn named_right(b: &[u32], marks: &[u16], list: &[u16], used: Used) -> bool
 // Are the chains and the tuples of the used chain right; marks and list are local to one check.
 fn records_right(b: &[u32]) -> bool
     requires { ⌜ Walkable (now b) ⌝ }
-    ensures { λ r. ⌜ r ≡ (chainsRight (now (b .entry)) && sound (tuplesOf (now (b .entry)))) ⌝ }
+    ensures { λ r. ⌜ r ≡ (linksRight (now (b .entry)) && sound (tuplesOf (now (b .entry)))) ⌝ }
 {
     let mut marks: [u16; 8192] = [0; 8192];
     let mut list: [u16; 2048] = [0; 2048];
@@ -69,7 +69,8 @@ fn records_right(b: &[u32]) -> bool
         count: used.count,
         last: used.last,
     };
-    if !chains::chains_right(b, walked) {
+    let free = used.free;
+    if !chains::chains_right(b, walked, free) {
         return false;
     }
     named_right(b, &marks, &list, used)
@@ -80,9 +81,6 @@ pub fn is_store(buffer: &[u32]) -> bool
     ensures { λ r. ⌜ r ≡ isStore (now (buffer .entry)) ⌝ }
 {
     if !chains::heads_fit(buffer) {
-        return false;
-    }
-    if !chains::nexts_within(buffer) {
         return false;
     }
     records_right(buffer)
