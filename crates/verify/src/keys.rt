@@ -95,6 +95,19 @@ fn stopped() -> Used
     }
 }
 
+// A walk that has met so many records up to the end of the chain.
+fn ended(count: usize, last: usize, found: Found, free: Walk) -> Used
+    ensures { λ r. ⌜ r ≡ record { ended = true; count = count; last = last; found = found; free = free } ⌝ }
+{
+    Used {
+        ended: true,
+        count,
+        last,
+        found,
+        free,
+    }
+}
+
 // Is there a first used record, with UNIVERSE's key.
 fn starts_right(b: &[u32]) -> bool
     requires { ⌜ Walkable (now b) ⌝ }
@@ -164,11 +177,5 @@ pub fn walk_used(b: &[u32], marks: &mut [u32], list: &mut [u16]) -> Used
         at = after;
         left -= 1;
     }
-    Used {
-        ended: true,
-        count: c - left,
-        last,
-        found,
-        free,
-    }
+    ended(c - left, last, found, free)
 }

@@ -3,9 +3,9 @@ use native.Mathlib.Omega.{arith}
 use Prim.Native.Nat.{ℕ, _-_}
 use mathlib.Core.Bool.{true, false≢true}
 use mathlib.Core.Logic.{_≢_}
-use mathlib.Core.Path.{_≡_, sym, ap, _∙_}
+use mathlib.Core.Path.{_≡_, sym, ap, _∙_, subst}
 use Rattle.model.specs.Buffer.{capacityOf}
-use Rattle.verify.specs.Checks.{walkedOf}
+use Rattle.verify.specs.Checks.{walkedOf, UsedFound}
 use Rattle.verify.specs.declared.keys.Used.{Used}
 use Rattle.verify.proofs.Capacity.{some-record}
 use Rattle.verify.proofs.Rest.{record-inside}
@@ -19,6 +19,7 @@ use Rattle.records.proofs.key_of.Reads as key-of-reads
 use Rattle.records.proofs.next_of.Reads as next-of-reads
 use Rattle.verify.proofs.chains.step.Reads as step-reads
 use Rattle.verify.proofs.ends.take.Reads as take-reads
+use Rattle.verify.proofs.keys.ended.Reads as ended-reads
 use Rattle.verify.proofs.keys.free_start.Reads as free-start-reads
 use Rattle.verify.proofs.keys.key_follows.Reads as key-follows-reads
 use Rattle.verify.proofs.keys.may_meet.Reads as may-meet-reads
@@ -113,17 +114,20 @@ loop-less c = let n : c .before .before .before .before .before .before .before 
 loop-again : tie.Need-loop-again Inv-loop μ-loop
 loop-again c = (c .before .before .before .before .before .before .before .before .before .before .before .before .before .before .before .before .loop .inv .0, using-next (c .before .before .before .before .before .before .before .before .before .before .before .before .before .before .before .before .before .before .before .before .before .before .before .before .before .before .args .b .now) (c .before .before .before .before .before .before .before .before .before .before .before .before .before .before .before .before .before .before .before .before .before .before .before .before .before .before .pre .0) _ _ (c .before .before .before .before .before .before .before .before .before .before .before .before .before .before .before .before .loop .found) (c .before .before .before .before .before .before .before .before .before .before .before .before .before .before .before .before .loop .left) (c .before .before .before .before .before .before .before .before .before .before .before .before .before .before .before .before .loop .last) (c .before .before .before .before .before .before .before .before .before .before .before .before .before .before .before .before .loop .at) (c .before .before .before .before .before .before .before .before .before .before .before .before .before .before .before .before .loop .free) (c .before .before .before .before .before .before .before .before .before .before .before .before .before .before .before .before .loop .inv .1) (c .before .before .before .before .before .before .before .before .before .before .before .before .before .before .before .loop-test .taken) _ (c .before .before .before .before .before .before .before .before .before .before .before .before .before .before .before .before .loop .inv .0) _ (c .before .before .before .before .before .before .before .before .before .before .before .before .before .before .may-meet .ensures) (not-false _ (c .before .before .before .before .before .before .before .before .before .before .before .before .before .if2 .left)) (c .before .before .before .before .before .before .before .before .before .before .before .before .key-of .result) (c .before .before .before .before .before .before .before .before .before .before .before .before .key-of .ensures) (c .before .before .before .before .before .before .before .before .before .before .key-of2 .result) (c .before .before .before .before .before .before .before .before .before .before .key-of2 .ensures) _ (c .before .before .before .before .before .before .before .before .before .key-follows .ensures) (not-false _ (c .before .before .before .before .before .before .before .before .if3 .left)) _ (c .before .before .before .before .before .take .ensures .0) _ (c .before .before .before .before .before .take .ensures .1 .0) _ (c .before .before .before .before .before .take .ensures .1 .1) _ (c .before .before .before .before .before .before .before .before .before .before .before .next-of2 .ensures) _ (c .step .ensures))
 
-sub-t21 : tie.Need-sub-t21 Inv-loop μ-loop
-sub-t21 c = omega (arith, c .before .loop .inv .0, c .before .loop .inv .1 .few)
+sub-ended : tie.Need-sub-ended Inv-loop μ-loop
+sub-ended c = omega (arith, c .before .loop .inv .0, c .before .loop .inv .1 .few)
+
+ended-requires : tie.Need-ended-requires Inv-loop μ-loop
+ended-requires c κs = tt
 
 same-length-5 : tie.Need-same-length-5 Inv-loop μ-loop
-same-length-5 c = c .before .loop .inv .1 .fit .size ∙ sym (c .before .before .before .before .before .before .before .before .before .before .before .pre .1 .size)
+same-length-5 c = c .before .before .loop .inv .1 .fit .size ∙ sym (c .before .before .before .before .before .before .before .before .before .before .before .before .pre .1 .size)
 
 same-length-6 : tie.Need-same-length-6 Inv-loop μ-loop
-same-length-6 c = c .before .loop .inv .1 .listed .size ∙ sym (c .before .before .before .before .before .before .before .before .before .before .before .pre .2)
+same-length-6 c = c .before .before .loop .inv .1 .listed .size ∙ sym (c .before .before .before .before .before .before .before .before .before .before .before .before .pre .2)
 
 returns-4 : tie.Need-returns-4 Inv-loop μ-loop
-returns-4 c = (ap (λ (n : ℕ). record { ended = true; count = n - c .before .loop .left; last = c .before .loop .last }) (c .before .loop .inv .0) ∙ using-end (c .before .before .before .before .before .before .before .before .before .before .before .args .b .now) (c .before .before .before .before .before .before .before .before .before .before .before .pre .0) _ _ (c .before .loop .found) (c .before .loop .left) (c .before .loop .last) (c .before .loop .at) (c .before .loop .free) (c .before .loop .inv .1) (c .loop-test .left), λ y. using-found (c .before .before .before .before .before .before .before .before .before .before .before .args .b .now) (c .before .before .before .before .before .before .before .before .before .before .before .pre .0) _ _ (c .before .loop .found) (c .before .loop .left) (c .before .loop .last) (c .before .loop .at) (c .before .loop .free) (c .before .loop .inv .1) (c .loop-test .left))
+returns-4 c = (ap walkedOf (c .ended .ensures) ∙ ap (λ (n : ℕ). record { ended = true; count = n - c .before .before .loop .left; last = c .before .before .loop .last }) (c .before .before .loop .inv .0) ∙ using-end (c .before .before .before .before .before .before .before .before .before .before .before .before .args .b .now) (c .before .before .before .before .before .before .before .before .before .before .before .before .pre .0) _ _ (c .before .before .loop .found) (c .before .before .loop .left) (c .before .before .loop .last) (c .before .before .loop .at) (c .before .before .loop .free) (c .before .before .loop .inv .1) (c .before .loop-test .left), λ y. subst (λ (u : Used). UsedFound (c .before .before .before .before .before .before .before .before .before .before .before .before .args .b .now) (c .before .before .loop .marks) (c .before .before .loop .list) (u .found) (u .free)) (sym (c .ended .ensures)) (using-found (c .before .before .before .before .before .before .before .before .before .before .before .before .args .b .now) (c .before .before .before .before .before .before .before .before .before .before .before .before .pre .0) _ _ (c .before .before .loop .found) (c .before .before .loop .left) (c .before .before .loop .last) (c .before .before .loop .at) (c .before .before .loop .free) (c .before .before .loop .inv .1) (c .before .loop-test .left)))
 
 pub walk-used-spec : {M : Type 1} → statement M
 walk-used-spec =
@@ -158,7 +162,8 @@ walk-used-spec =
     sub-left-2
     loop-less
     loop-again
-    sub-t21
+    sub-ended
+    ended-requires
     same-length-5
     same-length-6
     returns-4)
