@@ -1,4 +1,4 @@
--- Length, heads and nexts: what makes chains walkable.
+-- Length and heads: what makes chains walkable.
 use mathlib.Core.Bool.{Bool, true, false, _&&_}
 use mathlib.Core.List.{List}
 use mathlib.Core.Path.{_≡_, refl, sym, ap, ap₂, _∙_}
@@ -7,11 +7,10 @@ use native.Mathlib.Omega.{arith}
 use lib.Dec.{eqb, leb}
 use lib.ListN.{length}
 use borrow.Author.Tests.{eq-eqb, ne-eqb, leb-true, le-leb, lt-leb}
-use Rattle.model.specs.Buffer.{word, fitsLength, capacityOf, next, everyRecord}
+use Rattle.model.specs.Buffer.{word, fitsLength, capacityOf, everyRecord}
 use Rattle.model.proofs.Bools.{and-left, and-right}
-use Rattle.model.proofs.Steps.{every-record}
 use Rattle.model.proofs.Store.{fits-least, fits-most, fits-length}
-use Rattle.verify.specs.Checks.{headsFit, nextsWithin, Walkable}
+use Rattle.verify.specs.Checks.{headsFit, Walkable}
 use Rattle.verify.proofs.Preparing.{too-short, too-long}
 
 -- ---- length and heads
@@ -51,7 +50,7 @@ pub fit-most : (b : List ℕ) → headsFit b ≡ true → length b ≤ 12297
 unfolding headsFit
 fit-most b e = fits-most b (and-left (fitsLength b) _ e)
 
--- ---- every next at most C
+-- ---- a test of the records 1 to C
 
 pub every-on : (p : ℕ → Bool) (i : ℕ) → 0 < i → p i ≡ true → everyRecord p i ≡ everyRecord p (i - 1)
 unfolding everyRecord
@@ -69,37 +68,10 @@ pub every-none : (p : ℕ → Bool) → everyRecord p 0 ≡ true
 unfolding everyRecord
 every-none p = refl
 
--- records from C down to i + 1 are within
-unfoldable pub Nexts : List ℕ → ℕ → Type 0
-Nexts b i = nextsWithin b ≡ everyRecord (λ (j : ℕ). leb (next b j) (capacityOf b)) i
-
-module _ (b : List ℕ) where
-  pub nexts-start : Nexts b (capacityOf b)
-  unfolding Nexts nextsWithin
-  nexts-start = refl
-
-  pub nexts-stop : (i n : ℕ) → Nexts b i → 0 < i → n ≡ next b i → capacityOf b < n → false ≡ nextsWithin b
-  unfolding Nexts
-  nexts-stop i n h low e k =
-      let far : capacityOf b < next b i = omega arith in
-      sym (h ∙ every-stop (λ (j : ℕ). leb (next b j) (capacityOf b)) i low (lt-leb (next b i) (capacityOf b) far))
-
-  pub nexts-on : (i n : ℕ) → Nexts b i → 0 < i → n ≡ next b i → n ≤ capacityOf b → Nexts b (i - 1)
-  unfolding Nexts
-  nexts-on i n h low e k =
-      let near : next b i ≤ capacityOf b = omega arith in
-      h ∙ every-on (λ (j : ℕ). leb (next b j) (capacityOf b)) i low (le-leb (next b i) (capacityOf b) near)
-
-  pub nexts-end : (i : ℕ) → Nexts b i → i ≤ 0 → true ≡ nextsWithin b
-  unfolding Nexts
-  nexts-end i h z =
-      let e : i ≡ 0 = omega arith in
-      sym (h ∙ ap (everyRecord (λ (j : ℕ). leb (next b j) (capacityOf b))) e ∙ every-none (λ (j : ℕ). leb (next b j) (capacityOf b)))
-
--- the two tests make chains walkable
-pub walkable : (b : List ℕ) → headsFit b ≡ true → nextsWithin b ≡ true → Walkable b
-unfolding headsFit nextsWithin
-walkable b e f =
+-- the test makes chains walkable
+pub walkable : (b : List ℕ) → headsFit b ≡ true → Walkable b
+unfolding headsFit
+walkable b e =
     let C : ℕ = capacityOf b in
     let fits = and-left (fitsLength b) _ e in
     let e₂ = and-right (fitsLength b) _ e in
@@ -109,5 +81,4 @@ walkable b e f =
       most = fits-most b fits;
       usedHead = leb-true (word b 1) C (and-left (leb (word b 1) C) (leb (word b 2) C) e₃);
       freeHead = leb-true (word b 2) C (and-right (leb (word b 1) C) (leb (word b 2) C) e₃);
-      nexts = λ i h k. leb-true (next b i) C (every-record (λ (i : ℕ). leb (next b i) C) C f i h k);
     }

@@ -1,14 +1,14 @@
 -- The tests of one key: its words are small, and its parts fit together.
-use mathlib.Core.Bool.{Bool, true, false, cond, not, _&&_, _||_}
-use mathlib.Core.Path.{_≡_, refl, sym, _∙_}
-use Prim.Native.Nat.{_≤_, _<_}
+use mathlib.Core.Bool.{Bool, true, false, cond, not, _&&_, _||_, and-false, and-true}
+use mathlib.Core.Path.{_≡_, refl, sym, ap, _∙_}
+use Prim.Native.Nat.{ℕ, _≤_, _<_}
 use lib.Dec.{eqb, leb}
 use borrow.Author.Tests.{eq-eqb, ne-eqb, le-leb, lt-leb}
 use Rattle.model.specs.declared.Key.{Key}
 use Rattle.model.specs.Ordered.{isLess}
 use Rattle.model.specs.Keys.{compareKeys}
 use Rattle.model.specs.Buffer.{smallKey, noEdgeWithoutNode, edgeHasEnd}
-use Rattle.verify.specs.Checks.{shapedKey, goodKey, keyFollows}
+use Rattle.verify.specs.Checks.{shapedKey, goodKey, mayMeet, keyFollows}
 
 module _ (k : Key) where
   pub small-s : 65535 < k .s → false ≡ smallKey k
@@ -53,11 +53,21 @@ module _ (k : Key) where
   unfolding goodKey
   good-rest r t e f g = g ∙ simp (sym e ∙ f)
 
-module _ (j k : Key) (r : Bool) (e : r ≡ isLess (compareKeys j k)) where
+module _ (j k : Key) (r : Bool) (e : r ≡ goodKey k) where
   pub follows-no : r ≡ false → false ≡ keyFollows j k
   unfolding keyFollows
-  follows-no f = simp (sym e ∙ f)
+  follows-no f = sym (ap (λ (t : Bool). isLess (compareKeys j k) && t) (sym e ∙ f) ∙ and-false (isLess (compareKeys j k)))
 
-  pub follows-rest : r ≡ true → (t : Bool) → t ≡ goodKey k → t ≡ keyFollows j k
+  pub follows-rest : r ≡ true → (t : Bool) → t ≡ isLess (compareKeys j k) → t ≡ keyFollows j k
   unfolding keyFollows
-  follows-rest f t g = g ∙ simp (sym e ∙ f)
+  follows-rest f t g = g ∙ sym (ap (λ (t : Bool). isLess (compareKeys j k) && t) (sym e ∙ f) ∙ and-true (isLess (compareKeys j k)))
+
+-- may a walk meet a record
+module _ (C left at : ℕ) where
+  pub meet-far : C < at → false ≡ mayMeet C left at
+  unfolding mayMeet
+  meet-far h = simp (lt-leb at C h)
+
+  pub meet-rest : at ≤ C → not (eqb left 0) ≡ mayMeet C left at
+  unfolding mayMeet
+  meet-rest h = simp (le-leb at C h)

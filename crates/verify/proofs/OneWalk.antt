@@ -5,24 +5,25 @@ use mathlib.Core.Logic.{_≢_}
 use mathlib.Core.Path.{_≡_, refl, sym, ap, ap₂, _∙_, subst}
 use Prim.Native.Nat.{ℕ, zero, suc, _+_, _-_, _≤_, _<_}
 use native.Mathlib.Omega.{arith}
-use lib.Dec.{eqb}
+use lib.Dec.{eqb, leb}
 use lib.ListN.{length, getD, set, length-set}
 use lib.Seq.{getD-set-same, getD-set-other}
-use borrow.Author.Tests.{eqb-true, eqb-false, eq-eqb, ne-eqb}
+use borrow.Author.Tests.{eqb-true, eqb-false, eq-eqb, ne-eqb, leb-true, leb-false}
 use Rattle.model.specs.declared.Key.{Key}
 use Rattle.model.specs.Ordered.{isLess}
 use Rattle.model.specs.Keys.{Tuple, sameKey, spaceKey, nodeKey, compareKeys}
 use Rattle.model.specs.Tuples.{Tuples, present}
-use Rattle.model.specs.Buffer.{word, capacityOf, next, ends, usedChain, keyAt, tupleAt, tuplesOf, ascendsFromUniverse, everyRecord, everyKey, smallKey, noEdgeWithoutNode, edgeHasEnd, nodeSupported, edgeSupported}
-use Rattle.model.proofs.Bools.{and-left, and-right, and-both, not-yes}
+use Rattle.model.specs.Buffer.{word, capacityOf, next, usedChain, keyAt, tupleAt, tuplesOf, ascendsFromUniverse, everyRecord, everyKey, smallKey, noEdgeWithoutNode, edgeHasEnd, nodeSupported, edgeSupported}
+use Rattle.model.proofs.Bools.{and-left, and-right, and-both, not-yes, not-no}
 use Rattle.model.proofs.Tuples.{same-key}
-use Rattle.verify.specs.Checks.{Walkable, UsedEnds, UsedFound, Held, Marks, MarksFit, withNamed, walkedFrom, tuplesFrom, shapedKey, goodKey, keysRight, keyFollows, stoppedWalk, startsRight, usedWalk, supported, settled, endThere, endShown, everyEnd, Listed, keptCount}
-use Rattle.verify.specs.declared.chains.Walked.{Walked}
+use Rattle.verify.specs.Checks.{Walkable, endsWithin, walkedOn, walkedFrom, stepped, FreeWalk, UsedEnds, UsedFound, Held, Marks, MarksFit, withNamed, tuplesFrom, shapedKey, goodKey, keysRight, mayMeet, keyFollows, stoppedWalk, startsRight, usedWalk, supported, settled, endThere, nothingKept, foundWith, listWith, everyEnd, Listed, keptCount}
+use Rattle.verify.specs.declared.chains.Walk.{Walk}
+use Rattle.verify.specs.declared.ends.Found.{Found}
 use Rattle.verify.proofs.Capacity.{some-record, few-records}
-use Rattle.verify.proofs.Walks.{Walking, walking-start, walking-on, walking-end, walking-stop}
+use Rattle.verify.proofs.Walks.{walked-on, walked-end, walked-long, walked-far, found-ends, free-first, free-next}
 use Rattle.verify.proofs.Rest.{AscendsLeft, ascends-empty, ascends-not-first, ascends-start, ascends-next, ascends-no, ascends-end, EveryLeft, every-start, every-next, every-no, every-end, every-held, tuples-next, tuples-none}
-use Rattle.verify.proofs.Hints.{named-marks, named-fit}
-use Rattle.verify.proofs.Shows.{marks-fit, Stands, Settled, settled-all, end-shown-there}
+use Rattle.verify.proofs.Hints.{named-marks, named-fit, marks-fit}
+use Rattle.verify.proofs.Shows.{good-n, good-node, Stands, Settled, settled-all, not-kept-there}
 
 -- ---- the used chain walked, its keys tested and marked
 
@@ -69,26 +70,32 @@ module _ (b : List ℕ) (U : UsedEnds b) where
       record {
         ascends = ascends-next b U key at n (K .ascends) at≢ e k g l;
         good = every-next goodKey b at n (U .walkable) (K .good) at≢ e (ap goodKey (sym g) ∙ t);
-        marks = named-marks b ms k at ms′ m (K .marks) (every-held goodKey b at (U .walkable) (K .good));
+        marks =
+            named-marks b ms k at (good-n k t) ms′ m (K .marks) (every-held goodKey b at (U .walkable) (K .good))
+            (λ z. ap (λ (x : Key). present x (tuplesOf b)) (sym (good-node k t z) ∙ g) ∙ every-held goodKey b at (U .walkable) (K .good) .has at≢);
       }
 
 -- ---- records that are kept
 
 -- one record more, where its second end is not shown
-module _ (b : List ℕ) (list : List ℕ) (kept : ℕ) (L : Listed b list kept) (at : ℕ) (at≢ : at ≢ 0) (high : at ≤ capacityOf b) (room : kept < keptCount) where
+module _ (b : List ℕ) (list : List ℕ) (kept : ℕ) (L : Listed b list kept) (at : ℕ) (at≢ : at ≢ 0) (high : at ≤ capacityOf b)
+    (good : goodKey (keyAt b at) ≡ true) (room : kept < keptCount) where
+  abbrev Named : ℕ → Type 0
+  Named x = (x ≢ 0) × (x ≤ capacityOf b) × (goodKey (keyAt b x) ≡ true)
+
   kept-at : getD (set list kept at) kept 0 ≡ at
   kept-at = let h : kept < length list = omega (arith, L .size) in getD-set-same list kept at 0 h
 
   put-listed : Listed b (set list kept at) (suc kept)
   put-listed = record { size = length-set list kept at ∙ L .size; few = omega arith; named = λ j h. go j (eqb j kept) refl h }
     where
-      go : (j : ℕ) (t : Bool) → eqb j kept ≡ t → j < suc kept → (getD (set list kept at) j 0 ≢ 0) × (getD (set list kept at) j 0 ≤ capacityOf b)
+      go : (j : ℕ) (t : Bool) → eqb j kept ≡ t → j < suc kept → Named (getD (set list kept at) j 0)
       go j true e h =
-          subst (λ (x : ℕ). (x ≢ 0) × (x ≤ capacityOf b)) (sym (ap (λ (x : ℕ). getD (set list kept at) x 0) (eqb-true j kept e) ∙ kept-at)) (at≢, high)
+          subst Named (sym (ap (λ (x : ℕ). getD (set list kept at) x 0) (eqb-true j kept e) ∙ kept-at)) (at≢, high, good)
       go j false e h =
           let n : j ≢ kept = eqb-false j kept e in
           let l : j < kept = omega arith in
-          subst (λ (x : ℕ). (x ≢ 0) × (x ≤ capacityOf b)) (sym (getD-set-other list kept j at 0 n)) (L .named j l)
+          subst Named (sym (getD-set-other list kept j at 0 n)) (L .named j l)
 
   pub keep-listed : (t : Bool) (list′ : List ℕ) (kept′ : ℕ) → list′ ≡ cond t list (set list kept at) → kept′ ≡ cond t kept (suc kept) → Listed b list′ kept′
   keep-listed true list′ kept′ e f = subst (λ (x : ℕ). Listed b list′ x) (sym f) (subst (λ (xs : List ℕ). Listed b xs kept) (sym e) L)
@@ -136,9 +143,9 @@ module _ (b : List ℕ) (U : UsedEnds b) where
 
   pub open-next : (list : List ℕ) (key : Key) (at kept : ℕ) (ms : List ℕ) → Open b list key at kept → Keyed b key at ms → at ≢ 0 → (n : ℕ) → n ≡ next b at
       → (k : Key) → k ≡ keyAt b at → goodKey k ≡ true → settled b ms key k ≡ true → kept < length list
-      → (list′ : List ℕ) (kept′ : ℕ) → list′ ≡ cond (endShown b ms k) list (set list kept at) → kept′ ≡ cond (endShown b ms k) kept (suc kept) → Open b list′ k n kept′
+      → (list′ : List ℕ) (kept′ : ℕ) → list′ ≡ cond (nothingKept ms k) list (set list kept at) → kept′ ≡ cond (nothingKept ms k) kept (suc kept) → Open b list′ k n kept′
   open-next list key at kept ms O K at≢ n e k g good t room list′ kept′ f h =
-      record { stands = S .stands; left = start ∙ go (endShown b ms k) refl (endThere (tuplesOf b) k) refl f h }
+      record { stands = S .stands; left = start ∙ go (nothingKept ms k) refl (endThere (tuplesOf b) k) refl f h }
     where
       own : present k (tuplesOf b) ≡ true
       own = ap (λ (x : Key). present x (tuplesOf b)) g ∙ every-held goodKey b at (U .walkable) (K .good) .has at≢
@@ -160,12 +167,12 @@ module _ (b : List ℕ) (U : UsedEnds b) where
       swap false true z = refl
       swap false false z = refl
 
-      go : (s : Bool) → endShown b ms k ≡ s → (d : Bool) → endThere (tuplesOf b) k ≡ d
+      go : (s : Bool) → nothingKept ms k ≡ s → (d : Bool) → endThere (tuplesOf b) k ≡ d
           → list′ ≡ cond s list (set list kept at) → kept′ ≡ cond s kept (suc kept)
           → (everyEnd b list kept && (endThere (tuplesOf b) k && everyKey (supported (tuplesOf b)) (tuplesFrom b n)))
           ≡ (everyEnd b list′ kept′ && everyKey (supported (tuplesOf b)) (tuplesFrom b n))
       go true a d c p q =
-          ap (λ (x : Bool). everyEnd b list kept && (x && everyKey (supported (tuplesOf b)) (tuplesFrom b n))) (end-shown-there b ms k (K .marks) a)
+          ap (λ (x : Bool). everyEnd b list kept && (x && everyKey (supported (tuplesOf b)) (tuplesFrom b n))) (not-kept-there b ms k (K .marks) good a)
           ∙ ap₂ (λ (xs : List ℕ) (x : ℕ). everyEnd b xs x && everyKey (supported (tuplesOf b)) (tuplesFrom b n)) (sym p) (sym q)
       go false a d c p q =
           swap (everyEnd b list kept) (endThere (tuplesOf b) k) (everyKey (supported (tuplesOf b)) (tuplesFrom b n))
@@ -176,13 +183,17 @@ module _ (b : List ℕ) (U : UsedEnds b) where
 -- ---- the walk
 
 -- what is left of the walk
-pub record Using (b ms list : List ℕ) (key : Key) (sure : Bool) (kept left last at : ℕ) : Type 0 where
-  pub walking : Walking b (word b 1) left at last
+pub record Using (b ms list : List ℕ) (f : Found) (left last at : ℕ) (free : Walk) : Type 0 where
+  pub few : left ≤ capacityOf b
+  pub same : walkedOn b (record { at = at; left = left; last = last }) ≡ walkedFrom b (word b 1)
+  pub met : last ≢ 0
+  pub within : last ≤ capacityOf b
   pub fit : MarksFit b ms
-  pub listed : Listed b list kept
-  pub room : kept + left < capacityOf b
-  pub keyed : ends (usedChain b) ≡ true → Keyed b key at ms
-  pub undecided : ends (usedChain b) ≡ true → sure ≡ true → Open b list key at kept
+  pub listed : Listed b list (f .kept)
+  pub room : f .kept + left < capacityOf b
+  pub beside : FreeWalk b free left
+  pub keyed : endsWithin (capacityOf b) (usedChain b) ≡ true → Keyed b (keyAt b last) at ms
+  pub undecided : endsWithin (capacityOf b) (usedChain b) ≡ true → f .sure ≡ true → Open b list (keyAt b last) at (f .kept)
 
 module _ (b : List ℕ) where
   pub starts-none : (h : ℕ) → h ≡ word b 1 → h ≡ 0 → false ≡ startsRight b
@@ -207,15 +218,15 @@ module _ (b : List ℕ) where
     head-key h f = ap (λ (i : ℕ). sameKey (keyAt b i) (spaceKey 0)) f ∙ and-right (not (eqb (word b 1) 0)) _ yes-starts
 
 module _ (b : List ℕ) (w : Walkable b) where
-  used-ends : ends (usedChain b) ≡ true → UsedEnds b
+  used-ends : endsWithin (capacityOf b) (usedChain b) ≡ true → UsedEnds b
   used-ends e = record { walkable = w; ended = e }
 
   -- given up: the chain does not end, or its keys are not right
-  pub given-up : (ends (usedChain b) ≡ true → false ≡ keysRight (tuplesOf b)) → stoppedWalk ≡ usedWalk b
+  pub given-up : (endsWithin (capacityOf b) (usedChain b) ≡ true → false ≡ keysRight (tuplesOf b)) → stoppedWalk ≡ usedWalk b
   unfolding usedWalk
-  given-up h = sym (ap (λ (t : Bool). cond t (walkedFrom b (word b 1)) stoppedWalk) (go (ends (usedChain b)) refl))
+  given-up h = sym (ap (λ (t : Bool). cond t (walkedFrom b (word b 1)) stoppedWalk) (go (endsWithin (capacityOf b) (usedChain b)) refl))
     where
-      go : (e : Bool) → ends (usedChain b) ≡ e → (e && keysRight (tuplesOf b)) ≡ false
+      go : (e : Bool) → endsWithin (capacityOf b) (usedChain b) ≡ e → (e && keysRight (tuplesOf b)) ≡ false
       go true f = sym (h f)
       go false f = refl
 
@@ -228,37 +239,33 @@ module _ (b : List ℕ) (w : Walkable b) where
       go false z t =
           given-up (λ u. not-ascending b (ascends-not-first b (used-ends u) (word b 1) refl (eqb-false (word b 1) 0 z) (keyAt b (word b 1)) refl t))
 
-  pub using-start : (r : Bool) → r ≡ startsRight b → r ≡ true → (h : ℕ) → h ≡ word b 1 → (k : Key) → k ≡ nodeKey 0 0
+  pub using-start : (r : Bool) → r ≡ startsRight b → r ≡ true → (h : ℕ) → h ≡ word b 1
       → (C n : ℕ) → C ≡ capacityOf b → n ≡ next b h → (ms : List ℕ) → Marks b ms → (list : List ℕ) → length list ≡ keptCount
-      → Using b ms list k true 0 (C - 1) h n
-  using-start r s y h e k g C n d f ms M list size =
+      → (v : Walk) → v ≡ record { at = word b 2; left = C; last = 0 } → Using b ms list (record { sure = true; kept = 0 }) (C - 1) h n v
+  unfolding walkedFrom
+  using-start r s y h e C n d f ms M list size v x =
       let high : word b 1 ≤ capacityOf b = w .usedHead in
       let h≢ : h ≢ 0 = head-some b r s y h e in
       let t : sameKey (keyAt b h) (spaceKey 0) ≡ true = head-key b r s y h e in
-      let same : k ≡ keyAt b h = g ∙ sym (same-key (keyAt b h) (spaceKey 0) t) in
-      let t′ : sameKey k (spaceKey 0) ≡ true = ap (λ (x : Key). sameKey x (spaceKey 0)) same ∙ t in
       record {
-        walking =
-            subst (λ (i : ℕ). Walking b i (C - 1) n h) e
-            (walking-on b h C h 0 n w (walking-start b h C d (omega arith)) h≢ (λ z. omega (arith, some-record b (w .least) (w .most))) f);
+        few = omega arith;
+        same =
+            walked-on b C h 0 n h≢ (λ z. omega (arith, some-record b (w .least) (w .most))) (omega arith) (omega arith) f
+            ∙ ap₂ (λ (i c : ℕ). walkedOn b (record { at = i; left = c; last = 0 })) e d;
+        met = h≢;
+        within = omega arith;
         fit = marks-fit b ms M;
         listed = record { size = size; few = omega arith; named = λ j l. absurd (omega arith) };
         room = omega (arith, some-record b (w .least) (w .most));
-        keyed = λ u. keyed-start b (used-ends u) h n e h≢ f k same t′ ms M;
-        undecided = λ u v. open-start b (used-ends u) h n e h≢ f k same t′ list;
+        beside = free-first b v C d x;
+        keyed = λ u. keyed-start b (used-ends u) h n e h≢ f (keyAt b h) refl t ms M;
+        undecided = λ u v. open-start b (used-ends u) h n e h≢ f (keyAt b h) refl t list;
       }
 
-  module _ (ms list : List ℕ) (key : Key) (sure : Bool) (kept left last at : ℕ) (W : Using b ms list key sure kept left last at) where
-    -- a record of the walk is one of 2,048 at most
-    pub using-low : at ≤ 4096
-    using-low = omega (arith, W .walking .high, few-records b (w .least) (w .most))
-
-    pub using-room : left ≢ 0 → kept < keptCount
-    using-room h = omega (arith, W .room, few-records b (w .least) (w .most))
-
-    ended : at ≡ 0 → ends (usedChain b) ≡ true
-    unfolding walkedFrom usedChain
-    ended z = sym (ap (λ (x : Walked). x .ended) (walking-end b (word b 1) left at last (W .walking) z))
+  module _ (ms list : List ℕ) (f : Found) (left last at : ℕ) (v : Walk) (W : Using b ms list f left last at v) where
+    ended : at ≡ 0 → endsWithin (capacityOf b) (usedChain b) ≡ true
+    unfolding usedChain
+    ended z = sym (found-ends b (word b 1) _ (walked-end b left at last z ∙ W .same))
 
     pub using-end : at ≡ 0 → record { ended = true; count = capacityOf b - left; last = last } ≡ usedWalk b
     unfolding usedWalk
@@ -266,56 +273,117 @@ module _ (b : List ℕ) (w : Walkable b) where
         let u = ended z in
         let K = W .keyed u in
         let k : true ≡ keysRight (tuplesOf b)
-        = both-right b (ascends-end b (used-ends u) key at (K .ascends) z) (every-end goodKey b at (K .good) z) in
-        walking-end b (word b 1) left at last (W .walking) z
-        ∙ sym (ap (λ (t : Bool). cond t (walkedFrom b (word b 1)) stoppedWalk) (and-both (ends (usedChain b)) _ u (sym k)))
+        = both-right b (ascends-end b (used-ends u) (keyAt b last) at (K .ascends) z) (every-end goodKey b at (K .good) z) in
+        walked-end b left at last z ∙ W .same
+        ∙ sym
+        (ap (λ (t : Bool). cond t (walkedFrom b (word b 1)) stoppedWalk) (and-both (endsWithin (capacityOf b) (usedChain b)) _ u (sym k)))
 
-    pub using-found : at ≡ 0 → (count : ℕ) → UsedFound b ms list (record { ended = true; count = count; last = last; sure = sure; kept = kept })
+    pub using-found : at ≡ 0 → UsedFound b ms list f v
     unfolding everyKey
-    using-found z count =
+    using-found z =
         let u = ended z in
         record {
-          shows = W .keyed u .marks;
-          listed = W .listed;
-          decided = λ y. W .undecided u y .left ∙ ap (λ (ts : Tuples). everyEnd b list kept && everyKey (supported (tuplesOf b)) ts) (tuples-none b at z) ∙ and-true (everyEnd b list kept);
+          tuples =
+              record {
+                shows = W .keyed u .marks;
+                listed = W .listed;
+                decided =
+                    λ y.
+                    W .undecided u y .left
+                    ∙ ap (λ (ts : Tuples). everyEnd b list (f .kept) && everyKey (supported (tuplesOf b)) ts) (tuples-none b at z)
+                    ∙ and-true (everyEnd b list (f .kept));
+              };
+          beside = record { few = W .beside .few; enough = omega arith; same = W .beside .same };
         }
 
-    module _ (at≢ : at ≢ 0) where
-      pub using-stop : left ≡ 0 → stoppedWalk ≡ usedWalk b
-      using-stop z =
-          given-up
-          (λ u. absurd (false≢true (unfold walkedFrom usedChain in ap (λ (x : Walked). x .ended) (walking-stop b (word b 1) left at last (W .walking) at≢ z) ∙ u)))
+    -- the chain does not end with records of at most C
+    not-ended : stoppedWalk ≡ walkedOn b (record { at = at; left = left; last = last }) → stoppedWalk ≡ usedWalk b
+    unfolding usedChain
+    not-ended e = given-up (λ u. absurd (false≢true (found-ends b (word b 1) _ (e ∙ W .same) ∙ u)))
 
-      module _ (k : Key) (g : k ≡ keyAt b at) where
-        pub using-no : keyFollows key k ≡ false → stoppedWalk ≡ usedWalk b
-        unfolding keyFollows
-        using-no t = given-up (λ u. go (W .keyed u) (used-ends u) (isLess (compareKeys key k)) refl t)
-          where
-            go : Keyed b key at ms → UsedEnds b → (l : Bool) → isLess (compareKeys key k) ≡ l → (l && goodKey k) ≡ false → false ≡ keysRight (tuplesOf b)
-            go K U false e h = not-ascending b (ascends-no b U key at (K .ascends) at≢ k g e)
-            go K U true e h = not-good b (every-no goodKey b at w (K .good) at≢ (ap goodKey (sym g) ∙ h))
+    module _ (at≢ : at ≢ 0) (C : ℕ) (size : C ≡ capacityOf b) (r : Bool) (may : r ≡ mayMeet C left at) where
+      pub using-far : r ≡ false → stoppedWalk ≡ usedWalk b
+      unfolding mayMeet
+      using-far y = go (leb at C) refl (sym may ∙ y)
+        where
+          go : (t : Bool) → leb at C ≡ t → (t && not (eqb left 0)) ≡ false → stoppedWalk ≡ usedWalk b
+          go false e h = not-ended (walked-far b left at last (omega (arith, leb-false at C e)))
+          go true e h = not-ended (walked-long b left at last at≢ (eqb-true left 0 (not-no (eqb left 0) h)))
 
-        pub using-next : keyFollows key k ≡ true → left ≢ 0 → (sure′ : Bool) → sure′ ≡ (sure && settled b ms key k)
-            → (kept′ : ℕ) → kept′ ≡ cond (endShown b ms k) kept (suc kept) → (list′ : List ℕ) → list′ ≡ cond (endShown b ms k) list (set list kept at)
-            → (ms′ : List ℕ) → ms′ ≡ withNamed ms k at → (n : ℕ) → n ≡ next b at → Using b ms′ list′ k sure′ kept′ (left - 1) at n
-        unfolding keyFollows
-        using-next t left≢ sure′ y kept′ p list′ q ms′ m n f =
-            let good : goodKey k ≡ true = and-right (isLess (compareKeys key k)) _ t in
-            let room : kept < keptCount = using-room left≢ in
-            record {
-              walking = walking-on b (word b 1) left at last n w (W .walking) at≢ left≢ f;
-              fit = named-fit b ms k at ms′ m (W .fit) (W .walking .high);
-              listed = keep-listed b list kept (W .listed) at at≢ (W .walking .high) room (endShown b ms k) list′ kept′ q p;
-              room = more (endShown b ms k) p;
-              keyed =
-                  λ u. keyed-next b (used-ends u) key at ms (W .keyed u) at≢ n f k g (and-left (isLess (compareKeys key k)) _ t) good ms′ m;
-              undecided =
-                  λ u v.
-                  let both : (sure && settled b ms key k) ≡ true = sym y ∙ v in
-                  open-next b (used-ends u) list key at kept ms (W .undecided u (and-left sure _ both)) (W .keyed u) at≢ n f k g good
-                  (and-right sure _ both) (omega (arith, W .listed .size)) list′ kept′ q p;
-            }
-          where
-            more : (s : Bool) → kept′ ≡ cond s kept (suc kept) → kept′ + (left - 1) < capacityOf b
-            more true e = omega (arith, W .room)
-            more false e = omega (arith, W .room)
+      module _ (yes′ : r ≡ true) where
+        pub using-high : at ≤ capacityOf b
+        unfolding mayMeet
+        using-high = omega (arith, leb-true at C (and-left (leb at C) _ (sym may ∙ yes′)))
+
+        pub using-left : left ≢ 0
+        unfolding mayMeet
+        using-left = eqb-false left 0 (not-yes (eqb left 0) (and-right (leb at C) _ (sym may ∙ yes′)))
+
+        -- a record is one of 2,048 at most
+        pub using-low : at ≤ 4096
+        using-low = omega (arith, using-high, few-records b (w .least) (w .most))
+
+        pub using-room : f .kept < keptCount
+        using-room = let n : left ≢ 0 = using-left in omega (arith, W .room, few-records b (w .least) (w .most))
+
+        pub using-enough : v .left ≢ 0
+        using-enough z = let n : left ≢ 0 = using-left in omega (arith, W .beside .enough)
+
+        module _ (k : Key) (g : k ≡ keyAt b at) (key : Key) (p : key ≡ keyAt b last) (t : Bool) (e : t ≡ keyFollows key k) where
+          follows : t ≡ keyFollows (keyAt b last) k
+          follows = e ∙ ap (λ (x : Key). keyFollows x k) p
+
+          pub using-no : t ≡ false → stoppedWalk ≡ usedWalk b
+          unfolding keyFollows
+          using-no y = given-up (λ u. go (W .keyed u) (used-ends u) (isLess (compareKeys (keyAt b last) k)) refl (sym follows ∙ y))
+            where
+              go : Keyed b (keyAt b last) at ms → UsedEnds b → (l : Bool) → isLess (compareKeys (keyAt b last) k) ≡ l → (l && goodKey k) ≡ false
+                  → false ≡ keysRight (tuplesOf b)
+              go K U false e h = not-ascending b (ascends-no b U (keyAt b last) at (K .ascends) at≢ k g e)
+              go K U true e h = not-good b (every-no goodKey b at w (K .good) at≢ (ap goodKey (sym g) ∙ h))
+
+          module _ (y : t ≡ true) where
+            pub using-good : goodKey k ≡ true
+            unfolding keyFollows
+            using-good = and-right (isLess (compareKeys (keyAt b last) k)) _ (sym follows ∙ y)
+
+            less : isLess (compareKeys (keyAt b last) k) ≡ true
+            unfolding keyFollows
+            less = and-left (isLess (compareKeys (keyAt b last) k)) _ (sym follows ∙ y)
+
+            pub using-next : (f′ : Found) → f′ ≡ foundWith b ms key k f → (ms′ : List ℕ) → ms′ ≡ withNamed ms k at
+                → (list′ : List ℕ) → list′ ≡ listWith ms list k (f .kept) at → (n : ℕ) → n ≡ next b at
+                → (v′ : Walk) → v′ ≡ stepped b v → Using b ms′ list′ f′ (left - 1) at n v′
+            unfolding foundWith listWith
+            using-next f′ q ms′ m list′ l n i v′ x =
+                let left≢ : left ≢ 0 = using-left in
+                let kept′ : f′ .kept ≡ cond (nothingKept ms k) (f .kept) (suc (f .kept)) = ap (λ (z : Found). z .kept) q in
+                let sure′ : f′ .sure ≡ (f .sure && settled b ms (keyAt b last) k)
+                = ap (λ (z : Found). z .sure) q ∙ ap (λ (z : Key). f .sure && settled b ms z k) p in
+                record {
+                  few = omega (arith, W .few);
+                  same = walked-on b left at last n at≢ left≢ (W .few) using-high i ∙ W .same;
+                  met = at≢;
+                  within = using-high;
+                  fit = named-fit b ms k at (good-n k using-good) ms′ m (W .fit) using-high;
+                  listed =
+                      keep-listed b list (f .kept) (W .listed) at at≢ using-high (ap goodKey (sym g) ∙ using-good) using-room (nothingKept ms k) list′
+                      (f′ .kept) l kept′;
+                  room = more (nothingKept ms k) left≢ kept′;
+                  beside = free-next b v left left≢ (W .beside) v′ x;
+                  keyed =
+                      λ u.
+                      subst (λ (z : Key). Keyed b z n ms′) g
+                      (keyed-next b (used-ends u) (keyAt b last) at ms (W .keyed u) at≢ n i k g less using-good ms′ m);
+                  undecided =
+                      λ u z.
+                      let both : (f .sure && settled b ms (keyAt b last) k) ≡ true = sym sure′ ∙ z in
+                      subst (λ (z : Key). Open b list′ z n (f′ .kept)) g
+                      (open-next b (used-ends u) list (keyAt b last) at (f .kept) ms (W .undecided u (and-left (f .sure) _ both)) (W .keyed u) at≢ n i k g
+                      using-good (and-right (f .sure) _ both) (let room : f .kept < keptCount = using-room in omega (arith, W .listed .size)) list′ (f′ .kept) l
+                      kept′);
+                }
+              where
+                more : (s : Bool) → left ≢ 0 → f′ .kept ≡ cond s (f .kept) (suc (f .kept)) → f′ .kept + (left - 1) < capacityOf b
+                more true n e = omega (arith, W .room)
+                more false n e = omega (arith, W .room)

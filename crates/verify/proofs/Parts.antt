@@ -10,9 +10,10 @@ use Rattle.model.specs.Keys.{nodeKey, edgeKey, isEdge}
 use Rattle.model.specs.Tuples.{Tuples, present}
 use Rattle.model.specs.Buffer.{word, fitsLength, capacityOf, sizeWord, ends, usedChain, freeChain, usedOf, tuplesOf, ascendsFromUniverse, smallKey, noEdgeWithoutNode, edgeHasEnd, nodeSupported, edgeSupported, everyKey, sound, isStore}
 use Rattle.model.proofs.Bools.{and-left, and-right, clash}
-use Rattle.verify.specs.Checks.{headsFit, nextsWithin, Walkable, metOnce, chainsRight, walkedFrom, shapedKey, goodKey, keysRight, stoppedWalk, usedWalk, Sorted, supported, edgeInUniverse, namedPresent, endsPresent}
+use Rattle.verify.specs.Checks.{headsFit, nextsWithin, Walkable, metOnce, chainsRight, linksRight, endsWithin, walkedFrom, shapedKey, goodKey, keysRight, stoppedWalk, usedWalk, Sorted, supported, edgeInUniverse, namedPresent, endsPresent}
 use Rattle.verify.specs.declared.chains.Walked.{Walked}
 use Rattle.verify.proofs.Heads.{walkable}
+use Rattle.verify.proofs.Walks.{links-no-end, found-ends}
 
 -- ---- tests
 
@@ -94,13 +95,18 @@ sound-parts ts =
     regroup false a b c d = refl
 
 -- the rules on the buffer
-pub store-parts : (b : List ℕ) → isStore b ≡ (headsFit b && (nextsWithin b && (chainsRight b && sound (tuplesOf b))))
-unfolding isStore headsFit nextsWithin chainsRight metOnce
+pub store-parts : (b : List ℕ) → isStore b ≡ (headsFit b && (linksRight b && sound (tuplesOf b)))
+unfolding isStore headsFit linksRight nextsWithin chainsRight metOnce
 store-parts b =
     regroup (fitsLength b) (eqb (word b 0) (sizeWord b)) (leb (word b 1) (capacityOf b)) (leb (word b 2) (capacityOf b)) _
     ∙ ap (λ (a : Bool). headsFit b && (nextsWithin b && a))
     (regroup (ends (usedChain b)) (ends (freeChain b)) (metOnce b) (eqb (word b 3) (length (usedOf b))) (sound (tuplesOf b)))
+    ∙ ap (λ (a : Bool). headsFit b && a) (join (nextsWithin b) (chainsRight b) (sound (tuplesOf b)))
   where
+    join : (a b c : Bool) → (a && (b && c)) ≡ ((a && b) && c)
+    join true b c = refl
+    join false b c = refl
+
     regroup : (a b c d e : Bool) → (a && (b && (c && (d && e)))) ≡ ((a && (b && (c && d))) && e)
     regroup true true true d e = refl
     regroup true true false d e = refl
@@ -113,54 +119,56 @@ module _ (b : List ℕ) (heads : Bool) (h : heads ≡ headsFit b) where
   pub store-no-heads : heads ≡ false → false ≡ isStore b
   store-no-heads f = sym (store-parts b ∙ simp (sym h ∙ f))
 
-  module _ (h-yes : heads ≡ true) (nexts : Bool) (n : nexts ≡ nextsWithin b) where
-    pub store-no-nexts : nexts ≡ false → false ≡ isStore b
-    store-no-nexts f = sym (store-parts b ∙ simp (sym h ∙ h-yes, sym n ∙ f))
+  module _ (h-yes : heads ≡ true) where
+    pub store-walkable : Walkable b
+    store-walkable = walkable b (sym h ∙ h-yes)
 
-    module _ (n-yes : nexts ≡ true) where
-      pub store-walkable : Walkable b
-      store-walkable = walkable b (sym h ∙ h-yes) (sym n ∙ n-yes)
-
-      pub store-rest : (r : Bool) → r ≡ (chainsRight b && sound (tuplesOf b)) → r ≡ isStore b
-      store-rest r e = e ∙ sym (store-parts b ∙ simp (sym h ∙ h-yes, sym n ∙ n-yes))
+    pub store-rest : (r : Bool) → r ≡ (linksRight b && sound (tuplesOf b)) → r ≡ isStore b
+    store-rest r e = e ∙ sym (store-parts b ∙ simp (sym h ∙ h-yes))
 
 module _ (b : List ℕ) (w : Walkable b) (used : Walked) (a : used ≡ usedWalk b) where
-  pub right-no-walk : used .ended ≡ false → false ≡ (chainsRight b && sound (tuplesOf b))
-  unfolding usedWalk walkedFrom chainsRight usedChain
-  right-no-walk f = go (ends (usedChain b)) (keysRight (tuplesOf b)) refl refl
+  within : Bool
+  within = endsWithin (capacityOf b) (usedChain b)
+
+  pub right-no-walk : used .ended ≡ false → false ≡ (linksRight b && sound (tuplesOf b))
+  unfolding within usedWalk
+  right-no-walk f = go within (keysRight (tuplesOf b)) refl refl
     where
-      go : (e k : Bool) → ends (usedChain b) ≡ e → keysRight (tuplesOf b) ≡ k → false ≡ (chainsRight b && sound (tuplesOf b))
-      go false k x y = sym (simp x)
-      go true false x y = sym (ap (λ (t : Bool). chainsRight b && t) (sound-parts (tuplesOf b) ∙ simp y) ∙ and-false (chainsRight b))
+      go : (e k : Bool) → within ≡ e → keysRight (tuplesOf b) ≡ k → false ≡ (linksRight b && sound (tuplesOf b))
+      go false k x y =
+          ap (λ (t : Bool). t && sound (tuplesOf b))
+          (links-no-end b (word b 1) (w .usedHead) (unfold usedChain in x) (λ z. unfold chainsRight usedChain in simp z))
+      go true false x y = sym (ap (λ (t : Bool). linksRight b && t) (sound-parts (tuplesOf b) ∙ simp y) ∙ and-false (linksRight b))
       go true true x y =
           let u : used ≡ walkedFrom b (word b 1) = a ∙ simp (x, y) in
-          absurd (clash (ap (λ (v : Walked). v .ended) u ∙ x) f)
+          absurd (clash (found-ends b (word b 1) used u ∙ (unfold usedChain in x)) f)
 
   module _ (a-yes : used .ended ≡ true) where
-    both : (ends (usedChain b) && keysRight (tuplesOf b)) ≡ true
-    unfolding usedWalk
-    both = go (ends (usedChain b) && keysRight (tuplesOf b)) refl
+    both : (within && keysRight (tuplesOf b)) ≡ true
+    unfolding within usedWalk
+    both = go (within && keysRight (tuplesOf b)) refl
       where
-        go : (t : Bool) → (ends (usedChain b) && keysRight (tuplesOf b)) ≡ t → t ≡ true
+        go : (t : Bool) → (within && keysRight (tuplesOf b)) ≡ t → t ≡ true
         go true x = refl
         go false x = let u : used ≡ stoppedWalk = a ∙ simp x in absurd (clash a-yes (ap (λ (v : Walked). v .ended) u))
 
-    pub right-ends : ends (usedChain b) ≡ true
-    right-ends = and-left (ends (usedChain b)) _ both
+    right-ends : endsWithin (capacityOf b) (usedChain b) ≡ true
+    unfolding within
+    right-ends = and-left within _ both
 
     pub right-walk : used ≡ walkedFrom b (word b 1)
-    unfolding usedWalk
+    unfolding within usedWalk
     right-walk = a ∙ simp both
 
     pub right-sorted : Sorted b
     unfolding keysRight
     right-sorted =
-        record { used = record { walkable = w; ended = right-ends }; ascends = and-left (ascendsFromUniverse (tuplesOf b)) _ (and-right (ends (usedChain b)) _ both) }
+        record { used = record { walkable = w; ended = right-ends }; ascends = and-left (ascendsFromUniverse (tuplesOf b)) _ (and-right within _ both) }
 
-    module _ (chains : Bool) (c : chains ≡ chainsRight b) where
-      pub right-no-chains : chains ≡ false → false ≡ (chainsRight b && sound (tuplesOf b))
+    module _ (chains : Bool) (c : chains ≡ linksRight b) where
+      pub right-no-chains : chains ≡ false → false ≡ (linksRight b && sound (tuplesOf b))
       right-no-chains f = simp (sym c ∙ f)
 
-      pub right-named : chains ≡ true → (r : Bool) → r ≡ everyKey (supported (tuplesOf b)) (tuplesOf b) → r ≡ (chainsRight b && sound (tuplesOf b))
+      pub right-named : chains ≡ true → (r : Bool) → r ≡ everyKey (supported (tuplesOf b)) (tuplesOf b) → r ≡ (linksRight b && sound (tuplesOf b))
       right-named f r e =
-          e ∙ sym (ap (λ (t : Bool). t && sound (tuplesOf b)) (sym c ∙ f) ∙ sound-parts (tuplesOf b) ∙ simp (and-right (ends (usedChain b)) _ both))
+          e ∙ sym (ap (λ (t : Bool). t && sound (tuplesOf b)) (sym c ∙ f) ∙ sound-parts (tuplesOf b) ∙ simp (and-right within _ both))

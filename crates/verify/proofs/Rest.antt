@@ -6,9 +6,9 @@ use mathlib.Core.Option.{Option, some}
 use mathlib.Core.Path.{_≡_, refl, sym, ap, ap₂, _∙_, subst}
 use Prim.Native.Nat.{ℕ, _≤_, _<_, Ordering, Ordering·lt, Ordering·eq, Ordering·gt}
 use native.Mathlib.Omega.{arith}
-use lib.Dec.{eqb, isEq}
+use lib.Dec.{eqb, leb, isEq}
 use lib.ListN.{length}
-use borrow.Author.Tests.{eqb-true, eqb-false, eq-eqb, ne-eqb}
+use borrow.Author.Tests.{eqb-true, eqb-false, eq-eqb, ne-eqb, leb-true}
 use Rattle.model.specs.declared.Key.{Key}
 use Rattle.model.specs.Ordered.{isLess, holds, ascendsFrom, Ascending}
 use Rattle.model.specs.Keys.{keyOf, spaceKey, compareKeys, sameKey}
@@ -21,7 +21,7 @@ use Rattle.model.proofs.Ordered.{isLess-true, above-not-held, ascending-tail}
 use Rattle.model.proofs.Tuples.{own-key}
 use Rattle.model.proofs.Chains.{chain-walk}
 use Rattle.records.specs.Words.{Inside}
-use Rattle.verify.specs.Checks.{Walkable, UsedEnds, recordsFrom, tuplesFrom, OnChain, Seekable, isAt, isBefore, Held}
+use Rattle.verify.specs.Checks.{Walkable, allWithin, UsedEnds, recordsFrom, tuplesFrom, OnChain, Seekable, isAt, isBefore, Held}
 use Rattle.verify.proofs.Capacity.{room}
 use Rattle.verify.proofs.Walks.{met-by-walk}
 
@@ -41,8 +41,8 @@ used-from-head b h e = ap (λ (i : ℕ). map (tupleAt b) (orNothing (walk (next 
 pub on-head : (b : List ℕ) (h : ℕ) → UsedEnds b → h ≡ word b 1 → OnChain b h
 unfolding recordsFrom usedChain
 on-head b h U e =
-    let M = met-by-walk b (word b 1) (U .walkable) (U .walkable .usedHead) (U .ended) in
-    subst (OnChain b) (sym e) (record { high = U .walkable .usedHead; chain = M .chain; short = M .short })
+    let M = met-by-walk b (word b 1) (U .ended) in
+    subst (OnChain b) (sym e) (record { high = U .walkable .usedHead; chain = M .chain; within = M .all; short = M .short })
 
 -- the record, the tuple and the chain at a record that is not the end
 pub record Further (b : List ℕ) (at n : ℕ) : Type 0 where
@@ -51,24 +51,28 @@ pub record Further (b : List ℕ) (at n : ℕ) : Type 0 where
 
 pub further : (b : List ℕ) (at n : ℕ) → Walkable b → OnChain b at → at ≢ 0 → n ≡ next b at → Further b at n
 unfolding recordsFrom
-further b at n w O at≢ e = go (recordsFrom b at) refl (O .chain) (O .short)
+further b at n w O at≢ e = go (recordsFrom b at) refl (O .chain) (O .within) (O .short)
   where
-    go : (is : List ℕ) → recordsFrom b at ≡ is → Chain (next b) at is → length is ≤ capacityOf b → Further b at n
-    go [] f c s = absurd (at≢ c)
-    go (j ∷ js) f c s =
+    start-high : (i : ℕ) (is : List ℕ) → Chain (next b) i is → allWithin (capacityOf b) is ≡ true → i ≤ capacityOf b
+    start-high i [] c t = omega (arith, c)
+    start-high i (j ∷ js) c t = omega (arith, c .1, leb-true j (capacityOf b) (and-left (leb j (capacityOf b)) (allWithin (capacityOf b) js) (unfold allWithin in t)))
+
+    go : (is : List ℕ) → recordsFrom b at ≡ is → Chain (next b) at is → allWithin (capacityOf b) is ≡ true → length is ≤ capacityOf b → Further b at n
+    go [] f c t s = absurd (at≢ c)
+    go (j ∷ js) f c t s =
         let rest : recordsFrom b (next b at) ≡ js
         = unfold recordsFrom orNothing in ap orNothing (chain-walk (next b) (capacityOf b) (next b at) js (c .2) (omega arith)) in
         let rest′ : recordsFrom b n ≡ js = ap (recordsFrom b) e ∙ rest in
-        let high : at ≤ capacityOf b = O .high in
-        let low : 1 ≤ at = omega arith in
+        let all : allWithin (capacityOf b) js ≡ true = and-right (leb j (capacityOf b)) (allWithin (capacityOf b) js) (unfold allWithin in t) in
         record {
           records = f ∙ ap₂ _∷_ (c .1) (sym rest′);
           on =
               record {
-                high = subst (λ (i : ℕ). i ≤ capacityOf b) (sym e) (w .nexts at low high);
+                high = subst (λ (i : ℕ). i ≤ capacityOf b) (sym e) (start-high (next b at) js (c .2) all);
                 chain =
                     subst (λ (i : ℕ). Chain (next b) i (recordsFrom b n)) (sym e)
                     (subst (Chain (next b) (next b at)) (sym rest′) (c .2));
+                within = ap (allWithin (capacityOf b)) rest′ ∙ all;
                 short = omega (arith, ap length rest′);
               };
         }

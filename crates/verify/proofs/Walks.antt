@@ -1,113 +1,136 @@
 -- Walks of at most C records, and what they say of the two chains.
-use mathlib.Core.Bool.{Bool, true, false, not, _&&_}
-use mathlib.Core.List.{List, [], _∷_}
+use mathlib.Core.Bool.{Bool, true, false, cond, not, _&&_, _||_, and-false, false≢true}
+use mathlib.Core.List.{List, [], _∷_, _++_}
 use mathlib.Core.Logic.{_≢_}
 use mathlib.Core.Option.{Option, none, some, Option·map}
 use mathlib.Core.Path.{_≡_, refl, sym, ap, ap₂, _∙_, subst}
-use Prim.Native.Nat.{ℕ, zero, suc, _+_, _-_, _≤_}
+use Prim.Native.Nat.{ℕ, zero, suc, _+_, _-_, _≤_, _<_}
 use native.Mathlib.Omega.{arith}
-use lib.Dec.{eqb}
+use lib.Dec.{eqb, leb, ltb}
 use lib.ListN.{length}
-use borrow.Author.Tests.{eq-eqb, ne-eqb}
+use borrow.Author.Tests.{eqb-true, eqb-false, eq-eqb, ne-eqb, le-leb, lt-leb, leb-true, ltb-false, lt-ltb, le-ltb}
 use Rattle.model.specs.Buffer.{word, capacityOf, next, walk, ends, orNothing, usedChain, freeChain, usedOf, freeOf, count}
 use Rattle.model.specs.Rules.{Chain}
-use Rattle.model.proofs.Chains.{some-list, none≢some-list, Within, walk-chain, chain-within}
-use Rattle.model.proofs.Store.{ends-some}
+use Rattle.model.proofs.Bools.{and-left, and-right, and-both}
+use Rattle.model.proofs.Chains.{some-list, none≢some-list, Within, walk-chain, chain-within, count-append, miss}
+use Rattle.model.proofs.Steps.{every-record}
+use Rattle.model.proofs.Store.{record-every}
+use Rattle.verify.specs.declared.chains.Walk.{Walk}
 use Rattle.verify.specs.declared.chains.Walked.{Walked}
-use Rattle.verify.specs.Checks.{Walkable, metOnce, chainsRight, steps, lastMet, walkedFrom}
+use Rattle.verify.specs.Checks.{Walkable, nextsWithin, metOnce, chainsRight, linksRight, allWithin, endsWithin, steps, lastMet, stoppedWalk, walkedOn, walkedFrom, stepped, FreeWalk}
 use Rattle.verify.proofs.Capacity.{some-record}
 use Rattle.verify.proofs.Once.{lastOr, once-test}
 
 -- ---- one walk
 
-ends-map : (f : List ℕ → List ℕ) (r : Option (List ℕ)) → ends (Option·map f r) ≡ ends r
-unfolding ends
-ends-map f none = refl
-ends-map f (some is) = refl
+-- a record of at most C more
+ends-more : (C i : ℕ) (r : Option (List ℕ)) → leb i C ≡ true → endsWithin C (Option·map (λ (is : List ℕ). i ∷ is) r) ≡ endsWithin C r
+unfolding endsWithin allWithin
+ends-more C i none t = refl
+ends-more C i (some is) t = ap (λ (a : Bool). a && allWithin C is) t
 
--- what is left of a walk from head, at a record with so many to go
-pub record Walking (b : List ℕ) (head left at last : ℕ) : Type 0 where
-  pub few : left ≤ capacityOf b
-  pub high : at ≤ capacityOf b
-  pub ended : ends (walk (next b) left at) ≡ ends (walk (next b) (capacityOf b) head)
-  pub counts : (capacityOf b - left) + steps (next b) left at ≡ steps (next b) (capacityOf b) head
-  pub final : lastMet (next b) left at last ≡ lastMet (next b) (capacityOf b) head 0
+-- a record above C
+ends-far : (C i : ℕ) (r : Option (List ℕ)) → leb i C ≡ false → endsWithin C (Option·map (λ (is : List ℕ). i ∷ is) r) ≡ false
+unfolding endsWithin allWithin
+ends-far C i none t = refl
+ends-far C i (some is) t = ap (λ (a : Bool). a && allWithin C is) t
 
-module _ (b : List ℕ) (head : ℕ) where
-  pub walking-start : (C : ℕ) → C ≡ capacityOf b → head ≤ capacityOf b → Walking b head C head 0
-  walking-start C e h =
-      subst (λ (k : ℕ). Walking b head k head 0) (sym e)
-      (record { few = omega arith; high = h; ended = refl; counts = omega arith; final = refl })
+-- what is found: these, where the chain ends
+abbrev found : Bool → ℕ → ℕ → Walked
+found t count last = cond t (record { ended = true; count = count; last = last }) stoppedWalk
 
-  pub walking-on : (left at last n : ℕ) → Walkable b → Walking b head left at last → at ≢ 0 → left ≢ 0 → n ≡ next b at → Walking b head (left - 1) n at
-  unfolding walk steps lastMet
-  walking-on zero at last n w h at≢ left≢ e = absurd (left≢ refl)
-  walking-on (suc left) zero last n w h at≢ left≢ e = absurd (at≢ refl)
-  walking-on (suc left) (suc i) last n w h at≢ left≢ e =
-      let z : left ≡ suc left - 1 = omega arith in
-      let few : suc left ≤ capacityOf b = h .few in
-      let high : suc i ≤ capacityOf b = h .high in
-      let c : (capacityOf b - suc left) + suc (steps (next b) left (next b (suc i))) ≡ steps (next b) (capacityOf b) head = h .counts in
-      subst (λ (m : ℕ). Walking b head (suc left - 1) m (suc i)) (sym e)
-      (subst (λ (k : ℕ). Walking b head k (next b (suc i)) (suc i)) z
-      (record {
-        few = omega arith;
-        high = w .nexts (suc i) (omega arith) high;
-        ended = sym (ends-map (λ (is : List ℕ). suc i ∷ is) (walk (next b) left (next b (suc i)))) ∙ h .ended;
-        counts = omega arith;
-        final = h .final;
-      }))
+module _ (b : List ℕ) where
+  pub walked-on : (left at last n : ℕ) → at ≢ 0 → left ≢ 0 → left ≤ capacityOf b → at ≤ capacityOf b → n ≡ next b at
+      → walkedOn b (record { at = n; left = left - 1; last = at }) ≡ walkedOn b (record { at = at; left = left; last = last })
+  unfolding walkedOn walk steps lastMet
+  walked-on zero at last n at≢ left≢ few high e = absurd (left≢ refl)
+  walked-on (suc left) zero last n at≢ left≢ few high e = absurd (at≢ refl)
+  walked-on (suc left) (suc i) last n at≢ left≢ few high e =
+      let z : suc left - 1 ≡ left = omega arith in
+      let S : ℕ = steps (next b) left (next b (suc i)) in
+      let q : (capacityOf b - left) + S ≡ (capacityOf b - suc left) + suc S = omega arith in
+      ap₂ (λ (m k : ℕ). walkedOn b (record { at = m; left = k; last = suc i })) e z
+      ∙ ap₂ (λ (t : Bool) (c : ℕ). found t c (lastMet (next b) left (next b (suc i)) (suc i)))
+      (sym (ends-more (capacityOf b) (suc i) (walk (next b) left (next b (suc i))) (le-leb (suc i) (capacityOf b) high))) q
 
-  pub walking-end : (left at last : ℕ) → Walking b head left at last → at ≡ 0
-      → record { ended = true; count = capacityOf b - left; last = last } ≡ walkedFrom b head
-  unfolding walkedFrom
-  walking-end left at last h z =
-      let W : Walking b head left 0 last = subst (λ (i : ℕ). Walking b head left i last) z h in
-      λ i.
-      record {
-        ended = (sym (ended-at left) ∙ W .ended) i;
-        count = (counted left (W .counts)) i;
-        last = (sym (last-at left) ∙ W .final) i;
-      }
+  pub walked-end : (left at last : ℕ) → at ≡ 0
+      → record { ended = true; count = capacityOf b - left; last = last } ≡ walkedOn b (record { at = at; left = left; last = last })
+  walked-end left at last z = go left ∙ ap (λ (i : ℕ). walkedOn b (record { at = i; left = left; last = last })) (sym z)
     where
-      ended-at : (k : ℕ) → ends (walk (next b) k 0) ≡ true
-      ended-at zero = unfold walk ends in refl
-      ended-at (suc k) = unfold walk ends in refl
+      none-more : (k : ℕ) → k ≡ k + 0
+      none-more k = omega arith
 
-      steps-at : (k : ℕ) → steps (next b) k 0 ≡ 0
-      steps-at zero = unfold steps in refl
-      steps-at (suc k) = unfold steps in refl
+      go : (k : ℕ) → record { ended = true; count = capacityOf b - k; last = last } ≡ walkedOn b (record { at = 0; left = k; last = last })
+      go zero = unfold walkedOn walk steps lastMet endsWithin allWithin in ap (λ (c : ℕ). found true c last) (none-more (capacityOf b - 0))
+      go (suc k) = unfold walkedOn walk steps lastMet endsWithin allWithin in ap (λ (c : ℕ). found true c last) (none-more (capacityOf b - suc k))
 
-      last-at : (k : ℕ) → lastMet (next b) k 0 last ≡ last
-      last-at zero = unfold lastMet in refl
-      last-at (suc k) = unfold lastMet in refl
-
-      counted : (k : ℕ) → (capacityOf b - k) + steps (next b) k 0 ≡ steps (next b) (capacityOf b) head
-          → capacityOf b - k ≡ steps (next b) (capacityOf b) head
-      counted k e = omega (arith, steps-at k)
-
-  pub walking-stop : (left at last : ℕ) → Walking b head left at last → at ≢ 0 → left ≡ 0
-      → record { ended = false; count = capacityOf b - left; last = last } ≡ walkedFrom b head
-  unfolding walkedFrom
-  walking-stop left at last h at≢ z =
-      let W : Walking b head 0 at last = subst (λ (k : ℕ). Walking b head k at last) z h in
-      λ i.
-      record {
-        ended = (stopped at at≢ (W .ended)) i;
-        count = (counted (W .counts)) i;
-        last = (W-last (W .final)) i;
-      }
+  pub walked-long : (left at last : ℕ) → at ≢ 0 → left ≡ 0 → stoppedWalk ≡ walkedOn b (record { at = at; left = left; last = last })
+  walked-long left at last at≢ z = go at at≢ ∙ ap (λ (k : ℕ). walkedOn b (record { at = at; left = k; last = last })) (sym z)
     where
-      stopped : (a : ℕ) → a ≢ 0 → ends (walk (next b) 0 a) ≡ ends (walk (next b) (capacityOf b) head)
-          → false ≡ ends (walk (next b) (capacityOf b) head)
-      stopped zero n e = absurd (n refl)
-      stopped (suc a) n e = let z : false ≡ ends (walk (next b) 0 (suc a)) = unfold walk ends in refl in z ∙ e
+      go : (i : ℕ) → i ≢ 0 → stoppedWalk ≡ walkedOn b (record { at = i; left = 0; last = last })
+      go zero n = absurd (n refl)
+      go (suc i) n = unfold walkedOn walk endsWithin in refl
 
-      counted : (capacityOf b - 0) + steps (next b) 0 at ≡ steps (next b) (capacityOf b) head → capacityOf b - left ≡ steps (next b) (capacityOf b) head
-      counted e = let s : steps (next b) 0 at ≡ 0 = unfold steps in refl in omega arith
+  pub walked-far : (left at last : ℕ) → capacityOf b < at → stoppedWalk ≡ walkedOn b (record { at = at; left = left; last = last })
+  unfolding walkedOn walk steps lastMet
+  walked-far left zero last h = absurd (omega arith)
+  walked-far zero (suc i) last h = unfold endsWithin in refl
+  walked-far (suc left) (suc i) last h =
+      ap
+      (λ (t : Bool).
+      found t ((capacityOf b - suc left) + suc (steps (next b) left (next b (suc i)))) (lastMet (next b) left (next b (suc i)) (suc i)))
+      (sym (ends-far (capacityOf b) (suc i) (walk (next b) left (next b (suc i))) (lt-leb (suc i) (capacityOf b) h)))
 
-      W-last : lastMet (next b) 0 at last ≡ lastMet (next b) (capacityOf b) head 0 → last ≡ lastMet (next b) (capacityOf b) head 0
-      W-last e = let z : last ≡ lastMet (next b) 0 at last = unfold lastMet in refl in z ∙ e
+-- ---- the free chain walked beside the used one
+
+module _ (b : List ℕ) (w : Walk) where
+  pub step-ended : w .at ≡ 0 → w ≡ stepped b w
+  unfolding stepped
+  step-ended z = simp (eq-eqb (w .at) 0 z)
+
+  pub step-far : w .at ≢ 0 → (C : ℕ) → C ≡ capacityOf b → C < w .at → w ≡ stepped b w
+  unfolding stepped
+  step-far n C e h =
+      let k : capacityOf b < w .at = omega arith in
+      simp (ne-eqb (w .at) 0 n, lt-ltb (capacityOf b) (w .at) k)
+
+  pub step-on : w .at ≢ 0 → (C : ℕ) → C ≡ capacityOf b → w .at ≤ C → (n : ℕ) → n ≡ next b (w .at)
+      → record { at = n; left = w .left - 1; last = w .at } ≡ stepped b w
+  unfolding stepped
+  step-on n C e h m f =
+      let k : w .at ≤ capacityOf b = omega arith in
+      ap (λ (i : ℕ). record { at = i; left = w .left - 1; last = w .at }) f ∙ simp (ne-eqb (w .at) 0 n, le-ltb (capacityOf b) (w .at) k)
+
+  pub free-next : (most : ℕ) → most ≢ 0 → FreeWalk b w most → (v : Walk) → v ≡ stepped b w → FreeWalk b v (most - 1)
+  unfolding stepped
+  free-next most n F v e = subst (λ (x : Walk). FreeWalk b x (most - 1)) (sym e) (go (eqb (w .at) 0) (ltb (capacityOf b) (w .at)) refl refl)
+    where
+      stays : FreeWalk b w (most - 1)
+      stays = record { few = F .few; enough = omega (arith, F .enough); same = F .same }
+
+      go : (s t : Bool) → eqb (w .at) 0 ≡ s → ltb (capacityOf b) (w .at) ≡ t
+          → FreeWalk b (cond (s || t) w (record { at = next b (w .at); left = w .left - 1; last = w .at })) (most - 1)
+      go true t f g = stays
+      go false true f g = stays
+      go false false f g =
+          let left≢ : w .left ≢ 0 = λ z. n (omega (arith, F .enough)) in
+          record {
+            few = omega (arith, F .few);
+            enough = omega (arith, F .enough);
+            same =
+                walked-on b (w .left) (w .at) (w .last) (next b (w .at)) (eqb-false (w .at) 0 f) left≢ (F .few)
+                (ltb-false (capacityOf b) (w .at) g) refl ∙ F .same;
+          }
+
+pub free-first : (b : List ℕ) (w : Walk) (C : ℕ) → C ≡ capacityOf b → w ≡ record { at = word b 2; left = C; last = 0 } → FreeWalk b w (C - 1)
+unfolding walkedFrom
+free-first b w C e f =
+    subst (λ (x : Walk). FreeWalk b x (C - 1)) (sym f)
+    (record {
+      few = omega arith;
+      enough = omega arith;
+      same = ap (λ (k : ℕ). walkedOn b (record { at = word b 2; left = k; last = 0 })) e;
+    })
 
 -- ---- a walk that ends
 
@@ -130,10 +153,6 @@ steps-most link zero i = omega arith
 steps-most link (suc most) zero = omega arith
 steps-most link (suc most) (suc i) = omega (arith, steps-most link most (link (suc i)))
 
-pub counts-most : (b : List ℕ) (head : ℕ) (u : Walked) → u ≡ walkedFrom b head → u .count ≤ capacityOf b
-unfolding walkedFrom
-counts-most b head u e = omega (arith, ap (λ (x : Walked). x .count) e, steps-most (next b) (capacityOf b) head)
-
 steps-chain : (link : ℕ → ℕ) (most i : ℕ) (is : List ℕ) → Chain link i is → length is ≤ most → steps link most i ≡ length is
 unfolding steps
 steps-chain link zero i [] c h = refl
@@ -154,93 +173,203 @@ last-chain link (suc most) (suc i) d (j ∷ js) c h =
 -- the records of a chain that ends
 pub record Met (b : List ℕ) (head : ℕ) (is : List ℕ) : Type 0 where
   pub chain : Chain (next b) head is
+  pub all : allWithin (capacityOf b) is ≡ true
   pub within : Within (capacityOf b) is
   pub short : length is ≤ capacityOf b
 
-pub met-by-walk : (b : List ℕ) (head : ℕ) → Walkable b → head ≤ capacityOf b → ends (walk (next b) (capacityOf b) head) ≡ true
+-- the records of a chain are not 0
+chain-all : (link : ℕ → ℕ) (C i : ℕ) (is : List ℕ) → Chain link i is → allWithin C is ≡ true → Within C is
+unfolding allWithin
+chain-all link C i [] c t = tt
+chain-all link C i (j ∷ js) c t =
+    let named : i ≢ 0 = c .0 in
+    let at : j ≡ i = c .1 in
+    (omega arith, leb-true j C (and-left (leb j C) _ t), chain-all link C (link i) js (c .2) (and-right (leb j C) _ t))
+
+within-all : (C : ℕ) (is : List ℕ) → Within C is → allWithin C is ≡ true
+unfolding allWithin
+within-all C [] w = refl
+within-all C (i ∷ is) w = and-both (leb i C) _ (le-leb i C (w .1)) (within-all C is (w .2))
+
+pub met-by-walk : (b : List ℕ) (head : ℕ) → endsWithin (capacityOf b) (walk (next b) (capacityOf b) head) ≡ true
     → Met b head (orNothing (walk (next b) (capacityOf b) head))
-met-by-walk b head w h e =
-    let f = ends-some (walk (next b) (capacityOf b) head) e in
-    let c = walk-chain (next b) (capacityOf b) head (orNothing (walk (next b) (capacityOf b) head)) f in
-    record {
-      chain = c;
-      within = chain-within (next b) (capacityOf b) head (orNothing (walk (next b) (capacityOf b) head)) c h (w .nexts);
-      short = walk-short (next b) (capacityOf b) head (orNothing (walk (next b) (capacityOf b) head)) f;
-    }
+unfolding endsWithin orNothing
+met-by-walk b head e = go (walk (next b) (capacityOf b) head) refl e
+  where
+    go : (r : Option (List ℕ)) → walk (next b) (capacityOf b) head ≡ r → endsWithin (capacityOf b) r ≡ true → Met b head (orNothing r)
+    go none f t = absurd (false≢true t)
+    go (some is) f t =
+        let c = walk-chain (next b) (capacityOf b) head is f in
+        record {
+          chain = c;
+          all = t;
+          within = chain-all (next b) (capacityOf b) head is c t;
+          short = walk-short (next b) (capacityOf b) head is f;
+        }
+
+pub ends-by-walk : (C : ℕ) (r : Option (List ℕ)) → endsWithin C r ≡ true → ends r ≡ true
+unfolding endsWithin ends
+ends-by-walk C none t = t
+ends-by-walk C (some is) t = refl
+
+-- where every next is at most C, a chain that ends has no record above C
+pub ends-nexts : (b : List ℕ) (head : ℕ) → head ≤ capacityOf b → nextsWithin b ≡ true
+    → endsWithin (capacityOf b) (walk (next b) (capacityOf b) head) ≡ ends (walk (next b) (capacityOf b) head)
+unfolding endsWithin ends nextsWithin
+ends-nexts b head h t = go (walk (next b) (capacityOf b) head) refl
+  where
+    nexts : (j : ℕ) → 1 ≤ j → j ≤ capacityOf b → next b j ≤ capacityOf b
+    nexts j l k = leb-true (next b j) (capacityOf b) (every-record (λ (i : ℕ). leb (next b i) (capacityOf b)) (capacityOf b) t j l k)
+
+    go : (r : Option (List ℕ)) → walk (next b) (capacityOf b) head ≡ r → endsWithin (capacityOf b) r ≡ ends r
+    go none f = refl
+    go (some is) f =
+        within-all (capacityOf b) is
+        (chain-within (next b) (capacityOf b) head is (walk-chain (next b) (capacityOf b) head is f) h nexts)
+
+-- the next of a record that a chain meets is met too, or 0
+link-within : (link : ℕ → ℕ) (C h : ℕ) (is : List ℕ) → Chain link h is → Within C is → (i : ℕ) → 1 ≤ count i is → link i ≤ C
+unfolding count
+link-within link C h [] c w i k = absurd (omega arith)
+link-within link C h (j ∷ js) c w i k = go (eqb i j) refl (link-within link C (link h) js (c .2) (w .2) i)
+  where
+    head-within : (is : List ℕ) → Chain link (link h) is → Within C is → link h ≤ C
+    head-within [] d v = omega (arith, d)
+    head-within (x ∷ xs) d v = omega (arith, d .1, v .1)
+
+    go : (t : Bool) → eqb i j ≡ t → (1 ≤ count i js → link i ≤ C) → link i ≤ C
+    go true e later = subst (λ (x : ℕ). link x ≤ C) (sym (eqb-true i j e ∙ c .1)) (head-within js (c .2) (w .2))
+    go false e later = later (omega (arith, miss i j (eqb-false i j e)))
+
+-- what a walk from a head finds
+module _ (b : List ℕ) (head : ℕ) (u : Walked) (from : u ≡ walkedFrom b head) where
+  pub found-ends : u .ended ≡ endsWithin (capacityOf b) (walk (next b) (capacityOf b) head)
+  unfolding walkedFrom walkedOn
+  found-ends = ap (λ (x : Walked). x .ended) from ∙ go (endsWithin (capacityOf b) (walk (next b) (capacityOf b) head)) _ _
+    where
+      go : (t : Bool) (c l : ℕ) → found t c l .ended ≡ t
+      go true c l = refl
+      go false c l = refl
+
+  module _ (yes′ : u .ended ≡ true) where
+    pub found-met : Met b head (orNothing (walk (next b) (capacityOf b) head))
+    found-met = met-by-walk b head (sym found-ends ∙ yes′)
+
+    whole : u
+        ≡ record {
+          ended = true;
+          count = (capacityOf b - capacityOf b) + steps (next b) (capacityOf b) head;
+          last = lastMet (next b) (capacityOf b) head 0;
+        }
+    unfolding walkedFrom walkedOn
+    whole =
+        from
+        ∙ ap
+        (λ (t : Bool).
+        found t ((capacityOf b - capacityOf b) + steps (next b) (capacityOf b) head) (lastMet (next b) (capacityOf b) head 0))
+        (sym found-ends ∙ yes′)
+
+    pub found-count : u .count ≡ length (orNothing (walk (next b) (capacityOf b) head))
+    found-count =
+        omega (
+          arith,
+          ap (λ (x : Walked). x .count) whole,
+          steps-chain (next b) (capacityOf b) head (orNothing (walk (next b) (capacityOf b) head)) (found-met .chain) (found-met .short),
+        )
+
+    pub found-last : u .last ≡ lastOr 0 (orNothing (walk (next b) (capacityOf b) head))
+    found-last =
+        ap (λ (x : Walked). x .last) whole
+        ∙ last-chain (next b) (capacityOf b) head 0 (orNothing (walk (next b) (capacityOf b) head)) (found-met .chain) (found-met .short)
+
+    pub found-most : u .count ≤ capacityOf b
+    found-most = omega (arith, found-count, found-met .short)
 
 -- ---- the two chains
 
-module _ (b : List ℕ) (w : Walkable b) (h₁ : ℕ) (head₁ : h₁ ≡ word b 1) (u : Walked) (from₁ : u ≡ walkedFrom b h₁) where
-  used : u ≡ walkedFrom b (word b 1)
-  used = from₁ ∙ ap (walkedFrom b) head₁
+-- a chain with a next above C
+pub links-no-end : (b : List ℕ) (head : ℕ) → head ≤ capacityOf b → endsWithin (capacityOf b) (walk (next b) (capacityOf b) head) ≡ false
+    → (ends (walk (next b) (capacityOf b) head) ≡ false → chainsRight b ≡ false) → false ≡ linksRight b
+unfolding linksRight
+links-no-end b head h f no′ = go (nextsWithin b) refl
+  where
+    go : (t : Bool) → nextsWithin b ≡ t → false ≡ (t && chainsRight b)
+    go false e = refl
+    go true e = sym (no′ (sym (ends-nexts b head h e) ∙ f))
 
-  used-ends : u .ended ≡ ends (usedChain b)
-  unfolding walkedFrom usedChain
-  used-ends = ap (λ (x : Walked). x .ended) used
+module _ (b : List ℕ) (w : Walkable b) (u : Walked) (used : u ≡ walkedFrom b (word b 1)) (u-yes : u .ended ≡ true)
+    (f : Walked) (free : f ≡ walkedFrom b (word b 2)) where
+  pub no-free : f .ended ≡ false → false ≡ linksRight b
+  unfolding chainsRight freeChain
+  no-free e =
+      links-no-end b (word b 2) (w .freeHead) (sym (found-ends b (word b 2) f free) ∙ e)
+      (λ z. ap (λ (t : Bool). ends (usedChain b) && (t && (metOnce b && eqb (word b 3) (length (usedOf b))))) z ∙ and-false (ends (usedChain b)))
 
-  module _ (u-yes : u .ended ≡ true) (h₂ : ℕ) (head₂ : h₂ ≡ word b 2) (f : Walked) (from₂ : f ≡ walkedFrom b h₂) where
-    free : f ≡ walkedFrom b (word b 2)
-    free = from₂ ∙ ap (walkedFrom b) head₂
+  module _ (f-yes : f .ended ≡ true) (C : ℕ) (size : C ≡ capacityOf b) where
+    used-met : Met b (word b 1) (usedOf b)
+    unfolding usedOf usedChain
+    used-met = found-met b (word b 1) u used u-yes
 
-    free-ends : f .ended ≡ ends (freeChain b)
-    unfolding walkedFrom freeChain
-    free-ends = ap (λ (x : Walked). x .ended) free
+    free-met : Met b (word b 2) (freeOf b)
+    unfolding freeOf freeChain
+    free-met = found-met b (word b 2) f free f-yes
 
-    pub no-free : f .ended ≡ false → false ≡ chainsRight b
-    unfolding chainsRight
-    no-free e = simp (sym used-ends ∙ u-yes, sym free-ends ∙ e)
+    used-count : u .count ≡ length (usedOf b)
+    unfolding usedOf usedChain
+    used-count = found-count b (word b 1) u used u-yes
 
-    module _ (f-yes : f .ended ≡ true) (C : ℕ) (size : C ≡ capacityOf b) where
-      used-met : Met b (word b 1) (usedOf b)
-      unfolding usedOf usedChain
-      used-met = met-by-walk b (word b 1) w (w .usedHead) (sym used-ends ∙ u-yes)
+    free-count : f .count ≡ length (freeOf b)
+    unfolding freeOf freeChain
+    free-count = found-count b (word b 2) f free f-yes
 
-      free-met : Met b (word b 2) (freeOf b)
-      unfolding freeOf freeChain
-      free-met = met-by-walk b (word b 2) w (w .freeHead) (sym free-ends ∙ f-yes)
+    used-last : u .last ≡ lastOr 0 (usedOf b)
+    unfolding usedOf usedChain
+    used-last = found-last b (word b 1) u used u-yes
 
-      used-count : u .count ≡ length (usedOf b)
-      unfolding walkedFrom
-      used-count =
-          ap (λ (x : Walked). x .count) used ∙ steps-chain (next b) (capacityOf b) (word b 1) (usedOf b) (used-met .chain) (used-met .short)
+    free-last : f .last ≡ lastOr 0 (freeOf b)
+    unfolding freeOf freeChain
+    free-last = found-last b (word b 2) f free f-yes
 
-      free-count : f .count ≡ length (freeOf b)
-      unfolding walkedFrom
-      free-count =
-          ap (λ (x : Walked). x .count) free ∙ steps-chain (next b) (capacityOf b) (word b 2) (freeOf b) (free-met .chain) (free-met .short)
+    -- each record exactly once, by counts and last records
+    once : metOnce b ≡ (eqb (u .count + f .count) C && not (eqb (u .last) (f .last)))
+    unfolding metOnce
+    once =
+        once-test (next b) (capacityOf b) (word b 1) (word b 2) (usedOf b) (freeOf b) (some-record b (w .least) (w .most))
+        (used-met .chain) (free-met .chain) (used-met .within) (free-met .within)
+        ∙ sym
+        (ap₂ _&&_ (ap₂ eqb (ap₂ _+_ used-count free-count) size) (ap not (ap₂ eqb used-last free-last)))
 
-      used-last : u .last ≡ lastOr 0 (usedOf b)
-      unfolding walkedFrom
-      used-last =
-          ap (λ (x : Walked). x .last) used ∙ last-chain (next b) (capacityOf b) (word b 1) 0 (usedOf b) (used-met .chain) (used-met .short)
+    -- chains that meet each record meet each next
+    met-nexts : metOnce b ≡ true → nextsWithin b ≡ true
+    unfolding metOnce nextsWithin
+    met-nexts t =
+        record-every (λ (i : ℕ). leb (next b i) (capacityOf b)) (capacityOf b)
+        (λ i l h.
+        le-leb (next b i) (capacityOf b)
+        (go i (count i (usedOf b)) refl
+        (sym (count-append i (usedOf b) (freeOf b)) ∙ eqb-true _ 1 (every-record (λ (i : ℕ). eqb (count i (usedOf b ++ freeOf b)) 1) (capacityOf b) t i l h))))
+      where
+        go : (i n : ℕ) → count i (usedOf b) ≡ n → count i (usedOf b) + count i (freeOf b) ≡ 1 → next b i ≤ capacityOf b
+        go i zero e s = link-within (next b) (capacityOf b) (word b 2) (freeOf b) (free-met .chain) (free-met .within) i (omega arith)
+        go i (suc n) e s = link-within (next b) (capacityOf b) (word b 1) (usedOf b) (used-met .chain) (used-met .within) i (omega arith)
 
-      free-last : f .last ≡ lastOr 0 (freeOf b)
-      unfolding walkedFrom
-      free-last =
-          ap (λ (x : Walked). x .last) free ∙ last-chain (next b) (capacityOf b) (word b 2) 0 (freeOf b) (free-met .chain) (free-met .short)
+    ended : chainsRight b ≡ (metOnce b && eqb (word b 3) (length (usedOf b)))
+    unfolding chainsRight usedChain freeChain
+    ended =
+        simp (ends-by-walk _ _ (sym (found-ends b (word b 1) u used) ∙ u-yes), ends-by-walk _ _ (sym (found-ends b (word b 2) f free) ∙ f-yes))
 
-      -- each record exactly once, by counts and last records
-      once : metOnce b ≡ (eqb (u .count + f .count) C && not (eqb (u .last) (f .last)))
-      unfolding metOnce
-      once =
-          once-test (next b) (capacityOf b) (word b 1) (word b 2) (usedOf b) (freeOf b) (some-record b (w .least) (w .most))
-          (used-met .chain) (free-met .chain) (used-met .within) (free-met .within)
-          ∙ sym
-          (ap₂ _&&_ (ap₂ eqb (ap₂ _+_ used-count free-count) size) (ap not (ap₂ eqb used-last free-last)))
+    with-once : (t : Bool) → metOnce b ≡ t → linksRight b ≡ (t && eqb (word b 3) (length (usedOf b)))
+    unfolding linksRight
+    with-once false e = ap (λ (t : Bool). nextsWithin b && t) (ended ∙ ap (λ (t : Bool). t && eqb (word b 3) (length (usedOf b))) e) ∙ and-false (nextsWithin b)
+    with-once true e =
+        ap (λ (t : Bool). t && chainsRight b) (met-nexts e) ∙ ended ∙ ap (λ (t : Bool). t && eqb (word b 3) (length (usedOf b))) e
 
-      ended : chainsRight b ≡ (metOnce b && eqb (word b 3) (length (usedOf b)))
-      unfolding chainsRight
-      ended = simp (sym used-ends ∙ u-yes, sym free-ends ∙ f-yes)
+    pub no-count : (u .count + f .count ≡ C → ⊥) → false ≡ linksRight b
+    no-count h = sym (with-once false (once ∙ simp (ne-eqb (u .count + f .count) C h)))
 
-      with-once : (t : Bool) → metOnce b ≡ t → chainsRight b ≡ (t && eqb (word b 3) (length (usedOf b)))
-      with-once t e = ended ∙ ap (λ (t : Bool). t && eqb (word b 3) (length (usedOf b))) e
+    pub no-last : u .count + f .count ≡ C → u .last ≡ f .last → false ≡ linksRight b
+    no-last h k = sym (with-once false (once ∙ simp (eq-eqb (u .count + f .count) C h, eq-eqb (u .last) (f .last) k)))
 
-      pub no-count : (u .count + f .count ≡ C → ⊥) → false ≡ chainsRight b
-      no-count h = sym (with-once false (once ∙ simp (ne-eqb (u .count + f .count) C h)))
-
-      pub no-last : u .count + f .count ≡ C → u .last ≡ f .last → false ≡ chainsRight b
-      no-last h k = sym (with-once false (once ∙ simp (eq-eqb (u .count + f .count) C h, eq-eqb (u .last) (f .last) k)))
-
-      pub all-right : (n : ℕ) → u .count + f .count ≡ C → (u .last ≡ f .last → ⊥) → n ≡ word b 3 → eqb n (u .count) ≡ chainsRight b
-      all-right n h k e =
-          ap₂ eqb e used-count ∙ sym (with-once true (once ∙ simp (eq-eqb (u .count + f .count) C h, ne-eqb (u .last) (f .last) k)))
+    pub all-right : (n : ℕ) → u .count + f .count ≡ C → (u .last ≡ f .last → ⊥) → n ≡ word b 3 → eqb n (u .count) ≡ linksRight b
+    all-right n h k e =
+        ap₂ eqb e used-count ∙ sym (with-once true (once ∙ simp (eq-eqb (u .count + f .count) C h, ne-eqb (u .last) (f .last) k)))

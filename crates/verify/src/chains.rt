@@ -1,11 +1,22 @@
-// Words 0 to 3, the nexts and the two chains: is each record met exactly once.
+// Words 0 to 3 and the two chains: is each record met exactly once.
 // Each function requires what the tests before it have shown.
 use super::layout::capacity;
 ghost use mathlib.Core.Bool.{true};
+ghost use mathlib.Core.Logic.{_≢_};
 ghost use mathlib.Core.Path.{_≡_};
 ghost use Prim.Native.Nat.{_≤_};
 ghost use Rattle.model.specs.Buffer.{word, capacityOf};
-ghost use Rattle.verify.specs.Checks.{headsFit, nextsWithin, Walkable, walkedFrom, chainsRight};
+ghost use Rattle.verify.specs.Checks.{headsFit, Walkable, stoppedWalk, walkedOn, walkedFrom, stepped, FreeWalk, linksRight};
+
+// A walk of a chain over at most C records.
+pub struct Walk {
+    // The record that comes next; 0 where the chain has ended.
+    pub at: usize,
+    // How many more records it may meet.
+    pub left: usize,
+    // The last record met; 0 where there is none.
+    pub last: usize,
+}
 
 // What a walk of at most C records from a head finds.
 pub struct Walked {
@@ -37,38 +48,50 @@ pub fn heads_fit(b: &[u32]) -> bool
     records::head_word(b, 2) <= c
 }
 
-// Is every next at most C.
-pub fn nexts_within(b: &[u32]) -> bool
-    requires { ⌜ headsFit (now b) ≡ true ⌝ }
-    ensures { λ r. ⌜ r ≡ nextsWithin (now (b .entry)) ⌝ }
+// A walk that is given up.
+fn given_up() -> Walked
+    ensures { λ r. ⌜ r ≡ stoppedWalk ⌝ }
 {
-    let c = capacity(b);
-    let mut i = c;
-    while i > 0 {
-        if records::next_of(b, i) > c {
-            return false;
-        }
-        i -= 1;
+    Walked {
+        ended: false,
+        count: 0,
+        last: 0,
     }
-    true
 }
 
-// Walks from a head until the chain ends, over at most C records.
-fn walk_from(b: &[u32], head: usize) -> Walked
-    requires { ⌜ Walkable (now b) × (head ≤ capacityOf (now b)) ⌝ }
-    ensures { λ r. ⌜ r ≡ walkedFrom (now (b .entry)) head ⌝ }
+// One record on; a walk that has ended stays, and so does one that leaves the records.
+pub fn step(b: &[u32], c: usize, w: Walk) -> Walk
+    requires { ⌜ Walkable (now b) × (c ≡ capacityOf (now b)) × (w .left ≢ 0) ⌝ }
+    ensures { λ r. ⌜ r ≡ stepped (now (b .entry)) w ⌝ }
+{
+    if w.at == 0 {
+        return w;
+    }
+    if w.at > c {
+        return w;
+    }
+    Walk {
+        at: records::next_of(b, w.at),
+        left: w.left - 1,
+        last: w.at,
+    }
+}
+
+// Walks on until the chain ends, over at most C records in all.
+fn finish(b: &[u32], w: Walk) -> Walked
+    requires { ⌜ Walkable (now b) × (w .left ≤ capacityOf (now b)) ⌝ }
+    ensures { λ r. ⌜ r ≡ walkedOn (now (b .entry)) w ⌝ }
 {
     let c = capacity(b);
-    let mut left = c;
-    let mut at = head;
-    let mut last = 0;
+    let mut left = w.left;
+    let mut at = w.at;
+    let mut last = w.last;
     while at != 0 {
+        if at > c {
+            return given_up();
+        }
         if left == 0 {
-            return Walked {
-                ended: false,
-                count: c - left,
-                last,
-            };
+            return given_up();
         }
         last = at;
         at = records::next_of(b, at);
@@ -82,12 +105,12 @@ fn walk_from(b: &[u32], head: usize) -> Walked
 }
 
 // Where the used chain ends and is walked: does the free chain end too, do both together meet each record exactly once, and is word 3 right.
-// Without marks: they meet C records together, and do not end at the same one.
-pub fn chains_right(b: &[u32], used: Walked) -> bool
-    requires { ⌜ Walkable (now b) × (used ≡ walkedFrom (now b) (word (now b) 1)) × (used .ended ≡ true) ⌝ }
-    ensures { λ r. ⌜ r ≡ chainsRight (now (b .entry)) ⌝ }
+// Without marks: they meet C records together, and do not end at the same one. Then each next was met, and is at most C.
+pub fn chains_right(b: &[u32], used: Walked, w: Walk) -> bool
+    requires { ⌜ Walkable (now b) × (used ≡ walkedFrom (now b) (word (now b) 1)) × (used .ended ≡ true) × FreeWalk (now b) w 0 ⌝ }
+    ensures { λ r. ⌜ r ≡ linksRight (now (b .entry)) ⌝ }
 {
-    let free = walk_from(b, records::head_word(b, 2));
+    let free = finish(b, w);
     if !free.ended {
         return false;
     }

@@ -1,15 +1,16 @@
 // The keys of the used chain: do they ascend, and is each one that a store may hold.
-use super::ends::keep_end;
-use super::ends::still_sure;
+use super::chains::Walk;
+use super::chains::step;
+use super::ends::Found;
+use super::ends::take;
 use super::layout::capacity;
 use super::layout::node_key;
-use super::marks::mark_named;
 use model::Key;
 ghost use mathlib.Core.Bool.{true};
 ghost use mathlib.Core.Path.{_≡_};
 ghost use lib.ListN.{length};
-ghost use Rattle.model.specs.Buffer.{smallKey};
-ghost use Rattle.verify.specs.Checks.{Walkable, shapedKey, goodKey, keyFollows, startsRight, stoppedUsed, walkedOf, usedWalk, UsedFound, Marks, keptCount};
+ghost use Rattle.model.specs.Buffer.{word, smallKey};
+ghost use Rattle.verify.specs.Checks.{Walkable, shapedKey, goodKey, mayMeet, keyFollows, startsRight, stoppedUsed, walkedOf, usedWalk, UsedFound, Marks, keptCount};
 
 // Are the words of a key at most 65,535.
 fn key_small(k: Key) -> bool
@@ -54,10 +55,10 @@ fn key_good(k: Key) -> bool
 fn key_follows(key: Key, k: Key) -> bool
     ensures { λ r. ⌜ r ≡ keyFollows key k ⌝ }
 {
-    if !records::key_below(key, k) {
+    if !key_good(k) {
         return false;
     }
-    key_good(k)
+    records::key_below(key, k)
 }
 
 // What the walk of the used chain finds.
@@ -68,10 +69,10 @@ pub struct Used {
     pub count: usize,
     // The last record met.
     pub last: usize,
-    // Is all there that the tuples name, but for second ends that are kept.
-    pub sure: bool,
-    // How many are kept.
-    pub kept: usize,
+    // What is found of the tuples.
+    pub found: Found,
+    // The free chain, walked as far.
+    pub free: Walk,
 }
 
 // A walk that is given up.
@@ -82,8 +83,28 @@ fn stopped() -> Used
         ended: false,
         count: 0,
         last: 0,
-        sure: false,
-        kept: 0,
+        found: Found {
+            sure: false,
+            kept: 0,
+        },
+        free: Walk {
+            at: 0,
+            left: 0,
+            last: 0,
+        },
+    }
+}
+
+// A walk that has met so many records up to the end of the chain.
+fn ended(count: usize, last: usize, found: Found, free: Walk) -> Used
+    ensures { λ r. ⌜ r ≡ record { ended = true; count = count; last = last; found = found; free = free } ⌝ }
+{
+    Used {
+        ended: true,
+        count,
+        last,
+        found,
+        free,
     }
 }
 
@@ -99,46 +120,62 @@ fn starts_right(b: &[u32]) -> bool
     records::key_same(records::key_of(b, head), node_key(0, 0))
 }
 
-// Walks the used chain over at most C records; gives up where its keys do not ascend from (0,0,0,0) or a store may not hold one.
-// It marks the records whose keys tuples may name, but the first, and keeps those whose second ends the marks do not show.
-pub fn walk_used(b: &[u32], marks: &mut [u16], list: &mut [u16]) -> Used
+// The walk of the free chain, at its head.
+fn free_start(b: &[u32], c: usize) -> Walk
+    requires { ⌜ Walkable (now b) ⌝ }
+    ensures { λ r. ⌜ r ≡ record { at = word (now (b .entry)) 2; left = c; last = 0 } ⌝ }
+{
+    Walk {
+        at: records::head_word(b, 2),
+        left: c,
+        last: 0,
+    }
+}
+
+// May the walk meet a record, with so many to go.
+fn may_meet(c: usize, left: usize, at: usize) -> bool
+    ensures { λ r. ⌜ r ≡ mayMeet c left at ⌝ }
+{
+    if at > c {
+        return false;
+    }
+    left != 0
+}
+
+// Walks the used chain over at most C records, and the free chain beside it; gives up where its keys do not ascend from (0,0,0,0), a store may not hold one, or a next is above C.
+// It marks the tuples that others may name, but the first, and keeps the records whose second ends the marks do not show.
+pub fn walk_used(b: &[u32], marks: &mut [u32], list: &mut [u16]) -> Used
     requires { ⌜ Walkable (now b) × Marks (now b) (now marks) × (length (now list) ≡ keptCount) ⌝ }
     ensures answer { λ r. ⌜ walkedOf r ≡ usedWalk (now (b .entry)) ⌝ }
-    ensures lent { λ r. ⌜ (r .ended ≡ true → UsedFound (now (b .entry)) (now (marks .exit)) (now (list .exit)) r) ⌝ }
+    ensures lent { λ r. ⌜ (r .ended ≡ true → UsedFound (now (b .entry)) (now (marks .exit)) (now (list .exit)) (r .found) (r .free)) ⌝ }
 {
     if !starts_right(b) {
         return stopped();
     }
-    let head = records::head_word(b, 1);
     let c = capacity(b);
-    let mut key = node_key(0, 0);
-    let mut sure = true;
-    let mut kept = 0;
+    let mut free = free_start(b, c);
+    let mut found = Found {
+        sure: true,
+        kept: 0,
+    };
     let mut left = c - 1;
-    let mut last = head;
-    let mut at = records::next_of(b, head);
+    let mut last = records::head_word(b, 1);
+    let mut at = records::next_of(b, last);
     while at != 0 {
+        if !may_meet(c, left, at) {
+            return stopped();
+        }
         let k = records::key_of(b, at);
         let after = records::next_of(b, at);
+        let key = records::key_of(b, last);
         if !key_follows(key, k) {
             return stopped();
         }
-        if left == 0 {
-            return stopped();
-        }
-        sure = still_sure(b, marks, sure, key, k);
-        kept = keep_end(b, marks, list, kept, k, at);
-        mark_named(marks, k, at);
-        key = k;
+        found = take(b, marks, list, found, key, k, at);
+        free = step(b, c, free);
         last = at;
         at = after;
         left -= 1;
     }
-    Used {
-        ended: true,
-        count: c - left,
-        last,
-        sure,
-        kept,
-    }
+    ended(c - left, last, found, free)
 }

@@ -10,13 +10,13 @@ mod named;
 mod seek;
 
 use chains::Walked;
-use keys::Used;
+use ends::Found;
 use model::Preparation;
 ghost use mathlib.Core.Bool.{_&&_};
 ghost use mathlib.Core.Path.{_≡_};
 ghost use Rattle.model.specs.Buffer.{Preparing, tuplesOf, everyKey, sound, isStore};
 ghost use Rattle.verify.specs.Prepare.{afterPreparing};
-ghost use Rattle.verify.specs.Checks.{Walkable, chainsRight, Sorted, supported, UsedFound};
+ghost use Rattle.verify.specs.Checks.{Walkable, linksRight, Sorted, supported, Decided};
 
 // Prepares the buffer as a store that holds UNIVERSE alone, and gives C; a length outside 10 to 12,297 words is refused (1).
 pub fn prepare(buffer: &mut [u32]) -> Preparation
@@ -38,12 +38,12 @@ pub fn prepare(buffer: &mut [u32]) -> Preparation
 
 // Is all there that the tuples name, after the walk of the used chain.
 // What the walk found can only say yes; where it does not, the whole chain is searched again, and the first edge tuple without both ends ends the check.
-fn named_right(b: &[u32], marks: &[u16], list: &[u16], used: Used) -> bool
-    requires { ⌜ Sorted (now b) × UsedFound (now b) (now marks) (now list) used ⌝ }
+fn named_right(b: &[u32], marks: &[u32], list: &[u16], found: Found) -> bool
+    requires { ⌜ Sorted (now b) × Decided (now b) (now marks) (now list) found ⌝ }
     ensures { λ r. ⌜ r ≡ everyKey (supported (tuplesOf (now (b .entry)))) (tuplesOf (now (b .entry))) ⌝ }
 {
-    if used.sure {
-        if ends::all_ends(b, marks, list, used.kept) {
+    if found.sure {
+        if ends::all_ends(b, marks, list, found.kept) {
             return true;
         }
     }
@@ -56,9 +56,9 @@ fn named_right(b: &[u32], marks: &[u16], list: &[u16], used: Used) -> bool
 // Are the chains and the tuples of the used chain right; marks and list are local to one check.
 fn records_right(b: &[u32]) -> bool
     requires { ⌜ Walkable (now b) ⌝ }
-    ensures { λ r. ⌜ r ≡ (chainsRight (now (b .entry)) && sound (tuplesOf (now (b .entry)))) ⌝ }
+    ensures { λ r. ⌜ r ≡ (linksRight (now (b .entry)) && sound (tuplesOf (now (b .entry)))) ⌝ }
 {
-    let mut marks: [u16; 8192] = [0; 8192];
+    let mut marks: [u32; 4096] = [0; 4096];
     let mut list: [u16; 2048] = [0; 2048];
     let used = keys::walk_used(b, &mut marks, &mut list);
     if !used.ended {
@@ -69,10 +69,12 @@ fn records_right(b: &[u32]) -> bool
         count: used.count,
         last: used.last,
     };
-    if !chains::chains_right(b, walked) {
+    let free = used.free;
+    if !chains::chains_right(b, walked, free) {
         return false;
     }
-    named_right(b, &marks, &list, used)
+    let found = used.found;
+    named_right(b, &marks, &list, found)
 }
 
 // Is the buffer, of any length and with any words, a store.
@@ -80,9 +82,6 @@ pub fn is_store(buffer: &[u32]) -> bool
     ensures { λ r. ⌜ r ≡ isStore (now (buffer .entry)) ⌝ }
 {
     if !chains::heads_fit(buffer) {
-        return false;
-    }
-    if !chains::nexts_within(buffer) {
         return false;
     }
     records_right(buffer)

@@ -8,17 +8,17 @@ use Rattle.verify.proofs.keys.key_follows.Lts as lts
 use Rattle.records.proofs.key_below.Reads as key-below-reads
 use Rattle.verify.proofs.keys.key_good.Reads as key-good-reads
 
-key-below-requires : tie.Need-key-below-requires
-key-below-requires c κs = search needs
-
-returns : tie.Need-returns
-returns c = follows-no (c .before .before .args .key) (c .before .before .args .k) _ (c .before .key-below .ensures) (not-true _ (c .if1 .taken))
-
 key-good-requires : tie.Need-key-good-requires
 key-good-requires c κs = search needs
 
+returns : tie.Need-returns
+returns c = follows-no (c .before .before .args .key) (c .before .before .args .k) _ (c .before .key-good .ensures) (not-true _ (c .if1 .taken))
+
+key-below-requires : tie.Need-key-below-requires
+key-below-requires c κs = search needs
+
 returns-2 : tie.Need-returns-2
-returns-2 c = follows-rest (c .before .before .before .args .key) (c .before .before .before .args .k) _ (c .before .before .key-below .ensures) (not-false _ (c .before .if1 .left)) _ (c .key-good .ensures)
+returns-2 c = follows-rest (c .before .before .before .args .key) (c .before .before .before .args .k) _ (c .before .before .key-good .ensures) (not-false _ (c .before .if1 .left)) _ (c .key-below .ensures)
 
 pub key-follows-spec : {M : Type 1} → statement M
-key-follows-spec = tie.close (tie.spec key-below-requires returns key-good-requires returns-2)
+key-follows-spec = tie.close (tie.spec key-good-requires returns key-below-requires returns-2)

@@ -2,13 +2,14 @@ use borrow.Author.Tests.{not-true, not-false}
 use native.Mathlib.Omega.{arith}
 use Prim.Native.Nat.{ℕ, _-_}
 use mathlib.Core.Bool.{true, false≢true}
-use mathlib.Core.Path.{_≡_, sym, ap, _∙_}
+use mathlib.Core.Logic.{_≢_}
+use mathlib.Core.Path.{_≡_, sym, ap, _∙_, subst}
 use Rattle.model.specs.Buffer.{capacityOf}
-use Rattle.verify.specs.Checks.{walkedOf}
+use Rattle.verify.specs.Checks.{walkedOf, UsedFound}
 use Rattle.verify.specs.declared.keys.Used.{Used}
 use Rattle.verify.proofs.Capacity.{some-record}
 use Rattle.verify.proofs.Rest.{record-inside}
-use Rattle.verify.proofs.OneWalk.{Using, head-some, not-started, using-start, using-low, using-room, using-no, using-stop, using-next, using-end, using-found}
+use Rattle.verify.proofs.OneWalk.{Using, head-some, not-started, using-start, using-far, using-high, using-left, using-low, using-room, using-enough, using-no, using-good, using-next, using-end, using-found}
 use Rattle.verify.proofs.keys.walk_used.Statement.{statement}
 use Rattle.verify.proofs.keys.walk_used.Tie as tie
 use Rattle.verify.proofs.keys.walk_used.Reads as reads
@@ -16,20 +17,21 @@ use Rattle.verify.proofs.keys.walk_used.Lts as lts
 use Rattle.records.proofs.head_word.Reads as head-word-reads
 use Rattle.records.proofs.key_of.Reads as key-of-reads
 use Rattle.records.proofs.next_of.Reads as next-of-reads
-use Rattle.verify.proofs.ends.keep_end.Reads as keep-end-reads
-use Rattle.verify.proofs.ends.still_sure.Reads as still-sure-reads
+use Rattle.verify.proofs.chains.step.Reads as step-reads
+use Rattle.verify.proofs.ends.take.Reads as take-reads
+use Rattle.verify.proofs.keys.ended.Reads as ended-reads
+use Rattle.verify.proofs.keys.free_start.Reads as free-start-reads
 use Rattle.verify.proofs.keys.key_follows.Reads as key-follows-reads
+use Rattle.verify.proofs.keys.may_meet.Reads as may-meet-reads
 use Rattle.verify.proofs.keys.starts_right.Reads as starts-right-reads
 use Rattle.verify.proofs.keys.stopped.Reads as stopped-reads
 use Rattle.verify.proofs.layout.capacity.Reads as capacity-reads
-use Rattle.verify.proofs.layout.node_key.Reads as node-key-reads
-use Rattle.verify.proofs.marks.mark_named.Reads as mark-named-reads
 
 abbrev Inv-loop : tie.InvT-loop
-Inv-loop b marks₀ list₀ head c key₀ sure₀ kept₀ left₀ last₀ at₀ marks list key sure kept left last at = (c ≡ capacityOf b) × Using b marks list key sure kept left last at
+Inv-loop b marks₀ list₀ c free₀ found₀ left₀ last₀ at₀ marks list free found left last at = (c ≡ capacityOf b) × Using b marks list found left last at free
 
 abbrev μ-loop : tie.MeasureT-loop
-μ-loop b marks₀ list₀ head c key₀ sure₀ kept₀ left₀ last₀ at₀ marks list key sure kept left last at = left
+μ-loop b marks₀ list₀ c free₀ found₀ left₀ last₀ at₀ marks list free found left last at = left
 
 starts-right-requires : tie.Need-starts-right-requires Inv-loop μ-loop
 starts-right-requires c κs = c .before .before .before .pre .0
@@ -40,86 +42,92 @@ stopped-requires c κs = tt
 returns : tie.Need-returns Inv-loop μ-loop
 returns c = (ap walkedOf (c .stopped .ensures) ∙ not-started (c .before .before .before .before .before .before .args .b .now) (c .before .before .before .before .before .before .pre .0) _ (c .before .before .starts-right .ensures) (not-true _ (c .before .if1 .taken)), λ y. absurd (false≢true (sym (ap (λ (u : Used). u .ended) (c .stopped .ensures)) ∙ y)))
 
-head-word-requires : tie.Need-head-word-requires Inv-loop μ-loop
-head-word-requires c κs = omega (arith, c .before .before .before .before .before .pre .0 .least)
-
 capacity-requires : tie.Need-capacity-requires Inv-loop μ-loop
-capacity-requires c κs = omega (arith, c .before .before .before .before .before .before .pre .0 .least)
+capacity-requires c κs = omega (arith, c .before .before .before .before .before .pre .0 .least)
 
-node-key-requires : tie.Need-node-key-requires Inv-loop μ-loop
-node-key-requires c κs = tt
+free-start-requires : tie.Need-free-start-requires Inv-loop μ-loop
+free-start-requires c κs = c .before .before .before .before .before .before .pre .0
 
 sub-left : tie.Need-sub-left Inv-loop μ-loop
-sub-left c = omega (arith, c .before .capacity .ensures, some-record (c .before .before .before .before .before .before .before .before .args .b .now) (c .before .before .before .before .before .before .before .before .pre .0 .least) (c .before .before .before .before .before .before .before .before .pre .0 .most))
+sub-left c = omega (arith, c .before .capacity .ensures, some-record (c .before .before .before .before .before .before .before .args .b .now) (c .before .before .before .before .before .before .before .pre .0 .least) (c .before .before .before .before .before .before .before .pre .0 .most))
+
+head-word-requires : tie.Need-head-word-requires Inv-loop μ-loop
+head-word-requires c κs = omega (arith, c .before .before .before .before .before .before .before .pre .0 .least)
 
 next-of-requires : tie.Need-next-of-requires Inv-loop μ-loop
-next-of-requires c κs = record-inside _ _ (c .before .before .before .before .before .before .before .before .pre .0) (omega (arith, c .before .before .head-word .ensures, c .before .before .before .before .before .before .before .before .pre .0 .usedHead)) (head-some (c .before .before .before .before .before .before .before .before .args .b .now) _ (c .before .before .before .before .starts-right .ensures) (not-false _ (c .before .before .before .if1 .left)) _ (c .before .before .head-word .ensures))
+next-of-requires c κs = record-inside _ _ (c .before .before .before .before .before .before .before .before .pre .0) (omega (arith, c .head-word .ensures, c .before .before .before .before .before .before .before .before .pre .0 .usedHead)) (head-some (c .before .before .before .before .before .before .before .before .args .b .now) _ (c .before .before .before .before .starts-right .ensures) (not-false _ (c .before .before .before .if1 .left)) _ (c .head-word .ensures))
 
 loop-holds : tie.Need-loop-holds Inv-loop μ-loop
-loop-holds c = (c .before .before .capacity .ensures, using-start (c .before .before .before .before .before .before .before .before .before .args .b .now) (c .before .before .before .before .before .before .before .before .before .pre .0) _ (c .before .before .before .before .before .starts-right .ensures) (not-false _ (c .before .before .before .before .if1 .left)) _ (c .before .before .before .head-word .ensures) _ (c .before .node-key .ensures) _ _ (c .before .before .capacity .ensures) (c .next-of .ensures) _ (c .before .before .before .before .before .before .before .before .before .pre .1) _ (c .before .before .before .before .before .before .before .before .before .pre .2))
+loop-holds c = (c .before .before .before .capacity .ensures, using-start (c .before .before .before .before .before .before .before .before .before .args .b .now) (c .before .before .before .before .before .before .before .before .before .pre .0) _ (c .before .before .before .before .before .starts-right .ensures) (not-false _ (c .before .before .before .before .if1 .left)) _ (c .before .head-word .ensures) _ _ (c .before .before .before .capacity .ensures) (c .next-of .ensures) _ (c .before .before .before .before .before .before .before .before .before .pre .1) _ (c .before .before .before .before .before .before .before .before .before .pre .2) _ (c .before .before .free-start .ensures))
 
-key-of-requires : tie.Need-key-of-requires Inv-loop μ-loop
-key-of-requires c κs = record-inside _ _ (c .before .before .before .before .before .before .before .before .before .before .before .pre .0) (c .before .loop .inv .1 .walking .high) (c .loop-test .taken)
-
-next-of-requires-2 : tie.Need-next-of-requires-2 Inv-loop μ-loop
-next-of-requires-2 c κs = record-inside _ _ (c .before .before .before .before .before .before .before .before .before .before .before .before .pre .0) (c .before .before .loop .inv .1 .walking .high) (c .before .loop-test .taken)
-
-key-follows-requires : tie.Need-key-follows-requires Inv-loop μ-loop
-key-follows-requires c κs = tt
+may-meet-requires : tie.Need-may-meet-requires Inv-loop μ-loop
+may-meet-requires c κs = tt
 
 stopped-requires-2 : tie.Need-stopped-requires-2 Inv-loop μ-loop
 stopped-requires-2 c κs = tt
 
 same-length : tie.Need-same-length Inv-loop μ-loop
-same-length c = c .before .before .before .before .before .before .loop .inv .1 .fit .size ∙ sym (c .before .before .before .before .before .before .before .before .before .before .before .before .before .before .before .before .pre .1 .size)
+same-length c = c .before .before .before .before .loop .inv .1 .fit .size ∙ sym (c .before .before .before .before .before .before .before .before .before .before .before .before .before .before .pre .1 .size)
 
 same-length-2 : tie.Need-same-length-2 Inv-loop μ-loop
-same-length-2 c = c .before .before .before .before .before .before .loop .inv .1 .listed .size ∙ sym (c .before .before .before .before .before .before .before .before .before .before .before .before .before .before .before .before .pre .2)
+same-length-2 c = c .before .before .before .before .loop .inv .1 .listed .size ∙ sym (c .before .before .before .before .before .before .before .before .before .before .before .before .before .before .pre .2)
 
 returns-2 : tie.Need-returns-2 Inv-loop μ-loop
-returns-2 c = (ap walkedOf (c .stopped2 .ensures) ∙ using-no (c .before .before .before .before .before .before .before .before .before .before .before .before .before .before .before .before .args .b .now) (c .before .before .before .before .before .before .before .before .before .before .before .before .before .before .before .before .pre .0) _ _ (c .before .before .before .before .before .before .loop .key) (c .before .before .before .before .before .before .loop .sure) (c .before .before .before .before .before .before .loop .kept) (c .before .before .before .before .before .before .loop .left) (c .before .before .before .before .before .before .loop .last) (c .before .before .before .before .before .before .loop .at) (c .before .before .before .before .before .before .loop .inv .1) (c .before .before .before .before .before .loop-test .taken) (c .before .before .before .before .key-of .result) (c .before .before .before .before .key-of .ensures) (sym (c .before .before .key-follows .ensures) ∙ not-true _ (c .before .if2 .taken)), λ y. absurd (false≢true (sym (ap (λ (u : Used). u .ended) (c .stopped2 .ensures)) ∙ y)))
+returns-2 c = (ap walkedOf (c .stopped2 .ensures) ∙ using-far (c .before .before .before .before .before .before .before .before .before .before .before .before .before .before .args .b .now) (c .before .before .before .before .before .before .before .before .before .before .before .before .before .before .pre .0) _ _ (c .before .before .before .before .loop .found) (c .before .before .before .before .loop .left) (c .before .before .before .before .loop .last) (c .before .before .before .before .loop .at) (c .before .before .before .before .loop .free) (c .before .before .before .before .loop .inv .1) (c .before .before .before .loop-test .taken) _ (c .before .before .before .before .loop .inv .0) _ (c .before .before .may-meet .ensures) (not-true _ (c .before .if2 .taken)), λ y. absurd (false≢true (sym (ap (λ (u : Used). u .ended) (c .stopped2 .ensures)) ∙ y)))
+
+key-of-requires : tie.Need-key-of-requires Inv-loop μ-loop
+key-of-requires c κs = record-inside _ _ (c .before .before .before .before .before .before .before .before .before .before .before .before .before .pre .0) (using-high (c .before .before .before .before .before .before .before .before .before .before .before .before .before .args .b .now) (c .before .before .before .before .before .before .before .before .before .before .before .before .before .pre .0) _ _ (c .before .before .before .loop .found) (c .before .before .before .loop .left) (c .before .before .before .loop .last) (c .before .before .before .loop .at) (c .before .before .before .loop .free) (c .before .before .before .loop .inv .1) (c .before .before .loop-test .taken) _ (c .before .before .before .loop .inv .0) _ (c .before .may-meet .ensures) (not-false _ (c .if2 .left))) (c .before .before .loop-test .taken)
+
+next-of-requires-2 : tie.Need-next-of-requires-2 Inv-loop μ-loop
+next-of-requires-2 c κs = record-inside _ _ (c .before .before .before .before .before .before .before .before .before .before .before .before .before .before .pre .0) (using-high (c .before .before .before .before .before .before .before .before .before .before .before .before .before .before .args .b .now) (c .before .before .before .before .before .before .before .before .before .before .before .before .before .before .pre .0) _ _ (c .before .before .before .before .loop .found) (c .before .before .before .before .loop .left) (c .before .before .before .before .loop .last) (c .before .before .before .before .loop .at) (c .before .before .before .before .loop .free) (c .before .before .before .before .loop .inv .1) (c .before .before .before .loop-test .taken) _ (c .before .before .before .before .loop .inv .0) _ (c .before .before .may-meet .ensures) (not-false _ (c .before .if2 .left))) (c .before .before .before .loop-test .taken)
+
+key-of-requires-2 : tie.Need-key-of-requires-2 Inv-loop μ-loop
+key-of-requires-2 c κs = record-inside _ _ (c .before .before .before .before .before .before .before .before .before .before .before .before .before .before .before .pre .0) (c .before .before .before .before .before .loop .inv .1 .within) (c .before .before .before .before .before .loop .inv .1 .met)
+
+key-follows-requires : tie.Need-key-follows-requires Inv-loop μ-loop
+key-follows-requires c κs = tt
 
 stopped-requires-3 : tie.Need-stopped-requires-3 Inv-loop μ-loop
 stopped-requires-3 c κs = tt
 
 same-length-3 : tie.Need-same-length-3 Inv-loop μ-loop
-same-length-3 c = c .before .before .before .before .before .before .before .loop .inv .1 .fit .size ∙ sym (c .before .before .before .before .before .before .before .before .before .before .before .before .before .before .before .before .before .pre .1 .size)
+same-length-3 c = c .before .before .before .before .before .before .before .before .before .loop .inv .1 .fit .size ∙ sym (c .before .before .before .before .before .before .before .before .before .before .before .before .before .before .before .before .before .before .before .pre .1 .size)
 
 same-length-4 : tie.Need-same-length-4 Inv-loop μ-loop
-same-length-4 c = c .before .before .before .before .before .before .before .loop .inv .1 .listed .size ∙ sym (c .before .before .before .before .before .before .before .before .before .before .before .before .before .before .before .before .before .pre .2)
+same-length-4 c = c .before .before .before .before .before .before .before .before .before .loop .inv .1 .listed .size ∙ sym (c .before .before .before .before .before .before .before .before .before .before .before .before .before .before .before .before .before .before .before .pre .2)
 
 returns-3 : tie.Need-returns-3 Inv-loop μ-loop
-returns-3 c = (ap walkedOf (c .stopped3 .ensures) ∙ using-stop (c .before .before .before .before .before .before .before .before .before .before .before .before .before .before .before .before .before .args .b .now) (c .before .before .before .before .before .before .before .before .before .before .before .before .before .before .before .before .before .pre .0) _ _ (c .before .before .before .before .before .before .before .loop .key) (c .before .before .before .before .before .before .before .loop .sure) (c .before .before .before .before .before .before .before .loop .kept) (c .before .before .before .before .before .before .before .loop .left) (c .before .before .before .before .before .before .before .loop .last) (c .before .before .before .before .before .before .before .loop .at) (c .before .before .before .before .before .before .before .loop .inv .1) (c .before .before .before .before .before .before .loop-test .taken) (c .before .if3 .taken), λ y. absurd (false≢true (sym (ap (λ (u : Used). u .ended) (c .stopped3 .ensures)) ∙ y)))
+returns-3 c = (ap walkedOf (c .stopped3 .ensures) ∙ using-no (c .before .before .before .before .before .before .before .before .before .before .before .before .before .before .before .before .before .before .before .args .b .now) (c .before .before .before .before .before .before .before .before .before .before .before .before .before .before .before .before .before .before .before .pre .0) _ _ (c .before .before .before .before .before .before .before .before .before .loop .found) (c .before .before .before .before .before .before .before .before .before .loop .left) (c .before .before .before .before .before .before .before .before .before .loop .last) (c .before .before .before .before .before .before .before .before .before .loop .at) (c .before .before .before .before .before .before .before .before .before .loop .free) (c .before .before .before .before .before .before .before .before .before .loop .inv .1) (c .before .before .before .before .before .before .before .before .loop-test .taken) _ (c .before .before .before .before .before .before .before .before .before .loop .inv .0) _ (c .before .before .before .before .before .before .before .may-meet .ensures) (not-false _ (c .before .before .before .before .before .before .if2 .left)) (c .before .before .before .before .before .key-of .result) (c .before .before .before .before .before .key-of .ensures) (c .before .before .before .key-of2 .result) (c .before .before .before .key-of2 .ensures) _ (c .before .before .key-follows .ensures) (not-true _ (c .before .if3 .taken)), λ y. absurd (false≢true (sym (ap (λ (u : Used). u .ended) (c .stopped3 .ensures)) ∙ y)))
 
-still-sure-requires : tie.Need-still-sure-requires Inv-loop μ-loop
-still-sure-requires c κs = (c .before .before .before .before .before .before .before .before .before .before .before .before .before .before .before .before .before .pre .0, c .before .before .before .before .before .before .before .loop .inv .1 .fit)
+take-requires : tie.Need-take-requires Inv-loop μ-loop
+take-requires c κs = (c .before .before .before .before .before .before .before .before .before .before .before .before .before .before .before .before .before .before .before .before .pre .0, c .before .before .before .before .before .before .before .before .before .before .loop .inv .1 .fit, c .before .before .before .before .before .before .before .before .before .before .loop .inv .1 .listed .size, using-room (c .before .before .before .before .before .before .before .before .before .before .before .before .before .before .before .before .before .before .before .before .args .b .now) (c .before .before .before .before .before .before .before .before .before .before .before .before .before .before .before .before .before .before .before .before .pre .0) _ _ (c .before .before .before .before .before .before .before .before .before .before .loop .found) (c .before .before .before .before .before .before .before .before .before .before .loop .left) (c .before .before .before .before .before .before .before .before .before .before .loop .last) (c .before .before .before .before .before .before .before .before .before .before .loop .at) (c .before .before .before .before .before .before .before .before .before .before .loop .free) (c .before .before .before .before .before .before .before .before .before .before .loop .inv .1) (c .before .before .before .before .before .before .before .before .before .loop-test .taken) _ (c .before .before .before .before .before .before .before .before .before .before .loop .inv .0) _ (c .before .before .before .before .before .before .before .before .may-meet .ensures) (not-false _ (c .before .before .before .before .before .before .before .if2 .left)), using-good (c .before .before .before .before .before .before .before .before .before .before .before .before .before .before .before .before .before .before .before .before .args .b .now) (c .before .before .before .before .before .before .before .before .before .before .before .before .before .before .before .before .before .before .before .before .pre .0) _ _ (c .before .before .before .before .before .before .before .before .before .before .loop .found) (c .before .before .before .before .before .before .before .before .before .before .loop .left) (c .before .before .before .before .before .before .before .before .before .before .loop .last) (c .before .before .before .before .before .before .before .before .before .before .loop .at) (c .before .before .before .before .before .before .before .before .before .before .loop .free) (c .before .before .before .before .before .before .before .before .before .before .loop .inv .1) (c .before .before .before .before .before .before .before .before .before .loop-test .taken) _ (c .before .before .before .before .before .before .before .before .before .before .loop .inv .0) _ (c .before .before .before .before .before .before .before .before .may-meet .ensures) (not-false _ (c .before .before .before .before .before .before .before .if2 .left)) (c .before .before .before .before .before .before .key-of .result) (c .before .before .before .before .before .before .key-of .ensures) (c .before .before .before .before .key-of2 .result) (c .before .before .before .before .key-of2 .ensures) _ (c .before .before .before .key-follows .ensures) (not-false _ (c .before .before .if3 .left)), using-low (c .before .before .before .before .before .before .before .before .before .before .before .before .before .before .before .before .before .before .before .before .args .b .now) (c .before .before .before .before .before .before .before .before .before .before .before .before .before .before .before .before .before .before .before .before .pre .0) _ _ (c .before .before .before .before .before .before .before .before .before .before .loop .found) (c .before .before .before .before .before .before .before .before .before .before .loop .left) (c .before .before .before .before .before .before .before .before .before .before .loop .last) (c .before .before .before .before .before .before .before .before .before .before .loop .at) (c .before .before .before .before .before .before .before .before .before .before .loop .free) (c .before .before .before .before .before .before .before .before .before .before .loop .inv .1) (c .before .before .before .before .before .before .before .before .before .loop-test .taken) _ (c .before .before .before .before .before .before .before .before .before .before .loop .inv .0) _ (c .before .before .before .before .before .before .before .before .may-meet .ensures) (not-false _ (c .before .before .before .before .before .before .before .if2 .left)))
 
-keep-end-requires : tie.Need-keep-end-requires Inv-loop μ-loop
-keep-end-requires c κs = (c .before .before .before .before .before .before .before .before .before .before .before .before .before .before .before .before .before .before .before .before .pre .0, c .before .before .before .before .before .before .before .before .before .before .loop .inv .1 .fit, c .before .before .before .before .before .before .before .before .before .before .loop .inv .1 .listed .size, using-room (c .before .before .before .before .before .before .before .before .before .before .before .before .before .before .before .before .before .before .before .before .args .b .now) (c .before .before .before .before .before .before .before .before .before .before .before .before .before .before .before .before .before .before .before .before .pre .0) _ _ (c .before .before .before .before .before .before .before .before .before .before .loop .key) (c .before .before .before .before .before .before .before .before .before .before .loop .sure) (c .before .before .before .before .before .before .before .before .before .before .loop .kept) (c .before .before .before .before .before .before .before .before .before .before .loop .left) (c .before .before .before .before .before .before .before .before .before .before .loop .last) (c .before .before .before .before .before .before .before .before .before .before .loop .at) (c .before .before .before .before .before .before .before .before .before .before .loop .inv .1) (c .before .before .before .before .if3 .left), using-low (c .before .before .before .before .before .before .before .before .before .before .before .before .before .before .before .before .before .before .before .before .args .b .now) (c .before .before .before .before .before .before .before .before .before .before .before .before .before .before .before .before .before .before .before .before .pre .0) _ _ (c .before .before .before .before .before .before .before .before .before .before .loop .key) (c .before .before .before .before .before .before .before .before .before .before .loop .sure) (c .before .before .before .before .before .before .before .before .before .before .loop .kept) (c .before .before .before .before .before .before .before .before .before .before .loop .left) (c .before .before .before .before .before .before .before .before .before .before .loop .last) (c .before .before .before .before .before .before .before .before .before .before .loop .at) (c .before .before .before .before .before .before .before .before .before .before .loop .inv .1))
-
-mark-named-requires : tie.Need-mark-named-requires Inv-loop μ-loop
-mark-named-requires c κs = (c .before .before .before .before .before .before .before .before .before .before .before .before .before .before .loop .inv .1 .fit .size, using-low (c .before .before .before .before .before .before .before .before .before .before .before .before .before .before .before .before .before .before .before .before .before .before .before .before .args .b .now) (c .before .before .before .before .before .before .before .before .before .before .before .before .before .before .before .before .before .before .before .before .before .before .before .before .pre .0) _ _ (c .before .before .before .before .before .before .before .before .before .before .before .before .before .before .loop .key) (c .before .before .before .before .before .before .before .before .before .before .before .before .before .before .loop .sure) (c .before .before .before .before .before .before .before .before .before .before .before .before .before .before .loop .kept) (c .before .before .before .before .before .before .before .before .before .before .before .before .before .before .loop .left) (c .before .before .before .before .before .before .before .before .before .before .before .before .before .before .loop .last) (c .before .before .before .before .before .before .before .before .before .before .before .before .before .before .loop .at) (c .before .before .before .before .before .before .before .before .before .before .before .before .before .before .loop .inv .1))
+step-requires : tie.Need-step-requires Inv-loop μ-loop
+step-requires c κs = (c .before .before .before .before .before .before .before .before .before .before .before .before .before .before .before .before .before .before .before .before .before .before .before .before .before .pre .0, c .before .before .before .before .before .before .before .before .before .before .before .before .before .before .before .loop .inv .0, using-enough (c .before .before .before .before .before .before .before .before .before .before .before .before .before .before .before .before .before .before .before .before .before .before .before .before .before .args .b .now) (c .before .before .before .before .before .before .before .before .before .before .before .before .before .before .before .before .before .before .before .before .before .before .before .before .before .pre .0) _ _ (c .before .before .before .before .before .before .before .before .before .before .before .before .before .before .before .loop .found) (c .before .before .before .before .before .before .before .before .before .before .before .before .before .before .before .loop .left) (c .before .before .before .before .before .before .before .before .before .before .before .before .before .before .before .loop .last) (c .before .before .before .before .before .before .before .before .before .before .before .before .before .before .before .loop .at) (c .before .before .before .before .before .before .before .before .before .before .before .before .before .before .before .loop .free) (c .before .before .before .before .before .before .before .before .before .before .before .before .before .before .before .loop .inv .1) (c .before .before .before .before .before .before .before .before .before .before .before .before .before .before .loop-test .taken) _ (c .before .before .before .before .before .before .before .before .before .before .before .before .before .before .before .loop .inv .0) _ (c .before .before .before .before .before .before .before .before .before .before .before .before .before .may-meet .ensures) (not-false _ (c .before .before .before .before .before .before .before .before .before .before .before .before .if2 .left)))
 
 sub-left-2 : tie.Need-sub-left-2 Inv-loop μ-loop
-sub-left-2 c = omega (arith, c .before .before .before .before .before .before .before .before .before .before .before .if3 .left)
+sub-left-2 c = let n : c .before .before .before .before .before .before .before .before .before .before .before .before .before .before .before .before .loop .left ≢ 0 = using-left (c .before .before .before .before .before .before .before .before .before .before .before .before .before .before .before .before .before .before .before .before .before .before .before .before .before .before .args .b .now) (c .before .before .before .before .before .before .before .before .before .before .before .before .before .before .before .before .before .before .before .before .before .before .before .before .before .before .pre .0) _ _ (c .before .before .before .before .before .before .before .before .before .before .before .before .before .before .before .before .loop .found) (c .before .before .before .before .before .before .before .before .before .before .before .before .before .before .before .before .loop .left) (c .before .before .before .before .before .before .before .before .before .before .before .before .before .before .before .before .loop .last) (c .before .before .before .before .before .before .before .before .before .before .before .before .before .before .before .before .loop .at) (c .before .before .before .before .before .before .before .before .before .before .before .before .before .before .before .before .loop .free) (c .before .before .before .before .before .before .before .before .before .before .before .before .before .before .before .before .loop .inv .1) (c .before .before .before .before .before .before .before .before .before .before .before .before .before .before .before .loop-test .taken) _ (c .before .before .before .before .before .before .before .before .before .before .before .before .before .before .before .before .loop .inv .0) _ (c .before .before .before .before .before .before .before .before .before .before .before .before .before .before .may-meet .ensures) (not-false _ (c .before .before .before .before .before .before .before .before .before .before .before .before .before .if2 .left)) in omega arith
 
 loop-less : tie.Need-loop-less Inv-loop μ-loop
-loop-less c = omega (arith, c .before .before .before .before .before .before .before .before .before .before .before .if3 .left)
+loop-less c = let n : c .before .before .before .before .before .before .before .before .before .before .before .before .before .before .before .before .loop .left ≢ 0 = using-left (c .before .before .before .before .before .before .before .before .before .before .before .before .before .before .before .before .before .before .before .before .before .before .before .before .before .before .args .b .now) (c .before .before .before .before .before .before .before .before .before .before .before .before .before .before .before .before .before .before .before .before .before .before .before .before .before .before .pre .0) _ _ (c .before .before .before .before .before .before .before .before .before .before .before .before .before .before .before .before .loop .found) (c .before .before .before .before .before .before .before .before .before .before .before .before .before .before .before .before .loop .left) (c .before .before .before .before .before .before .before .before .before .before .before .before .before .before .before .before .loop .last) (c .before .before .before .before .before .before .before .before .before .before .before .before .before .before .before .before .loop .at) (c .before .before .before .before .before .before .before .before .before .before .before .before .before .before .before .before .loop .free) (c .before .before .before .before .before .before .before .before .before .before .before .before .before .before .before .before .loop .inv .1) (c .before .before .before .before .before .before .before .before .before .before .before .before .before .before .before .loop-test .taken) _ (c .before .before .before .before .before .before .before .before .before .before .before .before .before .before .before .before .loop .inv .0) _ (c .before .before .before .before .before .before .before .before .before .before .before .before .before .before .may-meet .ensures) (not-false _ (c .before .before .before .before .before .before .before .before .before .before .before .before .before .if2 .left)) in omega arith
 
 loop-again : tie.Need-loop-again Inv-loop μ-loop
-loop-again c = (c .before .before .before .before .before .before .before .before .before .before .before .before .before .before .before .before .before .loop .inv .0, using-next (c .before .before .before .before .before .before .before .before .before .before .before .before .before .before .before .before .before .before .before .before .before .before .before .before .before .before .before .args .b .now) (c .before .before .before .before .before .before .before .before .before .before .before .before .before .before .before .before .before .before .before .before .before .before .before .before .before .before .before .pre .0) _ _ (c .before .before .before .before .before .before .before .before .before .before .before .before .before .before .before .before .before .loop .key) (c .before .before .before .before .before .before .before .before .before .before .before .before .before .before .before .before .before .loop .sure) (c .before .before .before .before .before .before .before .before .before .before .before .before .before .before .before .before .before .loop .kept) (c .before .before .before .before .before .before .before .before .before .before .before .before .before .before .before .before .before .loop .left) (c .before .before .before .before .before .before .before .before .before .before .before .before .before .before .before .before .before .loop .last) (c .before .before .before .before .before .before .before .before .before .before .before .before .before .before .before .before .before .loop .at) (c .before .before .before .before .before .before .before .before .before .before .before .before .before .before .before .before .before .loop .inv .1) (c .before .before .before .before .before .before .before .before .before .before .before .before .before .before .before .before .loop-test .taken) (c .before .before .before .before .before .before .before .before .before .before .before .before .before .before .before .key-of .result) (c .before .before .before .before .before .before .before .before .before .before .before .before .before .before .before .key-of .ensures) (sym (c .before .before .before .before .before .before .before .before .before .before .before .before .before .key-follows .ensures) ∙ not-false _ (c .before .before .before .before .before .before .before .before .before .before .before .before .if2 .left)) (c .before .before .before .before .before .before .before .before .before .before .before .if3 .left) _ (c .before .before .before .before .before .before .before .before .before .still-sure .ensures) _ (c .before .before .before .before .before .before .keep-end .ensures .0) _ (c .before .before .before .before .before .before .keep-end .ensures .1) _ (c .before .before .mark-named .ensures) _ (c .before .before .before .before .before .before .before .before .before .before .before .before .before .before .next-of2 .ensures))
+loop-again c = (c .before .before .before .before .before .before .before .before .before .before .before .before .before .before .before .before .loop .inv .0, using-next (c .before .before .before .before .before .before .before .before .before .before .before .before .before .before .before .before .before .before .before .before .before .before .before .before .before .before .args .b .now) (c .before .before .before .before .before .before .before .before .before .before .before .before .before .before .before .before .before .before .before .before .before .before .before .before .before .before .pre .0) _ _ (c .before .before .before .before .before .before .before .before .before .before .before .before .before .before .before .before .loop .found) (c .before .before .before .before .before .before .before .before .before .before .before .before .before .before .before .before .loop .left) (c .before .before .before .before .before .before .before .before .before .before .before .before .before .before .before .before .loop .last) (c .before .before .before .before .before .before .before .before .before .before .before .before .before .before .before .before .loop .at) (c .before .before .before .before .before .before .before .before .before .before .before .before .before .before .before .before .loop .free) (c .before .before .before .before .before .before .before .before .before .before .before .before .before .before .before .before .loop .inv .1) (c .before .before .before .before .before .before .before .before .before .before .before .before .before .before .before .loop-test .taken) _ (c .before .before .before .before .before .before .before .before .before .before .before .before .before .before .before .before .loop .inv .0) _ (c .before .before .before .before .before .before .before .before .before .before .before .before .before .before .may-meet .ensures) (not-false _ (c .before .before .before .before .before .before .before .before .before .before .before .before .before .if2 .left)) (c .before .before .before .before .before .before .before .before .before .before .before .before .key-of .result) (c .before .before .before .before .before .before .before .before .before .before .before .before .key-of .ensures) (c .before .before .before .before .before .before .before .before .before .before .key-of2 .result) (c .before .before .before .before .before .before .before .before .before .before .key-of2 .ensures) _ (c .before .before .before .before .before .before .before .before .before .key-follows .ensures) (not-false _ (c .before .before .before .before .before .before .before .before .if3 .left)) _ (c .before .before .before .before .before .take .ensures .0) _ (c .before .before .before .before .before .take .ensures .1 .0) _ (c .before .before .before .before .before .take .ensures .1 .1) _ (c .before .before .before .before .before .before .before .before .before .before .before .next-of2 .ensures) _ (c .step .ensures))
 
-sub-t27 : tie.Need-sub-t27 Inv-loop μ-loop
-sub-t27 c = omega (arith, c .before .loop .inv .0, c .before .loop .inv .1 .walking .few)
+sub-ended : tie.Need-sub-ended Inv-loop μ-loop
+sub-ended c = omega (arith, c .before .loop .inv .0, c .before .loop .inv .1 .few)
+
+ended-requires : tie.Need-ended-requires Inv-loop μ-loop
+ended-requires c κs = tt
 
 same-length-5 : tie.Need-same-length-5 Inv-loop μ-loop
-same-length-5 c = c .before .loop .inv .1 .fit .size ∙ sym (c .before .before .before .before .before .before .before .before .before .before .before .pre .1 .size)
+same-length-5 c = c .before .before .loop .inv .1 .fit .size ∙ sym (c .before .before .before .before .before .before .before .before .before .before .before .before .pre .1 .size)
 
 same-length-6 : tie.Need-same-length-6 Inv-loop μ-loop
-same-length-6 c = c .before .loop .inv .1 .listed .size ∙ sym (c .before .before .before .before .before .before .before .before .before .before .before .pre .2)
+same-length-6 c = c .before .before .loop .inv .1 .listed .size ∙ sym (c .before .before .before .before .before .before .before .before .before .before .before .before .pre .2)
 
 returns-4 : tie.Need-returns-4 Inv-loop μ-loop
-returns-4 c = (ap (λ (n : ℕ). record { ended = true; count = n - c .before .loop .left; last = c .before .loop .last }) (c .before .loop .inv .0) ∙ using-end (c .before .before .before .before .before .before .before .before .before .before .before .args .b .now) (c .before .before .before .before .before .before .before .before .before .before .before .pre .0) _ _ (c .before .loop .key) (c .before .loop .sure) (c .before .loop .kept) (c .before .loop .left) (c .before .loop .last) (c .before .loop .at) (c .before .loop .inv .1) (c .loop-test .left), λ y. using-found (c .before .before .before .before .before .before .before .before .before .before .before .args .b .now) (c .before .before .before .before .before .before .before .before .before .before .before .pre .0) _ _ (c .before .loop .key) (c .before .loop .sure) (c .before .loop .kept) (c .before .loop .left) (c .before .loop .last) (c .before .loop .at) (c .before .loop .inv .1) (c .loop-test .left) _)
+returns-4 c = (ap walkedOf (c .ended .ensures) ∙ ap (λ (n : ℕ). record { ended = true; count = n - c .before .before .loop .left; last = c .before .before .loop .last }) (c .before .before .loop .inv .0) ∙ using-end (c .before .before .before .before .before .before .before .before .before .before .before .before .args .b .now) (c .before .before .before .before .before .before .before .before .before .before .before .before .pre .0) _ _ (c .before .before .loop .found) (c .before .before .loop .left) (c .before .before .loop .last) (c .before .before .loop .at) (c .before .before .loop .free) (c .before .before .loop .inv .1) (c .before .loop-test .left), λ y. subst (λ (u : Used). UsedFound (c .before .before .before .before .before .before .before .before .before .before .before .before .args .b .now) (c .before .before .loop .marks) (c .before .before .loop .list) (u .found) (u .free)) (sym (c .ended .ensures)) (using-found (c .before .before .before .before .before .before .before .before .before .before .before .before .args .b .now) (c .before .before .before .before .before .before .before .before .before .before .before .before .pre .0) _ _ (c .before .before .loop .found) (c .before .before .loop .left) (c .before .before .loop .last) (c .before .before .loop .at) (c .before .before .loop .free) (c .before .before .loop .inv .1) (c .before .loop-test .left)))
 
 pub walk-used-spec : {M : Type 1} → statement M
 walk-used-spec =
@@ -130,30 +138,32 @@ walk-used-spec =
     starts-right-requires
     stopped-requires
     returns
-    head-word-requires
     capacity-requires
-    node-key-requires
+    free-start-requires
     sub-left
+    head-word-requires
     next-of-requires
     loop-holds
-    key-of-requires
-    next-of-requires-2
-    key-follows-requires
+    may-meet-requires
     stopped-requires-2
     same-length
     same-length-2
     returns-2
+    key-of-requires
+    next-of-requires-2
+    key-of-requires-2
+    key-follows-requires
     stopped-requires-3
     same-length-3
     same-length-4
     returns-3
-    still-sure-requires
-    keep-end-requires
-    mark-named-requires
+    take-requires
+    step-requires
     sub-left-2
     loop-less
     loop-again
-    sub-t27
+    sub-ended
+    ended-requires
     same-length-5
     same-length-6
     returns-4)
