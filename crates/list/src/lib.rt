@@ -300,7 +300,7 @@ fn least_above(b: &[u32], from: usize, q: PairQuery, seen: u64) -> u64
     let mut best: u64 = 0;
     let mut at = from;
     while at != 0 {
-        let k = chain::used_key(b, at);
+        let k = records::key_of(b, at);
         if outside_pairs(q, k) {
             return best;
         }
@@ -357,7 +357,7 @@ fn count_in_order(b: &[u32], from: usize, q: Query) -> usize
     let mut seen: u64 = 0;
     let mut at = from;
     while at != 0 {
-        let k = chain::used_key(b, at);
+        let k = records::key_of(b, at);
         if is_outside(q, k) {
             return count;
         }
@@ -382,7 +382,7 @@ fn write_in_order(b: &[u32], from: usize, q: Query, list: &mut [u32]) -> usize
     let mut seen: u64 = 0;
     let mut at = from;
     while at != 0 {
-        let k = chain::used_key(b, at);
+        let k = records::key_of(b, at);
         if is_outside(q, k) {
             return done;
         }

@@ -9,7 +9,7 @@ use Rattle.list.proofs.count_in_order.Reads as reads
 use Rattle.list.proofs.count_in_order.Lts as lts
 use Rattle.list.proofs.first_code.Reads as first-code-reads
 use Rattle.list.proofs.is_outside.Reads as is-outside-reads
-use Rattle.chain.proofs.used_key.Reads as used-key-reads
+use Rattle.records.proofs.key_of.Reads as key-of-reads
 use Rattle.records.proofs.next_of.Reads as next-of-reads
 
 abbrev Inv-loop : tie.InvT-loop
@@ -23,8 +23,8 @@ loop-holds : tie.Need-loop-holds Inv-loop μ-loop
 loop-holds c = rise-start _ _ (c .before .pre .0) (c .before .pre .2) _ (c .before .pre .1)
 
 -- src/lib.rt:348:13
-used-key-requires : tie.Need-used-key-requires Inv-loop μ-loop
-used-key-requires c κs = (c .before .before .before .pre .0 .linked, rise-inside _ _ (c .before .before .before .pre .0) (c .before .before .before .pre .2) _ _ _ (c .before .loop .inv) (c .loop-test .taken))
+key-of-requires : tie.Need-key-of-requires Inv-loop μ-loop
+key-of-requires c κs = rise-inside _ _ (c .before .before .before .pre .0) (c .before .before .before .pre .2) _ _ _ (c .before .loop .inv) (c .loop-test .taken)
 
 -- src/lib.rt:349:12
 is-outside-requires : tie.Need-is-outside-requires Inv-loop μ-loop
@@ -32,7 +32,7 @@ is-outside-requires c κs = tt
 
 -- src/lib.rt:350:13
 returns : tie.Need-returns Inv-loop μ-loop
-returns c = rise-end _ _ (c .before .before .before .before .before .before .pre .0) (c .before .before .before .before .before .before .pre .2) _ _ _ (c .before .before .before .before .loop .inv) (silent-outside _ _ _ (c .before .before .before .before .loop .inv .walked) (c .before .before .before .before .loop .inv .onward) (c .before .before .before .loop-test .taken) _ _ (c .before .before .used-key .ensures) (c .before .is-outside .ensures) (c .if1 .taken))
+returns c = rise-end _ _ (c .before .before .before .before .before .before .pre .0) (c .before .before .before .before .before .before .pre .2) _ _ _ (c .before .before .before .before .loop .inv) (silent-outside _ _ _ (c .before .before .before .before .loop .inv .walked) (c .before .before .before .before .loop .inv .onward) (c .before .before .before .loop-test .taken) _ _ (c .before .before .key-of .ensures) (c .before .is-outside .ensures) (c .if1 .taken))
 
 -- src/lib.rt:352:13
 first-code-requires : tie.Need-first-code-requires Inv-loop μ-loop
@@ -48,7 +48,7 @@ loop-less c = rise-less _ _ (c .before .before .before .before .before .before .
 
 -- src/lib.rt:347:5
 loop-again : tie.Need-loop-again Inv-loop μ-loop
-loop-again c = rise-skip _ _ (c .before .before .before .before .before .before .before .before .before .pre .0) (c .before .before .before .before .before .before .before .before .before .pre .2) _ _ _ (c .before .before .before .before .before .before .before .loop .inv) (c .before .before .before .before .before .before .loop-test .taken) _ _ _ (c .before .before .before .before .before .used-key .ensures) (c .before .before .first-code .ensures) (c .if2 .taken) (c .before .next-of .ensures)
+loop-again c = rise-skip _ _ (c .before .before .before .before .before .before .before .before .before .pre .0) (c .before .before .before .before .before .before .before .before .before .pre .2) _ _ _ (c .before .before .before .before .before .before .before .loop .inv) (c .before .before .before .before .before .before .loop-test .taken) _ _ _ (c .before .before .before .before .before .key-of .ensures) (c .before .before .first-code .ensures) (c .if2 .taken) (c .before .next-of .ensures)
 
 -- src/lib.rt:357:9
 add-count : tie.Need-add-count Inv-loop μ-loop
@@ -60,7 +60,7 @@ loop-less-2 c = rise-less _ _ (c .before .before .before .before .before .before
 
 -- src/lib.rt:347:5
 loop-again-2 : tie.Need-loop-again-2 Inv-loop μ-loop
-loop-again-2 c = rise-on _ _ (c .before .before .before .before .before .before .before .before .before .pre .0) (c .before .before .before .before .before .before .before .before .before .pre .2) _ _ _ (c .before .before .before .before .before .before .before .loop .inv) (c .before .before .before .before .before .before .loop-test .taken) _ _ (c .before .before .before .before .before .used-key .ensures) (c .before .before .first-code .ensures) (c .if2 .left) _ _ refl (c .before .next-of .ensures)
+loop-again-2 c = rise-on _ _ (c .before .before .before .before .before .before .before .before .before .pre .0) (c .before .before .before .before .before .before .before .before .before .pre .2) _ _ _ (c .before .before .before .before .before .before .before .loop .inv) (c .before .before .before .before .before .before .loop-test .taken) _ _ (c .before .before .before .before .before .key-of .ensures) (c .before .before .first-code .ensures) (c .if2 .left) _ _ refl (c .before .next-of .ensures)
 
 -- src/lib.rt:340:1
 returns-2 : tie.Need-returns-2 Inv-loop μ-loop
@@ -73,7 +73,7 @@ count-in-order-spec =
     Inv-loop
     μ-loop
     loop-holds
-    used-key-requires
+    key-of-requires
     is-outside-requires
     returns
     first-code-requires

@@ -11,7 +11,7 @@ use Rattle.list.proofs.nearer_code.Reads as nearer-code-reads
 use Rattle.list.proofs.outside_pairs.Reads as outside-pairs-reads
 use Rattle.list.proofs.second_pair_code.Reads as second-pair-code-reads
 use Rattle.list.proofs.touches.Reads as touches-reads
-use Rattle.chain.proofs.used_key.Reads as used-key-reads
+use Rattle.records.proofs.key_of.Reads as key-of-reads
 use Rattle.records.proofs.next_of.Reads as next-of-reads
 
 abbrev Inv-loop : tie.InvT-loop
@@ -25,8 +25,8 @@ loop-holds : tie.Need-loop-holds Inv-loop μ-loop
 loop-holds c = near-start _ _ _ _ (c .before .pre .0) (c .before .pre .1)
 
 -- src/lib.rt:302:13
-used-key-requires : tie.Need-used-key-requires Inv-loop μ-loop
-used-key-requires c κs = (c .before .before .before .pre .0, near-inside _ _ _ _ _ (c .before .loop .inv) (c .loop-test .taken))
+key-of-requires : tie.Need-key-of-requires Inv-loop μ-loop
+key-of-requires c κs = near-inside _ _ _ _ _ (c .before .loop .inv) (c .loop-test .taken)
 
 -- src/lib.rt:303:12
 outside-pairs-requires : tie.Need-outside-pairs-requires Inv-loop μ-loop
@@ -34,7 +34,7 @@ outside-pairs-requires c κs = tt
 
 -- src/lib.rt:304:13
 returns : tie.Need-returns Inv-loop μ-loop
-returns c = near-end _ _ _ _ _ (c .before .before .before .before .loop .inv) (silent-outside _ _ _ (c .before .before .before .before .loop .inv .walked) (c .before .before .before .before .loop .inv .onward) (c .before .before .before .loop-test .taken) _ _ (c .before .before .used-key .ensures) (c .before .outside-pairs .ensures) (c .if1 .taken))
+returns c = near-end _ _ _ _ _ (c .before .before .before .before .loop .inv) (silent-outside _ _ _ (c .before .before .before .before .loop .inv .walked) (c .before .before .before .before .loop .inv .onward) (c .before .before .before .loop-test .taken) _ _ (c .before .before .key-of .ensures) (c .before .outside-pairs .ensures) (c .if1 .taken))
 
 -- src/lib.rt:306:9
 next-of-requires : tie.Need-next-of-requires Inv-loop μ-loop
@@ -50,7 +50,7 @@ loop-less c = near-less _ _ _ _ _ (c .before .before .before .before .before .be
 
 -- src/lib.rt:301:5
 loop-again : tie.Need-loop-again Inv-loop μ-loop
-loop-again c = near-skip _ _ _ _ _ (c .before .before .before .before .before .before .before .loop .inv) (c .before .before .before .before .before .before .loop-test .taken) _ _ (c .before .before .before .before .before .used-key .ensures) (apart-silent _ _ _ (c .before .touches .ensures) (c .if2 .taken)) (c .before .before .next-of .ensures)
+loop-again c = near-skip _ _ _ _ _ (c .before .before .before .before .before .before .before .loop .inv) (c .before .before .before .before .before .before .loop-test .taken) _ _ (c .before .before .before .before .before .key-of .ensures) (apart-silent _ _ _ (c .before .touches .ensures) (c .if2 .taken)) (c .before .before .next-of .ensures)
 
 -- src/lib.rt:310:43
 first-pair-code-requires : tie.Need-first-pair-code-requires Inv-loop μ-loop
@@ -74,7 +74,7 @@ loop-less-2 c = near-less _ _ _ _ _ (c .before .before .before .before .before .
 
 -- src/lib.rt:301:5
 loop-again-2 : tie.Need-loop-again-2 Inv-loop μ-loop
-loop-again-2 c = near-on _ _ _ _ _ (c .before .before .before .before .before .before .before .before .before .before .before .loop .inv) (c .before .before .before .before .before .before .before .before .before .before .loop-test .taken) _ _ _ _ _ _ (c .before .before .before .before .before .before .before .before .before .used-key .ensures) (c .before .before .before .first-pair-code .ensures) (c .before .before .nearer-code .ensures) (c .before .second-pair-code .ensures) (c .nearer-code2 .ensures) (c .before .before .before .before .before .before .next-of .ensures)
+loop-again-2 c = near-on _ _ _ _ _ (c .before .before .before .before .before .before .before .before .before .before .before .loop .inv) (c .before .before .before .before .before .before .before .before .before .before .loop-test .taken) _ _ _ _ _ _ (c .before .before .before .before .before .before .before .before .before .key-of .ensures) (c .before .before .before .first-pair-code .ensures) (c .before .before .nearer-code .ensures) (c .before .second-pair-code .ensures) (c .nearer-code2 .ensures) (c .before .before .before .before .before .before .next-of .ensures)
 
 -- src/lib.rt:295:1
 returns-2 : tie.Need-returns-2 Inv-loop μ-loop
@@ -87,7 +87,7 @@ least-above-spec =
     Inv-loop
     μ-loop
     loop-holds
-    used-key-requires
+    key-of-requires
     outside-pairs-requires
     returns
     next-of-requires

@@ -9,7 +9,7 @@ use Rattle.list.proofs.write_in_order.Reads as reads
 use Rattle.list.proofs.write_in_order.Lts as lts
 use Rattle.list.proofs.first_code.Reads as first-code-reads
 use Rattle.list.proofs.is_outside.Reads as is-outside-reads
-use Rattle.chain.proofs.used_key.Reads as used-key-reads
+use Rattle.records.proofs.key_of.Reads as key-of-reads
 use Rattle.records.proofs.next_of.Reads as next-of-reads
 
 abbrev Inv-loop : tie.InvT-loop
@@ -23,8 +23,8 @@ loop-holds : tie.Need-loop-holds Inv-loop μ-loop
 loop-holds c = fill-start _ _ (c .before .before .pre .0) (c .before .before .pre .2) _ (c .before .before .pre .3) _ (c .before .before .pre .1)
 
 -- src/lib.rt:373:13
-used-key-requires : tie.Need-used-key-requires Inv-loop μ-loop
-used-key-requires c κs = (c .before .before .before .before .pre .0 .linked, rise-inside _ _ (c .before .before .before .before .pre .0) (c .before .before .before .before .pre .2) _ _ _ (c .before .loop .inv .rises) (c .loop-test .taken))
+key-of-requires : tie.Need-key-of-requires Inv-loop μ-loop
+key-of-requires c κs = rise-inside _ _ (c .before .before .before .before .pre .0) (c .before .before .before .before .pre .2) _ _ _ (c .before .loop .inv .rises) (c .loop-test .taken)
 
 -- src/lib.rt:374:12
 is-outside-requires : tie.Need-is-outside-requires Inv-loop μ-loop
@@ -36,7 +36,7 @@ same-length c = fill-length _ _ (c .before .before .before .before .before .befo
 
 -- src/lib.rt:375:13
 returns : tie.Need-returns Inv-loop μ-loop
-returns c = (rise-end _ _ (c .before .before .before .before .before .before .before .pre .0) (c .before .before .before .before .before .before .before .pre .2) _ _ _ (c .before .before .before .before .loop .inv .rises) (silent-outside _ _ _ (c .before .before .before .before .loop .inv .rises .walked) (c .before .before .before .before .loop .inv .rises .onward) (c .before .before .before .loop-test .taken) _ _ (c .before .before .used-key .ensures) (c .before .is-outside .ensures) (c .if1 .taken)), fill-end _ _ (c .before .before .before .before .before .before .before .pre .0) (c .before .before .before .before .before .before .before .pre .2) _ (c .before .before .before .before .before .before .before .pre .3) _ _ _ _ (c .before .before .before .before .loop .inv) (silent-outside _ _ _ (c .before .before .before .before .loop .inv .rises .walked) (c .before .before .before .before .loop .inv .rises .onward) (c .before .before .before .loop-test .taken) _ _ (c .before .before .used-key .ensures) (c .before .is-outside .ensures) (c .if1 .taken)))
+returns c = (rise-end _ _ (c .before .before .before .before .before .before .before .pre .0) (c .before .before .before .before .before .before .before .pre .2) _ _ _ (c .before .before .before .before .loop .inv .rises) (silent-outside _ _ _ (c .before .before .before .before .loop .inv .rises .walked) (c .before .before .before .before .loop .inv .rises .onward) (c .before .before .before .loop-test .taken) _ _ (c .before .before .key-of .ensures) (c .before .is-outside .ensures) (c .if1 .taken)), fill-end _ _ (c .before .before .before .before .before .before .before .pre .0) (c .before .before .before .before .before .before .before .pre .2) _ (c .before .before .before .before .before .before .before .pre .3) _ _ _ _ (c .before .before .before .before .loop .inv) (silent-outside _ _ _ (c .before .before .before .before .loop .inv .rises .walked) (c .before .before .before .before .loop .inv .rises .onward) (c .before .before .before .loop-test .taken) _ _ (c .before .before .key-of .ensures) (c .before .is-outside .ensures) (c .if1 .taken)))
 
 -- src/lib.rt:377:13
 first-code-requires : tie.Need-first-code-requires Inv-loop μ-loop
@@ -52,7 +52,7 @@ loop-less c = rise-less _ _ (c .before .before .before .before .before .before .
 
 -- src/lib.rt:372:5
 loop-again : tie.Need-loop-again Inv-loop μ-loop
-loop-again c = fill-skip _ _ (c .before .before .before .before .before .before .before .before .before .before .pre .0) (c .before .before .before .before .before .before .before .before .before .before .pre .2) _ (c .before .before .before .before .before .before .before .before .before .before .pre .3) _ _ _ _ (c .before .before .before .before .before .before .before .loop .inv) (c .before .before .before .before .before .before .loop-test .taken) _ _ _ (c .before .before .before .before .before .used-key .ensures) (c .before .before .first-code .ensures) (c .if2 .taken) (c .before .next-of .ensures)
+loop-again c = fill-skip _ _ (c .before .before .before .before .before .before .before .before .before .before .pre .0) (c .before .before .before .before .before .before .before .before .before .before .pre .2) _ (c .before .before .before .before .before .before .before .before .before .before .pre .3) _ _ _ _ (c .before .before .before .before .before .before .before .loop .inv) (c .before .before .before .before .before .before .loop-test .taken) _ _ _ (c .before .before .before .before .before .key-of .ensures) (c .before .before .first-code .ensures) (c .if2 .taken) (c .before .next-of .ensures)
 
 -- src/lib.rt:382:23
 sub-list : tie.Need-sub-list Inv-loop μ-loop
@@ -60,7 +60,7 @@ sub-list c = omega arith
 
 -- src/lib.rt:382:22
 cast-list : tie.Need-cast-list Inv-loop μ-loop
-cast-list c = omega (arith, rise-fits _ _ (c .before .before .before .before .before .before .before .before .before .before .pre .0) (c .before .before .before .before .before .before .before .before .before .before .pre .2) _ _ _ (c .before .before .before .before .before .before .before .loop .inv .rises) (c .before .before .before .before .before .before .loop-test .taken) _ _ (c .before .before .before .before .before .used-key .ensures) (c .before .before .first-code .ensures) (c .if2 .left))
+cast-list c = omega (arith, rise-fits _ _ (c .before .before .before .before .before .before .before .before .before .before .pre .0) (c .before .before .before .before .before .before .before .before .before .before .pre .2) _ _ _ (c .before .before .before .before .before .before .before .loop .inv .rises) (c .before .before .before .before .before .before .loop-test .taken) _ _ (c .before .before .before .before .before .key-of .ensures) (c .before .before .first-code .ensures) (c .if2 .left))
 
 -- src/lib.rt:382:9
 mul-list : tie.Need-mul-list Inv-loop μ-loop
@@ -68,7 +68,7 @@ mul-list c = omega (arith, rise-most _ _ (c .before .before .before .before .bef
 
 -- src/lib.rt:382:9
 slice-write-list : tie.Need-slice-write-list Inv-loop μ-loop
-slice-write-list c = fill-index _ _ (c .before .before .before .before .before .before .before .before .before .before .pre .0) (c .before .before .before .before .before .before .before .before .before .before .pre .2) _ (c .before .before .before .before .before .before .before .before .before .before .pre .3) _ _ _ _ (c .before .before .before .before .before .before .before .loop .inv) (c .before .before .before .before .before .before .loop-test .taken) _ _ (c .before .before .before .before .before .used-key .ensures) (c .before .before .first-code .ensures) (c .if2 .left)
+slice-write-list c = fill-index _ _ (c .before .before .before .before .before .before .before .before .before .before .pre .0) (c .before .before .before .before .before .before .before .before .before .before .pre .2) _ (c .before .before .before .before .before .before .before .before .before .before .pre .3) _ _ _ _ (c .before .before .before .before .before .before .before .loop .inv) (c .before .before .before .before .before .before .loop-test .taken) _ _ (c .before .before .before .before .before .key-of .ensures) (c .before .before .first-code .ensures) (c .if2 .left)
 
 -- src/lib.rt:383:9
 add-done : tie.Need-add-done Inv-loop μ-loop
@@ -80,7 +80,7 @@ loop-less-2 c = rise-less _ _ (c .before .before .before .before .before .before
 
 -- src/lib.rt:372:5
 loop-again-2 : tie.Need-loop-again-2 Inv-loop μ-loop
-loop-again-2 c = fill-on _ _ (c .before .before .before .before .before .before .before .before .before .before .pre .0) (c .before .before .before .before .before .before .before .before .before .before .pre .2) _ (c .before .before .before .before .before .before .before .before .before .before .pre .3) _ _ _ _ (c .before .before .before .before .before .before .before .loop .inv) (c .before .before .before .before .before .before .loop-test .taken) _ _ (c .before .before .before .before .before .used-key .ensures) (c .before .before .first-code .ensures) (c .if2 .left) _ _ _ refl (c .before .next-of .ensures) refl
+loop-again-2 c = fill-on _ _ (c .before .before .before .before .before .before .before .before .before .before .pre .0) (c .before .before .before .before .before .before .before .before .before .before .pre .2) _ (c .before .before .before .before .before .before .before .before .before .before .pre .3) _ _ _ _ (c .before .before .before .before .before .before .before .loop .inv) (c .before .before .before .before .before .before .loop-test .taken) _ _ (c .before .before .before .before .before .key-of .ensures) (c .before .before .first-code .ensures) (c .if2 .left) _ _ _ refl (c .before .next-of .ensures) refl
 
 -- src/lib.rt:364:1
 same-length-2 : tie.Need-same-length-2 Inv-loop μ-loop
@@ -97,7 +97,7 @@ write-in-order-spec =
     Inv-loop
     μ-loop
     loop-holds
-    used-key-requires
+    key-of-requires
     is-outside-requires
     same-length
     returns
