@@ -12,9 +12,10 @@ pub fn execute_known(store: &mut [u32], call: Call, list: &mut [u32]) -> Answer
     ensures { λ r. ⌜ OnStore (now (store .entry)) (now (list .entry)) call r (now (store .exit)) (now (list .exit)) ⌝ }
 {
     let above = conditions::locate_universe(store, call);
-    let near = conditions::locate(store, above, call);
+    let located = conditions::locate(store, above, call);
+    let near = located.near;
     let universe = conditions::also_in_universe(near, above, call);
-    let stop = refusals::refusal_of(store, near, universe, call, list.len());
+    let stop = refusals::refusal_of(store, located, universe, call, list.len());
     if stop != 0 {
         return Answer::Refusal(stop);
     }

@@ -3,15 +3,22 @@ use mathlib.Core.Bool.{Bool, true, false, cond}
 use mathlib.Core.List.{List, [], _∷_}
 use mathlib.Core.Logic.{_≢_}
 use mathlib.Core.Path.{_≡_, refl, sym, ap, _∙_, subst}
-use Prim.Native.Nat.{ℕ, _<_}
+use Prim.Native.Nat.{ℕ, _<_, _%_}
+use native.Mathlib.Omega.{arith}
 use Rattle.model.specs.declared.Key.{Key}
 use Rattle.model.specs.Ordered.{isLess}
 use Rattle.model.specs.Keys.{compareKeys}
-use Rattle.model.specs.Buffer.{word, next, keyAt, usedOf}
+use Rattle.model.specs.Buffer.{word, next, keyAt, usedOf, freeOf}
 use Rattle.chain.specs.declared.Place.{Place}
 use Rattle.chain.specs.Links.{Linked, place, placeIn}
+use Rattle.model.proofs.Store.{capacity-most}
 use Rattle.records.specs.Words.{Inside}
+use Rattle.records.proofs.Words.{inside-most}
 use Rattle.chain.proofs.Walks.{Rest, remaining, Step, step, falls, at-end, used-rest}
+
+-- a store has fewer than 4,096 records
+pub same-number : (b : List ℕ) (i : ℕ) → Linked b → Inside b i → i % 4096 ≡ i
+same-number b i L I = omega (arith, inside-most b i I, capacity-most b (usedOf b) (freeOf b) (L .chains))
 
 pub record Seeking (b : List ℕ) (k : Key) (before at : ℕ) : Type 0 where
   pub walked : Rest b at

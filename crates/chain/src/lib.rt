@@ -5,12 +5,22 @@ ghost use mathlib.Core.Path.{_≡_};
 ghost use Prim.Native.Nat.{_+_, _≤_, _<_};
 ghost use Rattle.model.specs.Tuples.{present, valueAt};
 ghost use Rattle.model.specs.Buffer.{usedOf, tuplesOf, keyAt};
+ghost use Rattle.records.specs.Words.{Inside};
 ghost use Rattle.chain.specs.Links.{Linked, Hint, startOf, afterIn, placeIn, findIn, Linking, insertAfter, Unlinking, removeAfter};
 
 // A place in the used chain: a record and the one after it; 0 for none.
 pub struct Place {
     pub before: usize,
     pub at: usize,
+}
+
+// The key of a used record, for walks. The remainder is the number itself: with it the place of the key is computed apart from
+// the place of next, and a walk waits for one operation less between a link and the following one.
+pub fn used_key(b: &[u32], at: usize) -> Key
+    requires { ⌜ Linked (now b) × Inside (now b) at ⌝ }
+    ensures { λ r. ⌜ r ≡ keyAt (now (b .entry)) at ⌝ }
+{
+    records::key_of(b, at % 4096)
 }
 
 // The record that a search for a key starts behind: the hint, where its key is below; else 0.
@@ -21,7 +31,7 @@ fn start_of(b: &[u32], hint: usize, k: Key) -> usize
     if hint == 0 {
         return 0;
     }
-    if records::key_below(records::key_of(b, hint), k) {
+    if records::key_below(used_key(b, hint), k) {
         return hint;
     }
     0
@@ -48,7 +58,7 @@ pub fn seek(b: &[u32], hint: usize, k: Key) -> Place
     let mut at = after(b, before);
     while at != 0 {
         let next = records::next_of(b, at);
-        if !records::key_below(records::key_of(b, at), k) {
+        if !records::key_below(used_key(b, at), k) {
             break;
         }
         before = at;
@@ -101,7 +111,7 @@ pub fn find(b: &[u32], hint: usize, k: Key) -> usize
     if at == 0 {
         return 0;
     }
-    if records::key_same(k, records::key_of(b, at)) {
+    if records::key_same(k, used_key(b, at)) {
         return at;
     }
     0

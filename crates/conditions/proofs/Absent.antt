@@ -2,11 +2,11 @@
 use mathlib.Core.Bool.{Bool, true, false, not, _&&_, _||_, and-false, or-false}
 use mathlib.Core.List.{List, []}
 use mathlib.Core.Logic.{_≢_}
-use mathlib.Core.Path.{_≡_, sym, ap, ap₂, _∙_}
+use mathlib.Core.Path.{_≡_, refl, sym, ap, ap₂, _∙_}
 use Prim.Native.Nat.{ℕ, _≤_, _<_}
 use native.Mathlib.Omega.{arith}
 use lib.Dec.{eqb, leb}
-use borrow.Author.Tests.{le-leb, lt-leb, eq-eqb, ne-eqb}
+use borrow.Author.Tests.{le-leb, lt-leb, eq-eqb, ne-eqb, leb-true}
 use Rattle.model.specs.declared.Call.{Call}
 use Rattle.model.specs.declared.Key.{Key}
 use Rattle.model.specs.declared.Operator.{Operator}
@@ -15,10 +15,14 @@ use Rattle.model.specs.Keys.{spaceKey, nodeKey}
 use Rattle.model.specs.Operators.{operatorOf, within, readsOf}
 use Rattle.model.specs.Tuples.{Tuples, present, anyPresent}
 use Rattle.model.specs.Steps.{nOf, mOf, sOf}
-use Rattle.model.specs.Refusals.{spaceAbsent, nodeAbsent, secondAbsent, workedOn, edgeAbsent}
-use Rattle.model.proofs.Bools.{or-left}
+use Rattle.model.specs.Refusals.{noOperator, spaceAbsent, nodeAbsent, secondAbsent, workedOn, edgeAbsent}
+use Rattle.model.specs.Buffer.{everyRecord, tuplesOf}
+use Rattle.model.proofs.Bools.{or-left, or-right, and-left, and-right, and-no, not-no}
+use Rattle.model.proofs.Steps.{every-record}
 use Rattle.operate.specs.declared.Fields.{Fields}
 use Rattle.operate.specs.Operate.{fieldsOf}
+use Rattle.conditions.specs.declared.Located.{Located}
+use Rattle.conditions.specs.Located.{Told}
 
 -- ---- 5
 
@@ -151,3 +155,52 @@ works-on-none op known c ts e none =
 -- a key that was made of a call's fields is absent
 pub absent-as : (k j : Key) (ts : Tuples) (x : Bool) → k ≡ j → x ≡ not (present k ts) → x ≡ not (present j ts)
 absent-as k j ts x e X = X ∙ ap (λ (i : Key). not (present i ts)) e
+
+-- ---- what is told of nodes, where conditions 2 and 5 do not apply
+
+-- an operator that asks for n in s, or reads m, asks for its space; one that asks for n in s reads n
+asksSpace : ℕ → Bool
+asksSpace o = not (asked o || (readsOf o .m)) || ((readsOf o .s) && not (unasked o))
+
+readsNode : ℕ → Bool
+readsNode o = not (asked o) || (readsOf o .n)
+
+all-ask : everyRecord asksSpace 57 ≡ true
+unfolding everyRecord asksSpace readsOf
+all-ask = refl
+
+all-read : everyRecord readsNode 57 ≡ true
+unfolding everyRecord readsNode readsOf
+all-read = refl
+
+module _ (b : List ℕ) (c : Call) (l : Located) (T : Told b c l) (valid : noOperator c ≡ false) (there : spaceAbsent c (tuplesOf b) ≡ false) where
+  numbered : (p : ℕ → Bool) → everyRecord p 57 ≡ true → p (c .operator) ≡ true
+  unfolding noOperator
+  numbered p e =
+      let o : ℕ = c .operator in
+      let w = not-no (within 1 57 o) valid in
+      every-record p 57 e o (leb-true 1 o (and-left (leb 1 o) (leb o 57) w)) (leb-true o 57 (and-right (leb 1 o) (leb o 57) w))
+
+  space-there : (asked (c .operator) || (readsOf (c .operator) .m)) ≡ true → l .space ≡ true
+  unfolding asksSpace spaceAbsent
+  space-there h =
+      let both : ((readsOf (c .operator) .s) && not (unasked (c .operator))) ≡ true =
+      sym (ap (λ (x : Bool). not x || ((readsOf (c .operator) .s) && not (unasked (c .operator)))) h) ∙ numbered asksSpace all-ask in
+      T .space (and-left (readsOf (c .operator) .s) _ both)
+      ∙ not-no (present (spaceKey (sOf c)) (tuplesOf b)) (and-no ((readsOf (c .operator) .s) && not (unasked (c .operator))) _ there both)
+
+  pub node-there : (a : Bool) → a ≡ asked (c .operator) → a ≡ true → l .node ≡ present (nodeKey (sOf c) (nOf c)) (tuplesOf b)
+  unfolding readsNode
+  node-there a A e =
+      let h : asked (c .operator) ≡ true = sym A ∙ e in
+      T .node (sym (ap (λ (x : Bool). not x || (readsOf (c .operator) .n)) h) ∙ numbered readsNode all-read)
+      (space-there (or-left (asked (c .operator)) _ h))
+
+  pub second-there : l .reads .m ≡ true → l .second ≡ present (nodeKey (sOf c) (mOf c)) (tuplesOf b)
+  second-there e =
+      let h : (readsOf (c .operator) .m) ≡ true = sym (ap (λ (x : Reads). x .m) (T .reads)) ∙ e in
+      T .second h (space-there (or-right (asked (c .operator)) _ h))
+
+-- what is told of the space
+pub space-told : (b : List ℕ) (c : Call) (l : Located) → Told b c l → l .reads .s ≡ true → l .space ≡ present (spaceKey (sOf c)) (tuplesOf b)
+space-told b c l T e = T .space (sym (ap (λ (x : Reads). x .s) (T .reads)) ∙ e)

@@ -1,5 +1,5 @@
 -- Where what a call names is to be sought (specs/Located.antt): each place is a hint.
-use mathlib.Core.Bool.{Bool, true, false, cond, not, _&&_, _||_, or-true, or-false}
+use mathlib.Core.Bool.{Bool, true, false, cond, not, _&&_, _||_, or-true, or-false, false≢true}
 use mathlib.Core.List.{List}
 use mathlib.Core.Logic.{_≢_}
 use mathlib.Core.Path.{_≡_, refl, sym, ap, ap₂, _∙_, subst}
@@ -12,14 +12,18 @@ use Rattle.model.specs.declared.Reads.{Reads}
 use Rattle.model.specs.Keys.{nodeKey}
 use Rattle.model.specs.Operators.{within, readsOf}
 use Rattle.model.specs.Steps.{nOf, mOf, sOf}
-use Rattle.model.specs.Buffer.{keyAt, usedOf}
+use Rattle.model.specs.Tuples.{present}
+use Rattle.model.specs.Buffer.{keyAt, usedOf, tuplesOf}
+use Rattle.model.proofs.Bools.{clash}
 use Rattle.chain.specs.declared.Place.{Place}
 use Rattle.chain.specs.Links.{Linked, Hint, placeIn}
 use Rattle.chain.proofs.Hints.{no-hint, place-hint}
 use Rattle.operate.specs.declared.Fields.{Fields}
 use Rattle.operate.specs.declared.Near.{Near}
 use Rattle.operate.specs.Operate.{NearIn, fieldsOf}
-use Rattle.conditions.specs.Located.{beforeKey, near, nearNodes, nearUniverse, alsoIn, fartherOf, nearHere}
+use Rattle.conditions.specs.Located.{beforeKey, near, nearNodes, nearUniverse, alsoIn, fartherOf, soughtIn, spaceAlone, withNode, withNodes, locatedIn, Told}
+use Rattle.conditions.specs.declared.Sought.{Sought}
+use Rattle.conditions.specs.declared.Located.{Located}
 
 module _ (b : List ℕ) (L : Linked b) where
   pub before-hint : (i : ℕ) (k : Key) → i ≡ beforeKey b k → Hint b i
@@ -41,23 +45,9 @@ module _ (b : List ℕ) (L : Linked b) where
       go false true = nodes-near 0 0 (nOf c) (mOf c) (no-hint b)
       go false false = nowhere-near
 
-  pub here-near : (u : Near) (c : Call) → u ≡ nearHere b c → NearIn b u
-  unfolding nearHere
-  here-near u c e = subst (NearIn b) (sym e) (go (not (readsOf (c .operator) .s)) (readsOf (c .operator) .m) (readsOf (c .operator) .n))
-    where
-      space : ℕ
-      space = beforeKey b (nodeKey (sOf c) 0)
-
-      H : Hint b (beforeKey b (nodeKey (sOf c) 0))
-      H = before-hint _ (nodeKey (sOf c) 0) refl
-
-      go : (s m n : Bool)
-          → NearIn b (cond s (near 0 0 0) (cond m (nearNodes b (beforeKey b (nodeKey (sOf c) 0)) (sOf c) (nOf c) (mOf c))
-          (cond n (near (beforeKey b (nodeKey (sOf c) 0)) (beforeKey b (nodeKey (sOf c) (nOf c))) 0) (near (beforeKey b (nodeKey (sOf c) 0)) 0 0))))
-      go true m n = nowhere-near
-      go false true n = nodes-near _ (sOf c) (nOf c) (mOf c) H
-      go false false true = record { space = H; node = before-hint _ (nodeKey (sOf c) (nOf c)) refl; second = no-hint b }
-      go false false false = record { space = H; node = no-hint b; second = no-hint b }
+  pub sought-hint : (x : Sought) (k : Key) → x ≡ soughtIn b k → Hint b (x .before)
+  unfolding soughtIn
+  sought-hint x k e = before-hint _ k (ap (λ (y : Sought). y .before) e)
 
   pub farther-hint : (u : Near) (f : Fields) (h : ℕ) → NearIn b u → h ≡ fartherOf u f → Hint b h
   unfolding fartherOf
@@ -124,38 +114,124 @@ module _ (b : List ℕ) (c : Call) (f : Fields) (F : f ≡ fieldsOf c) where
       ∙ sym (ap (λ (z : Bool). cond z (near 0 0 0) (cond (within 1 3 (c .operator) || eqb (c .operator) 45) (nearNodes b 0 0 (nOf c) (mOf c)) (near 0 0 0)))
       (ne-eqb (sOf c) 0 (λ z. d (ap (λ (x : Fields). x .s) F ∙ z))))
 
-  pub here-unread : (r : Reads) (u : Near) → r ≡ readsOf (c .operator) → not (r .s) ≡ true → u ≡ near 0 0 0 → u ≡ nearHere b c
-  unfolding nearHere
-  here-unread r u R e U =
-      U
-      ∙ sym (ap
-      (λ (t : Bool).
-      cond t (near 0 0 0)
-      (cond (readsOf (c .operator) .m) (nearNodes b (beforeKey b (nodeKey (sOf c) 0)) (sOf c) (nOf c) (mOf c))
-      (cond (readsOf (c .operator) .n) (near (beforeKey b (nodeKey (sOf c) 0)) (beforeKey b (nodeKey (sOf c) (nOf c))) 0)
-      (near (beforeKey b (nodeKey (sOf c) 0)) 0 0))))
-      (ap (λ (x : Reads). not (x .s)) (sym R) ∙ e))
+pub sought-told : (b : List ℕ) (k j : Key) (p : Place) (t : Bool) → k ≡ j → p ≡ placeIn (keyAt b) k 0 (usedOf b) → t ≡ present k (tuplesOf b)
+    → record { before = p .before; there = t } ≡ soughtIn b j
+unfolding soughtIn
+sought-told b k j p t K P T =
+    λ i. record { before = before-told b k j p K P i; there = (T ∙ ap (λ (x : Key). present x (tuplesOf b)) K) i }
 
-  module _ (r : Reads) (R : r ≡ readsOf (c .operator)) (e : not (r .s) ≡ false) (space : ℕ) (S : space ≡ beforeKey b (nodeKey (f .s) 0)) where
-    whole : Bool → Bool → Bool → ℕ → Fields → Near
-    whole s m n i x =
-        cond s (near 0 0 0)
-        (cond m (nearNodes b i (x .s) (x .n) (x .m)) (cond n (near i (beforeKey b (nodeKey (x .s) (x .n))) 0) (near i 0 0)))
+pub nodes-located : (b : List ℕ) (r : Reads) (space s n m : ℕ) (x y : Sought) (l : Located) → x ≡ soughtIn b (nodeKey s n) → y ≡ soughtIn b (nodeKey s m)
+    → l ≡ withNodes r space x y → l ≡ withNodes r space (soughtIn b (nodeKey s n)) (soughtIn b (nodeKey s m))
+nodes-located b r space s n m x y l X Y L = L ∙ ap₂ (withNodes r space) X Y
 
-    told : (m n : Bool) → r .m ≡ m → r .n ≡ n → whole false m n space f ≡ nearHere b c
-    unfolding nearHere whole
-    told m n M N =
-        λ i. whole ((sym e ∙ ap (λ (x : Reads). not (x .s)) R) i) ((sym M ∙ ap (λ (x : Reads). x .m) R) i) ((sym N ∙ ap (λ (x : Reads). x .n) R) i)
-        ((S ∙ ap (λ (x : Fields). beforeKey b (nodeKey (x .s) 0)) F) i) (F i)
+-- ---- what is located, by what the operator reads and whether the space is there
 
-    pub here-both : (u : Near) → r .m ≡ true → u ≡ nearNodes b space (f .s) (f .n) (f .m) → u ≡ nearHere b c
+whole : List ℕ → Reads → Sought → Fields → Located
+whole b r space x =
+    cond (not (r .s)) (spaceAlone r 0 false)
+    (cond (not (space .there)) (spaceAlone r (space .before) false)
+    (cond (r .m) (withNodes r (space .before) (soughtIn b (nodeKey (x .s) (x .n))) (soughtIn b (nodeKey (x .s) (x .m))))
+    (cond (r .n) (withNode r (space .before) (soughtIn b (nodeKey (x .s) (x .n)))) (spaceAlone r (space .before) true))))
+
+taken : {A : Type 0} (t : Bool) (x y : A) → t ≡ true → x ≡ cond t x y
+taken t x y e = ap (λ (u : Bool). cond u x y) (sym e)
+
+left : {A : Type 0} (t : Bool) (x y : A) → t ≡ false → y ≡ cond t x y
+left t x y e = ap (λ (u : Bool). cond u x y) (sym e)
+
+module _ (b : List ℕ) (c : Call) (f : Fields) (F : f ≡ fieldsOf c) (r : Reads) (R : r ≡ readsOf (c .operator)) where
+  told : (space : Sought) → space ≡ soughtIn b (nodeKey (f .s) 0) → whole b r space f ≡ locatedIn b c
+  unfolding whole locatedIn
+  told space S = λ i. whole b (R i) ((S ∙ ap (λ (x : Fields). soughtIn b (nodeKey (x .s) 0)) F) i) (F i)
+
+  pub located-unread : (l : Located) → not (r .s) ≡ true → l ≡ spaceAlone r 0 false → l ≡ locatedIn b c
+  unfolding whole
+  located-unread l e L = L ∙ taken _ _ _ e ∙ told (soughtIn b (nodeKey (f .s) 0)) refl
+
+  module _ (e : not (r .s) ≡ false) (space : Sought) (S : space ≡ soughtIn b (nodeKey (f .s) 0)) where
+    pub located-absent : (l : Located) → not (space .there) ≡ true → l ≡ spaceAlone r (space .before) false → l ≡ locatedIn b c
     unfolding whole
-    here-both u M U = U ∙ told true (r .n) M refl
+    located-absent l t L = L ∙ taken _ _ _ t ∙ left _ _ _ e ∙ told space S
 
-    pub here-space : r .m ≡ false → r .n ≡ false → near space 0 0 ≡ nearHere b c
-    unfolding whole
-    here-space M N = told false false M N
+    module _ (t : not (space .there) ≡ false) where
+      pub located-both : (l : Located) → r .m ≡ true
+          → l ≡ withNodes r (space .before) (soughtIn b (nodeKey (f .s) (f .n))) (soughtIn b (nodeKey (f .s) (f .m))) → l ≡ locatedIn b c
+      unfolding whole
+      located-both l m L = L ∙ taken _ _ _ m ∙ left _ _ _ t ∙ left _ _ _ e ∙ told space S
 
-    pub here-node : (i : ℕ) → r .m ≡ false → r .n ≡ true → i ≡ beforeKey b (nodeKey (f .s) (f .n)) → near space i 0 ≡ nearHere b c
-    unfolding whole
-    here-node i M N I = ap (λ (j : ℕ). near space j 0) I ∙ told false true M N
+      pub located-alone : (l : Located) → r .m ≡ false → r .n ≡ false → l ≡ spaceAlone r (space .before) true → l ≡ locatedIn b c
+      unfolding whole
+      located-alone l m n L = L ∙ left _ _ _ n ∙ left _ _ _ m ∙ left _ _ _ t ∙ left _ _ _ e ∙ told space S
+
+      pub located-node : (l : Located) (x : Sought) → r .m ≡ false → r .n ≡ true → x ≡ soughtIn b (nodeKey (f .s) (f .n))
+          → l ≡ withNode r (space .before) x → l ≡ locatedIn b c
+      unfolding whole
+      located-node l x m n X L =
+          L ∙ ap (withNode r (space .before)) X ∙ taken _ _ _ n ∙ left _ _ _ m ∙ left _ _ _ t ∙ left _ _ _ e ∙ told space S
+
+-- ---- what is located is so
+
+module _ (b : List ℕ) (L : Linked b) (c : Call) where
+  abbrev rc : Reads
+  rc = readsOf (c .operator)
+
+  abbrev p : ℕ
+  p = beforeKey b (nodeKey (sOf c) 0)
+
+  H : Hint b p
+  H = before-hint b L _ (nodeKey (sOf c) 0) refl
+
+  node-hint : (n : ℕ) → Hint b (beforeKey b (nodeKey (sOf c) n))
+  node-hint n = before-hint b L _ (nodeKey (sOf c) n) refl
+
+  parts : (s t m n : Bool) → rc .s ≡ s → present (nodeKey (sOf c) 0) (tuplesOf b) ≡ t → rc .m ≡ m → rc .n ≡ n
+      → Told b c
+      (cond (not s) (spaceAlone rc 0 false)
+      (cond (not t) (spaceAlone rc p false)
+      (cond m (withNodes rc p (soughtIn b (nodeKey (sOf c) (nOf c))) (soughtIn b (nodeKey (sOf c) (mOf c))))
+      (cond n (withNode rc p (soughtIn b (nodeKey (sOf c) (nOf c)))) (spaceAlone rc p true)))))
+  unfolding soughtIn
+  parts false t m n S T M N =
+      record {
+        near = nowhere-near b L;
+        reads = refl;
+        space = λ h. absurd (clash h S);
+        node = λ h y. absurd (false≢true y);
+        second = λ h y. absurd (false≢true y);
+      }
+  parts true false m n S T M N =
+      record {
+        near = record { space = H; node = no-hint b; second = no-hint b };
+        reads = refl;
+        space = λ h. sym T;
+        node = λ h y. absurd (false≢true y);
+        second = λ h y. absurd (false≢true y);
+      }
+  parts true true true n S T M N =
+      record {
+        near = record { space = H; node = node-hint (nOf c); second = node-hint (mOf c) };
+        reads = refl;
+        space = λ h. sym T;
+        node = λ h y. refl;
+        second = λ h y. refl;
+      }
+  parts true true false true S T M N =
+      record {
+        near = record { space = H; node = node-hint (nOf c); second = no-hint b };
+        reads = refl;
+        space = λ h. sym T;
+        node = λ h y. refl;
+        second = λ h y. absurd (clash h M);
+      }
+  parts true true false false S T M N =
+      record {
+        near = record { space = H; node = no-hint b; second = no-hint b };
+        reads = refl;
+        space = λ h. sym T;
+        node = λ h y. absurd (clash h N);
+        second = λ h y. absurd (clash h M);
+      }
+
+  pub located-told : (l : Located) → l ≡ locatedIn b c → Told b c l
+  unfolding locatedIn soughtIn
+  located-told l e = subst (Told b c) (sym e) (parts (rc .s) (present (nodeKey (sOf c) 0) (tuplesOf b)) (rc .m) (rc .n) refl refl refl refl)

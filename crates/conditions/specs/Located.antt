@@ -1,17 +1,23 @@
 -- Where what a call names is to be sought. Answers do not depend on it: these are hints that spare walks.
-use mathlib.Core.Bool.{Bool, cond, not, _||_}
+use mathlib.Core.Bool.{Bool, true, false, cond, not, _||_}
 use mathlib.Core.List.{List}
+use mathlib.Core.Path.{_≡_}
 use Prim.Native.Nat.{ℕ}
 use lib.Dec.{eqb, leb}
 use Rattle.model.specs.declared.Call.{Call}
 use Rattle.model.specs.declared.Key.{Key}
-use Rattle.model.specs.Keys.{nodeKey}
+use Rattle.model.specs.declared.Reads.{Reads}
+use Rattle.model.specs.Keys.{spaceKey, nodeKey}
+use Rattle.model.specs.Tuples.{present}
 use Rattle.model.specs.Operators.{within, readsOf}
-use Rattle.model.specs.Buffer.{keyAt, usedOf}
+use Rattle.model.specs.Buffer.{keyAt, usedOf, tuplesOf}
 use Rattle.model.specs.Steps.{nOf, mOf, sOf}
 use Rattle.chain.specs.Links.{placeIn}
 use Rattle.operate.specs.declared.Fields.{Fields}
 use Rattle.operate.specs.declared.Near.{Near}
+use Rattle.operate.specs.Operate.{NearIn}
+use Rattle.conditions.specs.declared.Sought.{Sought}
+use Rattle.conditions.specs.declared.Located.{Located}
 
 -- the last used record whose key is below k; 0 for none
 abbrev pub beforeKey : List ℕ → Key → ℕ
@@ -35,10 +41,37 @@ alsoIn here universe s = cond (eqb s 0) here universe
 unfoldable pub fartherOf : Near → Fields → ℕ
 fartherOf universe f = cond (leb (f .n) (f .m)) (universe .second) (universe .node)
 
--- the space of the call and the nodes, as far as its operator reads them
-unfoldable pub nearHere : List ℕ → Call → Near
-nearHere b c =
-    let space = beforeKey b (nodeKey (sOf c) 0) in
-    cond (not (readsOf (c .operator) .s)) (near 0 0 0)
-    (cond (readsOf (c .operator) .m) (nearNodes b space (sOf c) (nOf c) (mOf c))
-    (cond (readsOf (c .operator) .n) (near space (beforeKey b (nodeKey (sOf c) (nOf c))) 0) (near space 0 0)))
+-- the place of a key, and whether it is there
+unfoldable pub soughtIn : List ℕ → Key → Sought
+soughtIn b k = record { before = beforeKey b k; there = present k (tuplesOf b) }
+
+-- a space without its nodes; a space that is there, with node n, or with nodes n and m
+abbrev pub spaceAlone : Reads → ℕ → Bool → Located
+spaceAlone reads before there = record { near = near before 0 0; reads = reads; space = there; node = false; second = false }
+
+abbrev pub withNode : Reads → ℕ → Sought → Located
+withNode reads space node =
+    record { near = near space (node .before) 0; reads = reads; space = true; node = node .there; second = false }
+
+abbrev pub withNodes : Reads → ℕ → Sought → Sought → Located
+withNodes reads space node second =
+    record { near = near space (node .before) (second .before); reads = reads; space = true; node = node .there; second = second .there }
+
+-- the space of the call and, if it is there, its nodes, as far as the operator reads them
+unfoldable pub locatedIn : List ℕ → Call → Located
+locatedIn b c =
+    let reads = readsOf (c .operator) in
+    let space = soughtIn b (nodeKey (sOf c) 0) in
+    let node = soughtIn b (nodeKey (sOf c) (nOf c)) in
+    cond (not (reads .s)) (spaceAlone reads 0 false)
+    (cond (not (space .there)) (spaceAlone reads (space .before) false)
+    (cond (reads .m) (withNodes reads (space .before) node (soughtIn b (nodeKey (sOf c) (mOf c))))
+    (cond (reads .n) (withNode reads (space .before) node) (spaceAlone reads (space .before) true))))
+
+-- what is told of a call's space and nodes is so, as far as its operator reads them; of nodes only where the space is there
+pub record Told (b : List ℕ) (c : Call) (l : Located) : Type 0 where
+  pub near : NearIn b (l .near)
+  pub reads : l .reads ≡ readsOf (c .operator)
+  pub space : readsOf (c .operator) .s ≡ true → l .space ≡ present (spaceKey (sOf c)) (tuplesOf b)
+  pub node : readsOf (c .operator) .n ≡ true → l .space ≡ true → l .node ≡ present (nodeKey (sOf c) (nOf c)) (tuplesOf b)
+  pub second : readsOf (c .operator) .m ≡ true → l .space ≡ true → l .second ≡ present (nodeKey (sOf c) (mOf c)) (tuplesOf b)

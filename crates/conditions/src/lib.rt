@@ -3,20 +3,21 @@
 use model::Call;
 use model::Key;
 use model::Operator;
+use model::Reads;
 use operate::Fields;
 use operate::Near;
-ghost use mathlib.Core.Bool.{not, _||_};
+ghost use mathlib.Core.Bool.{false, not, _||_};
 ghost use mathlib.Core.Path.{_≡_};
 ghost use lib.Dec.{eqb};
 ghost use Rattle.model.specs.Operators.{within};
 ghost use Rattle.model.specs.Tuples.{present, anyPresent};
 ghost use Rattle.model.specs.Buffer.{tuplesOf};
-ghost use Rattle.model.specs.Refusals.{spaceAbsent, nodeAbsent, secondAbsent, workedOn, edgeAbsent};
+ghost use Rattle.model.specs.Refusals.{noOperator, spaceAbsent, nodeAbsent, secondAbsent, workedOn, edgeAbsent};
 ghost use Rattle.chain.specs.Links.{Linked, Hint};
 ghost use Rattle.model.specs.Keys.{nodeKey};
 ghost use Rattle.model.specs.Machine.{FieldsFit};
 ghost use Rattle.operate.specs.Operate.{NearIn};
-ghost use Rattle.conditions.specs.Located.{beforeKey, near, nearNodes, nearUniverse, alsoIn, fartherOf, nearHere};
+ghost use Rattle.conditions.specs.Located.{beforeKey, near, nearNodes, nearUniverse, alsoIn, fartherOf, soughtIn, spaceAlone, withNode, withNodes, locatedIn, Told};
 ghost use Rattle.model.specs.Steps.{sOf};
 
 // The key of node n in space s; n = 0: that of the space.
@@ -118,34 +119,124 @@ fn farther(universe: Near, f: Fields) -> usize
     universe.node
 }
 
-// Where a call is to look in its space, if its operator reads it.
-pub fn locate(b: &[u32], universe: Near, c: Call) -> Near
+// A key that was sought: the last used record below it, and whether it is there.
+struct Sought {
+    before: usize,
+    there: bool,
+}
+
+// What a call names in its space: where that is to be sought, which fields are read, and whether the space is there, and node n and node m in it.
+pub struct Located {
+    pub near: Near,
+    pub reads: Reads,
+    pub space: bool,
+    pub node: bool,
+    pub second: bool,
+}
+
+// Node n of space s, sought from a hint on; n = 0: the space.
+fn seek_node(b: &[u32], hint: usize, s: u32, n: u32) -> Sought
+    requires { ⌜ Linked (now b) × Hint (now b) hint ⌝ }
+    ensures { λ r. ⌜ r ≡ soughtIn (now (b .entry)) (nodeKey s n) ⌝ }
+{
+    let k = node_key(s, n);
+    let place = chain::seek(b, hint, k);
+    let at = place.at;
+    Sought {
+        before: place.before,
+        there: edit::held_at(b, k, at),
+    }
+}
+
+// A space without its nodes.
+fn space_alone(reads: Reads, before: usize, there: bool) -> Located
+    ensures { λ r. ⌜ r ≡ spaceAlone reads before there ⌝ }
+{
+    Located {
+        near: Near {
+            space: before,
+            node: 0,
+            second: 0,
+        },
+        reads,
+        space: there,
+        node: false,
+        second: false,
+    }
+}
+
+// A space that is there, with its node n.
+fn with_node(reads: Reads, space: usize, node: Sought) -> Located
+    ensures { λ r. ⌜ r ≡ withNode reads space node ⌝ }
+{
+    Located {
+        near: Near {
+            space,
+            node: node.before,
+            second: 0,
+        },
+        reads,
+        space: true,
+        node: node.there,
+        second: false,
+    }
+}
+
+// A space that is there, with its nodes n and m.
+fn with_nodes(reads: Reads, space: usize, node: Sought, second: Sought) -> Located
+    ensures { λ r. ⌜ r ≡ withNodes reads space node second ⌝ }
+{
+    Located {
+        near: Near {
+            space,
+            node: node.before,
+            second: second.before,
+        },
+        reads,
+        space: true,
+        node: node.there,
+        second: second.there,
+    }
+}
+
+// Nodes n and m of a space that is there, found in one walk: the lesser first.
+fn locate_nodes(b: &[u32], reads: Reads, space: usize, f: Fields) -> Located
+    requires { ⌜ Linked (now b) × Hint (now b) space ⌝ }
+    ensures { λ r. ⌜ r ≡ withNodes reads space (soughtIn (now (b .entry)) (nodeKey (f .s) (f .n))) (soughtIn (now (b .entry)) (nodeKey (f .s) (f .m))) ⌝ }
+{
+    if f.n <= f.m {
+        let node = seek_node(b, space, f.s, f.n);
+        let second = seek_node(b, node.before, f.s, f.m);
+        return with_nodes(reads, space, node, second);
+    }
+    let second = seek_node(b, space, f.s, f.m);
+    let node = seek_node(b, second.before, f.s, f.n);
+    with_nodes(reads, space, node, second)
+}
+
+// What a call names in its space, if its operator reads it. No node is sought in a space that is absent.
+pub fn locate(b: &[u32], universe: Near, c: Call) -> Located
     requires { ⌜ Linked (now b) × NearIn (now b) universe ⌝ }
-    ensures { λ r. ⌜ r ≡ nearHere (now (b .entry)) c ⌝ }
+    ensures { λ r. ⌜ r ≡ locatedIn (now (b .entry)) c ⌝ }
     ensures fit { λ _. ⌜ FieldsFit c ⌝ }
 {
     let f = operate::fields_of(c);
-    let r = decode::reads_of(c.operator);
-    if !r.s {
-        return nowhere();
+    let reads = decode::reads_of(c.operator);
+    if !reads.s {
+        return space_alone(reads, 0, false);
     }
-    let space = before_node(b, farther(universe, f), f.s, 0);
-    if r.m {
-        return near_nodes(b, space, f.s, f.n, f.m);
+    let space = seek_node(b, farther(universe, f), f.s, 0);
+    if !space.there {
+        return space_alone(reads, space.before, false);
     }
-    if !r.n {
-        return Near {
-            space,
-            node: 0,
-            second: 0,
-        };
+    if reads.m {
+        return locate_nodes(b, reads, space.before, f);
     }
-    let node = before_node(b, space, f.s, f.n);
-    Near {
-        space,
-        node,
-        second: 0,
+    if !reads.n {
+        return space_alone(reads, space.before, true);
     }
+    let node = seek_node(b, space.before, f.s, f.n);
+    with_node(reads, space.before, node)
 }
 
 // Is there no tuple with this key.
@@ -170,19 +261,18 @@ fn space_unasked(o: u32) -> bool
 }
 
 // Condition 5: s is absent.
-pub fn space_absent(b: &[u32], near: Near, c: Call) -> bool
-    requires { ⌜ Linked (now b) × NearIn (now b) near ⌝ }
+pub fn space_absent(b: &[u32], l: Located, c: Call) -> bool
+    requires { ⌜ Told (now b) c l ⌝ }
     ensures { λ r. ⌜ r ≡ spaceAbsent c (tuplesOf (now (b .entry))) ⌝ }
 {
-    let r = decode::reads_of(c.operator);
-    if !r.s {
+    let reads = l.reads;
+    if !reads.s {
         return false;
     }
     if space_unasked(c.operator) {
         return false;
     }
-    let f = operate::fields_of(c);
-    key_absent(b, near.space, node_key(f.s, 0))
+    !l.space
 }
 
 // Operators that ask for node n in s: 1–44, 46, 47.
@@ -201,32 +291,31 @@ fn node_asked(o: u32) -> bool
     o <= 47
 }
 
-// Condition 6: n is absent from s, or, for 57, from 0.
-pub fn node_absent(b: &[u32], near: Near, c: Call) -> bool
-    requires { ⌜ Linked (now b) × NearIn (now b) near ⌝ }
+// Condition 6: n is absent from s, or, for 57, from 0. Asked where conditions 2 and 5 do not apply.
+pub fn node_absent(b: &[u32], l: Located, c: Call) -> bool
+    requires { ⌜ Linked (now b) × Told (now b) c l × (noOperator c ≡ false) × (spaceAbsent c (tuplesOf (now b)) ≡ false) ⌝ }
     ensures { λ r. ⌜ r ≡ nodeAbsent c (tuplesOf (now (b .entry))) ⌝ }
 {
-    let f = operate::fields_of(c);
     if c.operator == 57 {
-        return key_absent(b, near.node, node_key(0, f.n));
+        let f = operate::fields_of(c);
+        return key_absent(b, 0, node_key(0, f.n));
     }
     if !node_asked(c.operator) {
         return false;
     }
-    key_absent(b, near.node, node_key(f.s, f.n))
+    !l.node
 }
 
-// Condition 7: m, where it is read, is absent from s.
-pub fn second_absent(b: &[u32], near: Near, c: Call) -> bool
-    requires { ⌜ Linked (now b) × NearIn (now b) near ⌝ }
+// Condition 7: m, where it is read, is absent from s. Asked where conditions 2 and 5 do not apply.
+pub fn second_absent(b: &[u32], l: Located, c: Call) -> bool
+    requires { ⌜ Told (now b) c l × (noOperator c ≡ false) × (spaceAbsent c (tuplesOf (now b)) ≡ false) ⌝ }
     ensures { λ r. ⌜ r ≡ secondAbsent c (tuplesOf (now (b .entry))) ⌝ }
 {
-    let r = decode::reads_of(c.operator);
-    if !r.m {
+    let reads = l.reads;
+    if !reads.m {
         return false;
     }
-    let f = operate::fields_of(c);
-    key_absent(b, near.second, node_key(f.s, f.m))
+    !l.second
 }
 
 // Is nothing present of what C, B, V and X work on.

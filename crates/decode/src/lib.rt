@@ -165,10 +165,10 @@ fn zero_if_read(read: bool, name: u16) -> bool
 }
 
 // Condition 3: a name that is read is 0.
-pub fn zero_name(c: Call) -> bool
-    ensures { λ r. ⌜ r ≡ zeroName c ⌝ }
+pub fn zero_name(c: Call, r: Reads) -> bool
+    requires { ⌜ r ≡ readsOf (c .operator) ⌝ }
+    ensures { λ z. ⌜ z ≡ zeroName c ⌝ }
 {
-    let r = reads_of(c.operator);
     if zero_if_read(r.n, c.n.0) {
         return true;
     }

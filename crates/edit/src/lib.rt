@@ -14,14 +14,14 @@ ghost use Rattle.select.specs.Selections.{takenBy};
 ghost use Rattle.edit.specs.Edits.{Adding, Turned, sweepStart};
 
 // Is a key present, by the record at its place.
-fn held_at(b: &[u32], k: Key, at: usize) -> bool
+pub fn held_at(b: &[u32], k: Key, at: usize) -> bool
     requires { ⌜ Linked (now b) × (at ≡ placeIn (keyAt (now b)) k 0 (usedOf (now b)) .at) ⌝ }
     ensures { λ r. ⌜ r ≡ present k (tuplesOf (now (b .entry))) ⌝ }
 {
     if at == 0 {
         return false;
     }
-    records::key_same(k, records::key_of(b, at))
+    records::key_same(k, chain::used_key(b, at))
 }
 
 // Adds a tuple, NIL, where its key is missing; a present one keeps its value.

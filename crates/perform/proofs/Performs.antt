@@ -49,8 +49,8 @@ first-is-node c f F e = ap (λ (y : Bool). cond y (sOf c) (nOf c)) (sym e ∙ F)
 
 -- ---- D
 
-pub names-read : {r x : Removal} (c : Call) → r ≡ x → NamesRead r c → NamesRead x c
-names-read c e h = subst (λ (y : Removal). NamesRead y c) e h
+pub names-as : {r x : Removal} (c : Call) → r ≡ x → NamesRead r c → NamesRead x c
+names-as c e h = subst (λ (y : Removal). NamesRead y c) e h
 
 pub removed-as : {r x : Removal} {b b′ : List ℕ} (c : Call) → r ≡ x → Edited b b′ (destroyed x c (tuplesOf b)) → Edited b b′ (destroyed r c (tuplesOf b))
 removed-as {b = b} {b′ = b′} c e E = subst (λ (y : Removal). Edited b b′ (destroyed y c (tuplesOf b))) (sym e) E

@@ -1,4 +1,5 @@
 // Conditions 2 to 10 in their order: which one stops a call on a store.
+use conditions::Located;
 use model::Call;
 use model::Listing;
 use model::Operator;
@@ -16,6 +17,7 @@ ghost use Rattle.chain.specs.Links.{Linked};
 ghost use Rattle.listing.specs.Lists.{NamesAsked};
 ghost use lib.Dec.{ltb};
 ghost use Rattle.operate.specs.Operate.{NearIn};
+ghost use Rattle.conditions.specs.Located.{Told};
 ghost use Rattle.refusals.specs.Numbers.{stopNumber};
 
 // Condition 9 for an S operator: the entries are counted only where the tuples could give more than the list holds.
@@ -79,27 +81,29 @@ fn is_full(b: &[u32], near: Near, universe: Near, c: Call) -> bool
 
 // The number of the first of the conditions 2 to 10 that stops a call on a store; 0 for none. `room` is the length of the call's answer list.
 // pub for the crate above, which has proved that the buffer is a store.
-// `near` and `universe` are hints in the call's space and in UNIVERSE.
-pub fn refusal_of(b: &[u32], near: Near, universe: Near, c: Call, room: usize) -> u32
-    requires { ⌜ (isStore (now b) ≡ true) × NearIn (now b) near × NearIn (now b) universe ⌝ }
+// `l` tells what the call names in its space; `universe` has hints in UNIVERSE.
+pub fn refusal_of(b: &[u32], l: Located, universe: Near, c: Call, room: usize) -> u32
+    requires { ⌜ (isStore (now b) ≡ true) × Told (now b) c l × NearIn (now b) universe ⌝ }
     ensures { λ r. ⌜ r ≡ stopNumber (refusalOf (capacityOf (now (b .entry))) (tuplesOf (now (b .entry))) c room) ⌝ }
 {
+    let near = l.near;
+    let reads = l.reads;
     if decode::no_operator(c) {
         return 2;
     }
-    if decode::zero_name(c) {
+    if decode::zero_name(c, reads) {
         return 3;
     }
     if decode::destroys_universe(c) {
         return 4;
     }
-    if conditions::space_absent(b, near, c) {
+    if conditions::space_absent(b, l, c) {
         return 5;
     }
-    if conditions::node_absent(b, near, c) {
+    if conditions::node_absent(b, l, c) {
         return 6;
     }
-    if conditions::second_absent(b, near, c) {
+    if conditions::second_absent(b, l, c) {
         return 7;
     }
     if conditions::edge_absent(b, near, c) {

@@ -1,6 +1,6 @@
 use Rattle.calls.proofs.Known.{let-pass, refused-known, performed-known}
 use Rattle.edit.proofs.Built.{store-linked}
-use Rattle.conditions.proofs.Nearby.{universe-near, here-near, also-near}
+use Rattle.conditions.proofs.Nearby.{universe-near, located-told, also-near}
 use borrow.Author.Needs.{needs}
 use Rattle.calls.proofs.execute_known.Statement.{statement}
 use Rattle.calls.proofs.execute_known.Tie as tie
@@ -27,9 +27,9 @@ also-in-universe-requires c κs = search needs
 
 -- src/lib.rt:17:9
 refusal-of-requires : tie.Need-refusal-of-requires
-refusal-of-requires c κs = let L = store-linked _ (c .before .before .before .before .before .before .before .before .pre) in
-    let N = here-near _ L _ _ (c .before .before .locate .ensures .0) in
-    (c .before .before .before .before .before .before .before .before .pre, N, also-near _ L _ _ _ _ N (universe-near _ L _ _ (c .before .before .before .before .locate-universe .ensures)) (c .before .also-in-universe .ensures))
+refusal-of-requires c κs = let L = store-linked _ (c .before .before .before .before .before .before .before .before .before .pre) in
+    let T = located-told _ L _ _ (c .before .before .before .locate .ensures .0) in
+    (c .before .before .before .before .before .before .before .before .before .pre, T, also-near _ L _ _ _ _ (T .near) (universe-near _ L _ _ (c .before .before .before .before .before .locate-universe .ensures)) (c .before .also-in-universe .ensures))
 
 -- src/lib.rt:19:9
 same-length : tie.Need-same-length
@@ -37,7 +37,7 @@ same-length c = search needs
 
 -- src/lib.rt:19:9
 returns : tie.Need-returns
-returns c = refused-known _ _ _ _ (c .before .before .before .before .before .before .before .before .before .before .pre) (c .before .refusal-of .ensures) (c .if1 .taken)
+returns c = refused-known _ _ _ _ (c .before .before .before .before .before .before .before .before .before .before .before .pre) (c .before .refusal-of .ensures) (c .if1 .taken)
 
 -- src/lib.rt:25:9
 operator-of-requires : tie.Need-operator-of-requires
@@ -45,12 +45,12 @@ operator-of-requires c κs = search needs
 
 -- src/lib.rt:21:5
 perform-requires : tie.Need-perform-requires
-perform-requires c κs = let L = store-linked _ (c .before .before .before .before .before .before .before .before .before .before .before .before .before .pre) in
-    let N = here-near _ L _ _ (c .before .before .before .before .before .before .before .locate .ensures .0) in (
-      c .before .before .before .before .before .before .before .before .before .before .before .before .before .pre,
-      N,
-      also-near _ L _ _ _ _ N (universe-near _ L _ _ (c .before .before .before .before .before .before .before .before .before .locate-universe .ensures)) (c .before .before .before .before .before .before .also-in-universe .ensures),
-      let-pass _ (c .before .before .before .before .before .before .before .before .before .before .before .before .before .args .call) _ _ _ (c .before .before .before .before .refusal-of .ensures) (c .before .before .before .if1 .left) (c .before .operator-of .ensures),
+perform-requires c κs = let L = store-linked _ (c .before .before .before .before .before .before .before .before .before .before .before .before .before .before .pre) in
+    let T = located-told _ L _ _ (c .before .before .before .before .before .before .before .before .locate .ensures .0) in (
+      c .before .before .before .before .before .before .before .before .before .before .before .before .before .before .pre,
+      T .near,
+      also-near _ L _ _ _ _ (T .near) (universe-near _ L _ _ (c .before .before .before .before .before .before .before .before .before .before .locate-universe .ensures)) (c .before .before .before .before .before .before .also-in-universe .ensures),
+      let-pass _ (c .before .before .before .before .before .before .before .before .before .before .before .before .before .before .args .call) _ _ _ (c .before .before .before .before .refusal-of .ensures) (c .before .before .before .if1 .left) (c .before .operator-of .ensures),
     )
 
 -- src/lib.rt:10:1
@@ -63,7 +63,7 @@ same-length-3 c = search needs
 
 -- src/lib.rt:10:1
 returns-2 : tie.Need-returns-2
-returns-2 c = performed-known _ _ _ _ (c .before .before .before .before .before .before .before .before .before .before .before .before .before .before .before .before .before .before .args .call) _ _ _ (c .before .before .before .before .before .before .before .before .before .before .before .before .before .before .before .before .before .before .pre) (c .before .before .before .before .before .before .before .before .before .before .before .before .locate .ensures .1) (c .before .before .before .before .before .before .before .before .before .refusal-of .ensures) (c .before .before .before .before .before .before .before .before .if1 .left) (c .before .before .before .before .before .before .operator-of .ensures) (c .before .before .before .before .perform .ensures)
+returns-2 c = performed-known _ _ _ _ (c .before .before .before .before .before .before .before .before .before .before .before .before .before .before .before .before .before .before .before .args .call) _ _ _ (c .before .before .before .before .before .before .before .before .before .before .before .before .before .before .before .before .before .before .before .pre) (c .before .before .before .before .before .before .before .before .before .before .before .before .before .locate .ensures .1) (c .before .before .before .before .before .before .before .before .before .refusal-of .ensures) (c .before .before .before .before .before .before .before .before .if1 .left) (c .before .before .before .before .before .before .operator-of .ensures) (c .before .before .before .before .perform .ensures)
 
 pub execute-known-spec : {M : Type 1} → statement M
 execute-known-spec =

@@ -9,7 +9,7 @@ use Rattle.chain.proofs.seek.Lts as lts
 use Rattle.chain.proofs.after.Reads as after-reads
 use Rattle.chain.proofs.start_of.Reads as start-of-reads
 use Rattle.records.proofs.key_below.Reads as key-below-reads
-use Rattle.records.proofs.key_of.Reads as key-of-reads
+use Rattle.chain.proofs.used_key.Reads as used-key-reads
 use Rattle.records.proofs.next_of.Reads as next-of-reads
 
 abbrev Inv-loop : tie.InvT-loop
@@ -35,8 +35,8 @@ next-of-requires : tie.Need-next-of-requires Inv-loop μ-loop
 next-of-requires c κs = seek-inside _ _ _ _ (c .before .loop .inv) (c .loop-test .taken)
 
 -- src/lib.rt:51:32
-key-of-requires : tie.Need-key-of-requires Inv-loop μ-loop
-key-of-requires c κs = seek-inside _ _ _ _ (c .before .before .loop .inv) (c .before .loop-test .taken)
+used-key-requires : tie.Need-used-key-requires Inv-loop μ-loop
+used-key-requires c κs = (c .before .before .before .before .before .before .pre .0, seek-inside _ _ _ _ (c .before .before .loop .inv) (c .before .loop-test .taken))
 
 -- src/lib.rt:51:13
 key-below-requires : tie.Need-key-below-requires Inv-loop μ-loop
@@ -48,7 +48,7 @@ loop-less c = seek-less _ _ _ _ (c .before .before .before .before .before .loop
 
 -- src/lib.rt:49:5
 loop-again : tie.Need-loop-again Inv-loop μ-loop
-loop-again c = seek-on _ _ _ _ (c .before .before .before .before .before .loop .inv) (c .before .before .before .before .loop-test .taken) _ _ _ (c .before .before .key-of .ensures) (c .before .key-below .ensures) (not-no _ (c .if1 .left)) (c .before .before .before .next-of .ensures)
+loop-again c = seek-on _ _ _ _ (c .before .before .before .before .before .loop .inv) (c .before .before .before .before .loop-test .taken) _ _ _ (c .before .before .used-key .ensures) (c .before .key-below .ensures) (not-no _ (c .if1 .left)) (c .before .before .before .next-of .ensures)
 
 -- src/lib.rt:43:1
 returns : tie.Need-returns Inv-loop μ-loop
@@ -56,7 +56,7 @@ returns c = seek-end _ _ _ _ (c .before .loop .inv) (c .loop-test .left)
 
 -- src/lib.rt:43:1
 returns-2 : tie.Need-returns-2 Inv-loop μ-loop
-returns-2 c = seek-found _ _ _ _ (c .before .before .before .before .before .loop .inv) (c .before .before .before .before .loop-test .taken) _ _ (c .before .before .key-of .ensures) (c .before .key-below .ensures) (not-yes _ (c .if1 .taken))
+returns-2 c = seek-found _ _ _ _ (c .before .before .before .before .before .loop .inv) (c .before .before .before .before .loop-test .taken) _ _ (c .before .before .used-key .ensures) (c .before .key-below .ensures) (not-yes _ (c .if1 .taken))
 
 pub seek-spec : {M : Type 1} → statement M
 seek-spec =
@@ -68,7 +68,7 @@ seek-spec =
     after-requires
     loop-holds
     next-of-requires
-    key-of-requires
+    used-key-requires
     key-below-requires
     loop-less
     loop-again

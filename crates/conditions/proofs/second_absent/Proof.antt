@@ -1,47 +1,21 @@
-use Rattle.conditions.proofs.Absent.{second-unread, second-looked-up, absent-as}
+use mathlib.Core.Bool.{not}
+use mathlib.Core.Path.{refl, ap}
+use Rattle.operate.specs.Operate.{fieldsOf}
+use Rattle.conditions.proofs.Absent.{second-unread, second-looked-up, second-there}
 use Rattle.model.proofs.Bools.{not-yes, not-no}
-use borrow.Author.Needs.{needs}
 use Rattle.conditions.proofs.second_absent.Statement.{statement}
 use Rattle.conditions.proofs.second_absent.Tie as tie
 use Rattle.conditions.proofs.second_absent.Reads as reads
 use Rattle.conditions.proofs.second_absent.Lts as lts
-use Rattle.conditions.proofs.key_absent.Reads as key-absent-reads
-use Rattle.conditions.proofs.node_key.Reads as node-key-reads
-use Rattle.decode.proofs.reads_of.Reads as reads-of-reads
-use Rattle.operate.proofs.fields_of.Reads as fields-of-reads
 
--- src/lib.rt:221:9
-reads-of-requires : tie.Need-reads-of-requires
-reads-of-requires c κs = search needs
-
--- src/lib.rt:223:9
+-- src/lib.rt:316:9
 returns : tie.Need-returns
-returns c = second-unread (c .before .before .before .before .args .c) _ _ (c .before .before .reads-of .ensures) (not-yes _ (c .if1 .taken))
+returns c = second-unread (c .before .before .before .args .c) _ _ (c .before .before .before .pre .0 .reads) (not-yes _ (c .if1 .taken))
 
--- src/lib.rt:225:9
-fields-of-requires : tie.Need-fields-of-requires
-fields-of-requires c κs = search needs
-
--- src/lib.rt:226:32
-node-key-requires : tie.Need-node-key-requires
-node-key-requires c κs = search needs
-
--- src/lib.rt:226:5
-key-absent-requires : tie.Need-key-absent-requires
-key-absent-requires c κs = search needs
-
--- src/lib.rt:217:1
+-- src/lib.rt:310:1
 returns-2 : tie.Need-returns-2
-returns-2 c = second-looked-up (c .before .before .before .before .before .before .before .args .c) _ _ _ _ (c .before .before .before .before .before .reads-of .ensures) (not-no _ (c .before .before .before .if1 .left)) (c .before .before .fields-of .ensures .0)
-    (absent-as _ _ _ _ (c .before .node-key .ensures) (c .key-absent .ensures))
+returns-2 c = second-looked-up (c .before .before .before .before .args .c) _ _ _ (fieldsOf (c .before .before .before .before .args .c)) (c .before .before .before .before .pre .0 .reads) (not-no _ (c .before .if1 .left)) refl
+    (ap not (second-there _ _ _ (c .before .before .before .before .pre .0) (c .before .before .before .before .pre .1) (c .before .before .before .before .pre .2) (not-no _ (c .before .if1 .left))))
 
 pub second-absent-spec : {M : Type 1} → statement M
-second-absent-spec =
-    tie.close
-    (tie.spec
-    reads-of-requires
-    returns
-    fields-of-requires
-    node-key-requires
-    key-absent-requires
-    returns-2)
+second-absent-spec = tie.close (tie.spec returns returns-2)

@@ -1,4 +1,4 @@
-use Rattle.perform.proofs.Performs.{names-read, removed-as}
+use Rattle.perform.proofs.Performs.{names-as, removed-as}
 use Rattle.edit.proofs.Built.{store-linked}
 use borrow.Author.Needs.{needs}
 use Rattle.perform.proofs.destroy.Statement.{statement}
@@ -20,7 +20,7 @@ enum-known-r c = search needs
 
 -- src/lib.rt:58:26
 destroy-pair-requires : tie.Need-destroy-pair-requires
-destroy-pair-requires c κs = let h = names-read (c .before .before .before .before .before .args .c) (c .before .before .r .given .1) (c .before .before .before .before .before .pre .2) in (store-linked _ (c .before .before .before .before .before .pre .0), c .before .before .before .before .before .pre .1, h .0, h .1)
+destroy-pair-requires c κs = let h = names-as (c .before .before .before .before .before .args .c) (c .before .before .r .given .1) (c .before .before .before .before .before .pre .2) in (store-linked _ (c .before .before .before .before .before .pre .0), c .before .before .before .before .before .pre .1, h .0, h .1)
 
 -- src/lib.rt:59:20
 enum-known-r-2 : tie.Need-enum-known-r-2
@@ -36,7 +36,7 @@ enum-known-r-3 c = search needs
 
 -- src/lib.rt:60:27
 destroy-edges-named-requires : tie.Need-destroy-edges-named-requires
-destroy-edges-named-requires c κs = (store-linked _ (c .before .before .before .before .before .pre .0), c .before .before .before .before .before .pre .1, names-read (c .before .before .before .before .before .args .c) (c .before .before .r3 .given .1) (c .before .before .before .before .before .pre .2))
+destroy-edges-named-requires c κs = (store-linked _ (c .before .before .before .before .before .pre .0), c .before .before .before .before .before .pre .1, names-as (c .before .before .before .before .before .args .c) (c .before .before .r3 .given .1) (c .before .before .before .before .before .pre .2))
 
 -- src/lib.rt:61:21
 enum-known-r-4 : tie.Need-enum-known-r-4
@@ -44,7 +44,7 @@ enum-known-r-4 c = search needs
 
 -- src/lib.rt:61:27
 destroy-edges-between-requires : tie.Need-destroy-edges-between-requires
-destroy-edges-between-requires c κs = (store-linked _ (c .before .before .before .before .before .pre .0), c .before .before .before .before .before .pre .1, names-read (c .before .before .before .before .before .args .c) (c .before .before .r4 .given .1) (c .before .before .before .before .before .pre .2))
+destroy-edges-between-requires c κs = (store-linked _ (c .before .before .before .before .before .pre .0), c .before .before .before .before .before .pre .1, names-as (c .before .before .before .before .before .args .c) (c .before .before .r4 .given .1) (c .before .before .before .before .before .pre .2))
 
 -- src/lib.rt:62:20
 enum-known-r-5 : tie.Need-enum-known-r-5
@@ -60,7 +60,7 @@ enum-known-r-6 c = search needs
 
 -- src/lib.rt:63:27
 destroy-nodes-by-edge-requires : tie.Need-destroy-nodes-by-edge-requires
-destroy-nodes-by-edge-requires c κs = (c .before .before .before .before .before .pre .0, c .before .before .before .before .before .pre .1, names-read (c .before .before .before .before .before .args .c) (c .before .before .r6 .given .1) (c .before .before .before .before .before .pre .2))
+destroy-nodes-by-edge-requires c κs = (c .before .before .before .before .before .pre .0, c .before .before .before .before .before .pre .1, names-as (c .before .before .before .before .before .args .c) (c .before .before .r6 .given .1) (c .before .before .before .before .before .pre .2))
 
 -- src/lib.rt:64:46
 enum-told : tie.Need-enum-told
@@ -68,7 +68,7 @@ enum-told c = search needs
 
 -- src/lib.rt:64:24
 destroy-node-requires : tie.Need-destroy-node-requires
-destroy-node-requires c κs = (store-linked _ (c .before .before .before .before .pre .0), c .before .before .before .before .pre .1, names-read (c .before .before .before .before .args .c) (c .before .enum-told .given .1) (c .before .before .before .before .pre .2))
+destroy-node-requires c κs = (store-linked _ (c .before .before .before .before .pre .0), c .before .before .before .before .pre .1, names-as (c .before .before .before .before .args .c) (c .before .enum-told .given .1) (c .before .before .before .before .pre .2))
 
 -- src/lib.rt:65:47
 enum-told-2 : tie.Need-enum-told-2
@@ -76,7 +76,7 @@ enum-told-2 c = search needs
 
 -- src/lib.rt:65:24
 destroy-space-requires : tie.Need-destroy-space-requires
-destroy-space-requires c κs = (store-linked _ (c .before .before .before .before .pre .0), c .before .before .before .before .pre .1, names-read (c .before .before .before .before .args .c) (c .before .enum-told2 .given .1) (c .before .before .before .before .pre .2))
+destroy-space-requires c κs = (store-linked _ (c .before .before .before .before .pre .0), c .before .before .before .before .pre .1, names-as (c .before .before .before .before .args .c) (c .before .enum-told2 .given .1) (c .before .before .before .before .pre .2))
 
 -- src/lib.rt:53:1
 same-length : tie.Need-same-length

@@ -28,7 +28,7 @@ returns c = stops _ _ _ _ (c .before .no-operator .ensures) (c .if1 .taken)
 
 -- src/lib.rt:81:8
 zero-name-requires : tie.Need-zero-name-requires
-zero-name-requires c κs = search needs
+zero-name-requires c κs = c .before .before .before .before .before .pre .1 .reads
 
 -- src/lib.rt:82:9
 returns-2 : tie.Need-returns-2
@@ -46,7 +46,7 @@ returns-3 c = passes _ _ _ _ _ (c .before .before .before .before .before .no-op
 
 -- src/lib.rt:87:8
 space-absent-requires : tie.Need-space-absent-requires
-space-absent-requires c κs = (store-linked _ (c .before .before .before .before .before .before .before .pre .0), c .before .before .before .before .before .before .before .pre .1)
+space-absent-requires c κs = c .before .before .before .before .before .before .before .before .before .pre .1
 
 -- src/lib.rt:88:9
 returns-4 : tie.Need-returns-4
@@ -55,7 +55,7 @@ returns-4 c = passes _ _ _ _ _ (c .before .before .before .before .before .befor
 
 -- src/lib.rt:90:8
 node-absent-requires : tie.Need-node-absent-requires
-node-absent-requires c κs = (store-linked _ (c .before .before .before .before .before .before .before .before .before .pre .0), c .before .before .before .before .before .before .before .before .before .pre .1)
+node-absent-requires c κs = (store-linked _ (c .before .before .before .before .before .before .before .before .before .before .before .pre .0), c .before .before .before .before .before .before .before .before .before .before .before .pre .1, sym (c .before .before .before .before .before .before .before .no-operator .ensures) ∙ c .before .before .before .before .before .before .if1 .left, sym (c .before .space-absent .ensures) ∙ c .if4 .left)
 
 -- src/lib.rt:91:9
 returns-5 : tie.Need-returns-5
@@ -64,7 +64,7 @@ returns-5 c = passes _ _ _ _ _ (c .before .before .before .before .before .befor
 
 -- src/lib.rt:93:8
 second-absent-requires : tie.Need-second-absent-requires
-second-absent-requires c κs = (store-linked _ (c .before .before .before .before .before .before .before .before .before .before .before .pre .0), c .before .before .before .before .before .before .before .before .before .before .before .pre .1)
+second-absent-requires c κs = (c .before .before .before .before .before .before .before .before .before .before .before .before .before .pre .1, sym (c .before .before .before .before .before .before .before .before .before .no-operator .ensures) ∙ c .before .before .before .before .before .before .before .before .if1 .left, sym (c .before .before .before .space-absent .ensures) ∙ c .before .before .if4 .left)
 
 -- src/lib.rt:94:9
 returns-6 : tie.Need-returns-6
@@ -73,7 +73,7 @@ returns-6 c = passes _ _ _ _ _ (c .before .before .before .before .before .befor
 
 -- src/lib.rt:96:8
 edge-absent-requires : tie.Need-edge-absent-requires
-edge-absent-requires c κs = (store-linked _ (c .before .before .before .before .before .before .before .before .before .before .before .before .before .pre .0), c .before .before .before .before .before .before .before .before .before .before .before .before .before .pre .1)
+edge-absent-requires c κs = (store-linked _ (c .before .before .before .before .before .before .before .before .before .before .before .before .before .before .before .pre .0), c .before .before .before .before .before .before .before .before .before .before .before .before .before .before .before .pre .1 .near)
 
 -- src/lib.rt:97:9
 returns-7 : tie.Need-returns-7
@@ -82,7 +82,7 @@ returns-7 c = passes _ _ _ _ _ (c .before .before .before .before .before .befor
 
 -- src/lib.rt:99:8
 is-short-requires : tie.Need-is-short-requires
-is-short-requires c κs = (c .before .before .before .before .before .before .before .before .before .before .before .before .before .before .before .pre .0, c .before .before .before .before .before .before .before .before .before .before .before .before .before .before .before .pre .1, sym (c .before .before .before .before .before .before .before .before .before .before .before .before .before .no-operator .ensures) ∙ c .before .before .before .before .before .before .before .before .before .before .before .before .if1 .left, sym (c .before .before .before .before .before .before .before .before .before .before .before .zero-name .ensures) ∙ c .before .before .before .before .before .before .before .before .before .before .if2 .left)
+is-short-requires c κs = (c .before .before .before .before .before .before .before .before .before .before .before .before .before .before .before .before .before .pre .0, c .before .before .before .before .before .before .before .before .before .before .before .before .before .before .before .before .before .pre .1 .near, sym (c .before .before .before .before .before .before .before .before .before .before .before .before .before .no-operator .ensures) ∙ c .before .before .before .before .before .before .before .before .before .before .before .before .if1 .left, sym (c .before .before .before .before .before .before .before .before .before .before .before .zero-name .ensures) ∙ c .before .before .before .before .before .before .before .before .before .before .if2 .left)
 
 -- src/lib.rt:100:9
 returns-8 : tie.Need-returns-8
@@ -91,7 +91,7 @@ returns-8 c = passes _ _ _ _ _ (c .before .before .before .before .before .befor
 
 -- src/lib.rt:102:8
 is-full-requires : tie.Need-is-full-requires
-is-full-requires c κs = (store-linked _ (c .before .before .before .before .before .before .before .before .before .before .before .before .before .before .before .before .before .pre .0), c .before .before .before .before .before .before .before .before .before .before .before .before .before .before .before .before .before .pre .1, c .before .before .before .before .before .before .before .before .before .before .before .before .before .before .before .before .before .pre .2)
+is-full-requires c κs = (store-linked _ (c .before .before .before .before .before .before .before .before .before .before .before .before .before .before .before .before .before .before .before .pre .0), c .before .before .before .before .before .before .before .before .before .before .before .before .before .before .before .before .before .before .before .pre .1 .near, c .before .before .before .before .before .before .before .before .before .before .before .before .before .before .before .before .before .before .before .pre .2)
 
 -- src/lib.rt:103:9
 returns-9 : tie.Need-returns-9
