@@ -215,22 +215,22 @@ fn first_words(key: Key) -> String {
     }
 }
 
-fn removal(key: Key) -> String {
+/// The line of the operator with this first letter on what a key names.
+fn unit_line(first_letter: char, key: Key) -> String {
     let s = last_word(key);
     if key.is_space() {
-        return format!("DUS{s}");
+        return format!("{first_letter}US{s}");
     }
-    let letters = if key.is_node() { "DUN" } else { "DOP" };
-    format!("{letters} {}{s}", first_words(key))
+    let letters = if key.is_node() { "UN" } else { "OP" };
+    format!("{first_letter}{letters} {}{s}", first_words(key))
+}
+
+fn removal(key: Key) -> String {
+    unit_line('D', key)
 }
 
 fn creation(key: Key) -> String {
-    let s = last_word(key);
-    if key.is_space() {
-        return format!("CUS{s}");
-    }
-    let letters = if key.is_node() { "CUN" } else { "COP" };
-    format!("{letters} {}{s}", first_words(key))
+    unit_line('C', key)
 }
 
 fn binding(key: Key, value: u32) -> String {
