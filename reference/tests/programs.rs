@@ -9,13 +9,15 @@ use std::path::{Path, PathBuf};
 use common::printed;
 use gaffdamson_reference::inputs;
 
-const NAMES: [&str; 8] = [
+const NAMES: [&str; 10] = [
     "slips",
+    "slips_blocks",
     "slips_empty",
     "slips_exact",
     "slips_full",
     "slips_manual",
     "slips_over",
+    "slips_panel",
     "slips_refusals",
     "slips_unreadable",
 ];

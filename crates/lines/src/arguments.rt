@@ -15,7 +15,7 @@ ghost use Rattle.lines.specs.Places.{ofWord, argumentAt, fieldAt, spaceO
 pub enum SpaceArgument {
     // The space, and where its word ends.
     Given(Space, usize),
-    // No space, where one must stand.
+    // A word that is no space, or none where a space may not be missing.
     NotASpace,
 }
 

@@ -30,7 +30,7 @@ pub enum Argument {
     Universal(usize),
     // No word is left.
     Missing,
-    // A word that is neither.
+    // A word that is neither a number nor U.
     Unreadable,
 }
 

@@ -39,7 +39,7 @@ requestOf x = record { call = x .call; room = length (x .lent) }
 abbrev pub requests : List CallMade → List Request
 requests xs = map requestOf xs
 
--- what the callers were observed
+-- what the callers observe
 abbrev pub replies : List CallMade → List Reply
 replies xs = map (λ (x : CallMade). observed (x .answer) (x .left)) xs
 

@@ -55,7 +55,7 @@ listAfter (valued v) l = l
 listAfter (yesNo b) l = l
 listAfter (pairs k ps) l = map pack ps ++ drop k l
 
--- what a caller is observed by an answer and the list that was lent to the call
+-- what a caller observes: an answer, with the list that was lent to the call
 unfoldable pub observed : Answer → List ℕ → Reply
 observed (Refusal number) l = refusal number
 observed (Name x) l = name x

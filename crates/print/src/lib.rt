@@ -73,7 +73,7 @@ fn digit_count(x: u32) -> usize
     10
 }
 
-// Writes a number, its last digit first.
+// Writes a number; its digits are found from the last to the first.
 fn put_number(out: &mut [u8], at: usize, x: u32) -> usize
     requires { ⌜ Fits (printedNumber x) (now out) at ⌝ }
     ensures { λ r. ⌜ Put (printedNumber x) (now (out .entry)) at r (now (out .exit)) ⌝ }

@@ -2,22 +2,17 @@
 // No contract can say what is read or written: what a script prints is in the contracts of crate script.
 use libc::STDIN_FILENO;
 use libc::STDOUT_FILENO;
-ghost use mathlib.Core.Path.{_≡_};
-ghost use Prim.Native.Nat.{_≤_};
-ghost use lib.ListN.{length};
-ghost use Rattle.model.specs.Steps.{refusal};
-ghost use Rattle.text.specs.Bytes.{written};
-ghost use Rattle.print.specs.Answers.{answerLine, mostLine};
 ghost use Rattle.script.specs.Runs.{Ready, ScriptRun};
 
-// Runs the lines of a script and writes what they print, block by block; `out` is left with the last block in it.
-fn run_lines(store: &mut [u32], list: &mut [u32], script: &[u8], out: &mut [u8])
-    requires { ⌜ Ready (now store) (now list) × (mostLine ≤ length (now out)) ⌝ }
+// Runs the lines of a script and writes what they print, block by block.
+fn run_lines(store: &mut [u32], list: &mut [u32], script: &[u8])
+    requires { ⌜ Ready (now store) (now list) ⌝ }
     ensures { λ _. ⌜ ScriptRun (now (store .entry)) (now (list .entry)) (now (script .entry)) (now (store .exit)) (now (list .exit)) ⌝ }
 {
+    let mut out = io::large_buffer();
     let mut at = 0;
     while at < script.len() {
-        let block = script::run_block(store, list, script, at, out);
+        let block = script::run_block(store, list, script, at, &mut out);
         let length = block.length;
         io::write_all(STDOUT_FILENO, &out[..length]);
         at = block.next;
@@ -25,32 +20,27 @@ fn run_lines(store: &mut [u32], list: &mut [u32], script: &[u8], out: &mut [u8])
 }
 
 // Runs a script on a fresh store with 2,048 records and an answer list of 2,048 places.
-fn run_script(script: &[u8], out: &mut [u8])
-    requires { ⌜ mostLine ≤ length (now out) ⌝ }
-{
+fn run_script(script: &[u8]) {
     let mut store: [u32; 12292] = [0; 12292];
     let mut list: [u32; 2048] = [0; 2048];
     verify::prepare(&mut store);
-    run_lines(&mut store, &mut list, script, out);
+    run_lines(&mut store, &mut list, script);
 }
 
 // Refuses an input that is too long.
-fn refuse(out: &mut [u8])
-    requires { ⌜ mostLine ≤ length (now out) ⌝ }
-    ensures { λ _. ⌜ now (out .exit) ≡ written (now (out .entry)) 0 (answerLine (refusal 11)) ⌝ }
-{
-    let length = script::refuse_input(out);
+fn refuse() {
+    let mut out = io::large_buffer();
+    let length = script::refuse_input(&mut out);
     io::write_all(STDOUT_FILENO, &out[..length]);
 }
 
 // The program: reads standard input and runs it as a script.
 pub fn run() {
     let mut input: [u8; 65537] = [0; 65537];
-    let mut out = io::large_buffer();
     let length = io::read_full(STDIN_FILENO, &mut input);
-    if length > 65536 {
-        refuse(&mut out);
+    if !script::accepted(length) {
+        refuse();
         return;
     }
-    run_script(&input[..length], &mut out);
+    run_script(&input[..length]);
 }

@@ -2,7 +2,7 @@
 use mathlib.Core.Bool.{Bool, true, false, cond}
 use mathlib.Core.List.{List, [], _∷_, _++_, append-assoc}
 use mathlib.Core.Path.{_≡_, refl, sym, _∙_, ap, ap₂}
-use Prim.Native.Nat.{ℕ, _-_, _≤_}
+use Prim.Native.Nat.{ℕ, _+_, _-_, _≤_}
 use native.Mathlib.Omega.{arith}
 use lib.Dec.{leb}
 use lib.ListN.{length, drop}
@@ -15,7 +15,7 @@ use Rattle.lines.proofs.LineLaws.{no-lines}
 use Rattle.print.specs.Answers.{answerLine, mostLine}
 use Rattle.script.specs.declared.Block.{Block}
 use Rattle.script.specs.Scripts.{lineOutcome, linesOutput, linesFinal}
-use Rattle.script.specs.Runs.{Ready, Run, lineList, linesList, printedBefore, runLines, BlockRun, ScriptRun}
+use Rattle.script.specs.Runs.{Ready, Run, lineList, linesList, before, runLines, BlockRun, ScriptRun}
 
 -- a run of the first of some lines, and then the lines that are left
 pub record AsAll (ts : State) (l : List ℕ) (xs : List Text) (r : Run) : Type 0 where
@@ -23,10 +23,10 @@ pub record AsAll (ts : State) (l : List ℕ) (xs : List Text) (r : Run) : Type 0
   pub final : linesFinal (r .state) (r .rest) ≡ linesFinal ts xs
   pub list : linesList (r .state) (r .list) (r .rest) ≡ linesList ts l xs
 
-not-run : (ts : State) (l : List ℕ) (xs : List Text) → AsAll ts l xs (record { text = []; state = ts; list = l; rest = xs })
+not-run : (ts : State) (l : List ℕ) (xs : List Text) → AsAll ts l xs (record { text = []; state = ts; list = l; rest = xs; taken = 0 })
 not-run ts l xs = record { output = refl; final = refl; list = refl }
 
-one-more : (ts : State) (l : List ℕ) (x : Text) (xs : List Text) (r : Run) → AsAll (lineOutcome ts x .state) (lineList ts (readLine x) l) xs r → AsAll ts l (x ∷ xs) (printedBefore (answerLine (lineOutcome ts x .answer)) r)
+one-more : (ts : State) (l : List ℕ) (x : Text) (xs : List Text) (r : Run) → AsAll (lineOutcome ts x .state) (lineList ts (readLine x) l) xs r → AsAll ts l (x ∷ xs) (before (length x + 1) (answerLine (lineOutcome ts x .answer)) r)
 unfolding linesOutput linesFinal linesList
 one-more ts l x xs r R =
     record {
@@ -74,7 +74,7 @@ module _ (b₀ l₀ : List ℕ) (script : Text) where
         ready = B .ready;
         words = B .size ∙ G .words;
         past = B .past ∙ G .past;
-        within = B .within;
+        within = omega (arith, B .next);
         final = ap₂ linesFinal (B .tuples) (B .rest) ∙ A .final ∙ G .final;
         list =
             ap (λ (ts : State). linesList ts l′ (linesOf (drop (r .next) script))) (B .tuples)

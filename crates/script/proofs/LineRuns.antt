@@ -22,7 +22,7 @@ use Rattle.lines.specs.declared.Reading.the-variants.{Read, Refused}
 use Rattle.lines.specs.Calls.{readLine}
 use Rattle.print.specs.Answers.{answerText, answerLine, mostLine, Put, Printable}
 use Rattle.print.proofs.Lengths.{line-printable}
-use Rattle.script.specs.Scripts.{scriptRecords, scriptPlaces, outcomeOf, lineOutcome}
+use Rattle.script.specs.Scripts.{scriptRecords, scriptPlaces, readingOutcome, lineOutcome}
 use Rattle.script.specs.Runs.{Ready, Called, call, no-call, LineRun, lineList}
 
 -- ---- what was run
@@ -34,12 +34,12 @@ module _ (b l : List ℕ) (line : Text) (out : Text) (at : ℕ) where
 
   -- what a caller of the call is told is what the line answers
   call-reply : (c : Call) (a : Answer) (b′ l′ : List ℕ) → Ready b l → readLine line ≡ Read c → OnStore b l c a b′ l′ → observed a l′ ≡ lineOutcome (tuplesOf b) line .answer
-  unfolding lineOutcome outcomeOf tuplesOf
+  unfolding lineOutcome readingOutcome tuplesOf
   call-reply c a b′ l′ R e O =
       ap₂ observed (O .answer) (O .list)
       ∙ observed-machine (capacityOf b) (tuplesOf b) c (length l) l (store-rules b (R .store) .tuples)
       ∙ ap (λ (o : Outcome). o .answer) (as-machine c R)
-      ∙ ap (λ (r : Reading). outcomeOf (tuplesOf b) r .answer) (sym e)
+      ∙ ap (λ (r : Reading). readingOutcome (tuplesOf b) r .answer) (sym e)
 
   -- there is room for the answer of a call
   pub call-printable : (c : Call) (a : Answer) (b′ l′ : List ℕ) → Ready b l → OnStore b l c a b′ l′ → length l′ ≡ length l → ((i : ℕ) → getD l′ i 0 ≤ 4294967295) → at + mostLine ≤ length out
@@ -61,8 +61,8 @@ module _ (b l : List ℕ) (line : Text) (out : Text) (at : ℕ) where
 
   -- a line that does not read as a call
   refused-reply : (number : ℕ) → readLine line ≡ Refused number → observed (Refusal number) l ≡ lineOutcome (tuplesOf b) line .answer
-  unfolding lineOutcome outcomeOf observed
-  refused-reply number e = ap (λ (r : Reading). outcomeOf (tuplesOf b) r .answer) (sym e)
+  unfolding lineOutcome readingOutcome observed
+  refused-reply number e = ap (λ (r : Reading). readingOutcome (tuplesOf b) r .answer) (sym e)
 
   -- there is room for a refusal
   pub refused-printable : (number : ℕ) → at + mostLine ≤ length out → Printable (answerLine (observed (Refusal number) l)) (Refusal number) l out at
@@ -105,14 +105,14 @@ capacity-kept b b′ e = cc
 
 module _ (b l : List ℕ) (R : Ready b l) where
   left-of : (r : Reading) (line : Text) (b′ l′ : List ℕ) → readLine line ≡ r → length l′ ≡ length l → Called b l b′ l′ r → LineLeft b l line b′ l′
-  unfolding lineOutcome outcomeOf lineList
+  unfolding lineOutcome readingOutcome lineList
   left-of (Read c) line b′ l′ e k (call O) =
       record {
         ready = record { store = O .store; records = capacity-kept b b′ (O .size) ∙ R .records; places = k ∙ R .places };
         tuples =
             O .tuples
             ∙ ap (λ (o : Outcome). o .state) (as-machine b l line line 0 c R)
-            ∙ ap (λ (r : Reading). outcomeOf (tuplesOf b) r .state) (sym e);
+            ∙ ap (λ (r : Reading). readingOutcome (tuplesOf b) r .state) (sym e);
         size = O .size;
         past = O .past;
         list =
@@ -123,7 +123,7 @@ module _ (b l : List ℕ) (R : Ready b l) where
   left-of (Refused number) line b′ l′ e k (no-call sb sl) =
       record {
         ready = subst (λ (x : List ℕ). Ready x l′) (sym sb) (subst (Ready b) (sym sl) R);
-        tuples = ap tuplesOf sb ∙ ap (λ (r : Reading). outcomeOf (tuplesOf b) r .state) (sym e);
+        tuples = ap tuplesOf sb ∙ ap (λ (r : Reading). readingOutcome (tuplesOf b) r .state) (sym e);
         size = ap length sb;
         past = ap pastRecords sb;
         list = sl ∙ ap (λ (r : Reading). lineList (tuplesOf b) r l) (sym e);

@@ -6,8 +6,8 @@ use Rattle.model.specs.Unread.{readable}
 use Rattle.model.proofs.Unread.{unread-fields}
 use Rattle.lines.specs.Reachable.{lineOf, Fitting}
 use Rattle.lines.proofs.Reachable.{no-operator-out-of-reach}
-use Rattle.script.specs.Scripts.{scriptRecords, scriptPlaces, outcomeOf, lineOutcome}
+use Rattle.script.specs.Scripts.{scriptRecords, scriptPlaces, readingOutcome, lineOutcome}
 
 pub line-of-call : (ts : State) (c : Call) → Fitting c → lineOutcome ts (lineOf c) ≡ machine scriptRecords ts c scriptPlaces
-unfolding lineOutcome outcomeOf
-line-of-call ts c f = ap (outcomeOf ts) (no-operator-out-of-reach c f) ∙ sym (unread-fields scriptRecords ts c scriptPlaces)
+unfolding lineOutcome readingOutcome
+line-of-call ts c f = ap (readingOutcome ts) (no-operator-out-of-reach c f) ∙ sym (unread-fields scriptRecords ts c scriptPlaces)

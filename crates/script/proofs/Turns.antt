@@ -1,15 +1,15 @@
 -- Line after line: what was printed so far, and what the run of the lines that are left gives, is the run of all lines.
 use mathlib.Core.Bool.{Bool, true, false, cond}
 use mathlib.Core.List.{List, [], _∷_, _++_, append-assoc, append-nil}
-use mathlib.Core.Path.{_≡_, refl, sym, _∙_, ap, subst}
-use Prim.Native.Nat.{ℕ, _+_, _-_, _≤_, _<_}
+use mathlib.Core.Path.{_≡_, refl, sym, _∙_, ap, ap₂, subst}
+use Prim.Native.Nat.{ℕ, _+_, _-_, _≤_, _<_, min}
 use native.Mathlib.Omega.{arith}
 use borrow.Author.Tests.{le-leb, lt-leb, ltb-true, ltb-false}
 use lib.Dec.{leb, ltb}
 use lib.ListN.{length, drop, length-append}
 use Rattle.model.specs.Machine.{State}
 use Rattle.model.specs.Buffer.{tuplesOf, pastRecords}
-use Rattle.text.specs.Bytes.{Text, lineFeed, before, written}
+use Rattle.text.specs.Bytes.{Text, lineFeed, before as upTo, written}
 use Rattle.text.proofs.Written.{written-nil, written-twice, length-written}
 use Rattle.lines.specs.Lines.{linesOf}
 use Rattle.lines.specs.Calls.{readLine}
@@ -17,17 +17,17 @@ use Rattle.lines.proofs.LineLaws.{no-lines, next-line, line-within}
 use Rattle.print.specs.Answers.{answerLine, Put, mostLine}
 use Rattle.script.specs.declared.Block.{Block}
 use Rattle.script.specs.Scripts.{lineOutcome}
-use Rattle.script.specs.Runs.{Ready, LineRun, Run, lineList, printedBefore, runLines, nextLine, BlockRun}
+use Rattle.script.specs.Runs.{Ready, LineRun, Run, lineList, before, runLines, nextLine, BlockRun}
 use Rattle.script.proofs.LineRuns.{LineLeft, line-left}
 
 -- no line is run
 abbrev pub unrun : State → List ℕ → List Text → Run
-unrun ts l xs = record { text = []; state = ts; list = l; rest = xs }
+unrun ts l xs = record { text = []; state = ts; list = l; rest = xs; taken = 0 }
 
 -- the first line is run, and then those behind it
 abbrev firstRun : ℕ → State → List ℕ → Text → List Text → Run
 firstRun room ts l x xs =
-    printedBefore (answerLine (lineOutcome ts x .answer))
+    before (length x + 1) (answerLine (lineOutcome ts x .answer))
     (runLines (room - length (answerLine (lineOutcome ts x .answer))) (lineOutcome ts x .state) (lineList ts (readLine x) l) xs)
 
 -- where there is no room for a line none is run, and none where there is no line
@@ -45,9 +45,17 @@ one-line : (room : ℕ) (ts : State) (l : List ℕ) (x : Text) (xs : List Text) 
 unfolding runLines
 one-line room ts l x xs h = ap (λ (b : Bool). cond b (firstRun room ts l x xs) (unrun ts l (x ∷ xs))) (le-leb mostLine room h)
 
--- two texts printed before a run
-printed-twice : (xs ys : Text) (r : Run) → printedBefore xs (printedBefore ys r) ≡ printedBefore (xs ++ ys) r
-printed-twice xs ys r = ap (λ (zs : Text). record { text = zs; state = r .state; list = r .list; rest = r .rest }) (sym (append-assoc xs ys (r .text)))
+-- no line before a run
+before-none : (r : Run) → r ≡ before 0 [] r
+before-none r =
+    let same : r .taken ≡ 0 + r .taken = omega arith in
+    ap (λ (k : ℕ). record { text = r .text; state = r .state; list = r .list; rest = r .rest; taken = k }) same
+
+-- lines before lines before a run
+before-twice : (m n : ℕ) (xs ys : Text) (r : Run) → before m xs (before n ys r) ≡ before (m + n) (xs ++ ys) r
+before-twice m n xs ys r =
+    let sum : m + (n + r .taken) ≡ m + n + r .taken = omega arith in
+    ap₂ (λ (zs : Text) (k : ℕ). record { text = zs; state = r .state; list = r .list; rest = r .rest; taken = k }) (sym (append-assoc xs ys (r .text))) sum
 
 -- a run that has no room for a line, though the output had, has run one
 moved : {whole : ℕ} (from at size : ℕ) → whole - size < mostLine → mostLine ≤ whole → from ≤ at → (at ≡ from → size ≡ 0) → from < at
@@ -69,8 +77,11 @@ pub record Running (b₀ l₀ : List ℕ) (script : Text) (from : ℕ) (out₀ :
   pub unmoved : at ≡ from → size ≡ 0
   pub fits : size ≤ length out₀
   pub done : Text
+  -- how many bytes the lines take that were run, with their line feeds
+  pub taken : ℕ
+  pub place : at ≡ min (from + taken) (length script)
   pub put : Put done out₀ 0 size out
-  pub run : runLines (length out₀) (tuplesOf b₀) l₀ (linesOf (drop from script)) ≡ printedBefore done (runLines (length out₀ - size) (tuplesOf b) l (linesOf (drop at script)))
+  pub run : runLines (length out₀) (tuplesOf b₀) l₀ (linesOf (drop from script)) ≡ before taken done (runLines (length out₀ - size) (tuplesOf b) l (linesOf (drop at script)))
 
 -- ---- the next line
 
@@ -78,9 +89,10 @@ pub record Running (b₀ l₀ : List ℕ) (script : Text) (from : ℕ) (out₀ :
 pub record NextLine (script : Text) (at : ℕ) (line : Text) (next : ℕ) : Type 0 where
   pub onward : at < next
   pub within : next ≤ length script
+  pub place : next ≡ min (at + (length line + 1)) (length script)
   pub split : linesOf (drop at script) ≡ line ∷ linesOf (drop next script)
 
-pub next-of : (script : Text) (at : ℕ) (line : Text) (next : ℕ) → at < length script → line ≡ before lineFeed (drop at script) → next ≡ nextLine (length script) (at + length line) → NextLine script at line next
+pub next-of : (script : Text) (at : ℕ) (line : Text) (next : ℕ) → at < length script → line ≡ upTo lineFeed (drop at script) → next ≡ nextLine (length script) (at + length line) → NextLine script at line next
 next-of script at line next some e n = go (ltb (at + length line) (length script)) refl
   where
     behind : linesOf (drop at script) ≡ line ∷ linesOf (drop (at + length line + 1) script)
@@ -96,13 +108,14 @@ next-of script at line next some e n = go (ltb (at + length line) (length script
     go true f =
         let h : at + length line < length script = ltb-true (at + length line) (length script) f in
         let q : next ≡ at + length line + 1 = chosen true f in
-        record { onward = omega arith; within = omega arith; split = behind ∙ ap (λ (k : ℕ). line ∷ linesOf (drop k script)) (sym q) }
+        record { onward = omega arith; within = omega arith; place = omega arith; split = behind ∙ ap (λ (k : ℕ). line ∷ linesOf (drop k script)) (sym q) }
     go false f =
         let h : length script ≤ at + length line = ltb-false (at + length line) (length script) f in
         let q : next ≡ at + length line = chosen false f in
         record {
           onward = omega arith;
           within = omega (arith, inside);
+          place = omega (arith, inside);
           split = behind ∙ ap (λ (xs : List Text). line ∷ xs) (no-lines script (at + length line + 1) (omega arith) ∙ sym (no-lines script next (omega arith)));
         }
 
@@ -121,8 +134,10 @@ module _ (b₀ l₀ : List ℕ) (script : Text) (from : ℕ) (out₀ : Text) whe
         unmoved = λ e. refl;
         fits = omega arith;
         done = [];
+        taken = 0;
+        place = omega arith;
         put = record { place = refl; bytes = sym (written-nil out₀ 0) };
-        run = ap (λ (n : ℕ). runLines n (tuplesOf b₀) l₀ (linesOf (drop from script))) whole;
+        run = ap (λ (n : ℕ). runLines n (tuplesOf b₀) l₀ (linesOf (drop from script))) whole ∙ before-none (runLines (length out₀ - 0) (tuplesOf b₀) l₀ (linesOf (drop from script)));
       }
 
   -- one more line
@@ -138,12 +153,12 @@ module _ (b₀ l₀ : List ℕ) (script : Text) (from : ℕ) (out₀ : Text) whe
       let grown : length (S .done ++ a) ≡ length (S .done) + length a = length-append (S .done) a in
       let room′ : length out₀ - size - length a ≡ length out₀ - end = omega (arith, L .put .place) in
       let later : Run = runLines (length out₀ - end) (tuplesOf b′) l′ (linesOf (drop next script)) in
-      let first : runLines (length out₀ - size) (tuplesOf b) l (linesOf (drop at script)) ≡ printedBefore a later
+      let first : runLines (length out₀ - size) (tuplesOf b) l (linesOf (drop at script)) ≡ before (length line + 1) a later
       = ap (runLines (length out₀ - size) (tuplesOf b) l) (X .split)
       ∙ one-line (length out₀ - size) (tuplesOf b) l line (linesOf (drop next script)) room
-      ∙ ap (λ (n : ℕ). printedBefore a (runLines n (lineOutcome (tuplesOf b) line .state) (lineList (tuplesOf b) (readLine line) l) (linesOf (drop next script)))) room′
-      ∙ ap (λ (ts : State). printedBefore a (runLines (length out₀ - end) ts (lineList (tuplesOf b) (readLine line) l) (linesOf (drop next script)))) (sym (left .tuples))
-      ∙ ap (λ (k : List ℕ). printedBefore a (runLines (length out₀ - end) (tuplesOf b′) k (linesOf (drop next script)))) (sym (left .list)) in
+      ∙ ap (λ (n : ℕ). before (length line + 1) a (runLines n (lineOutcome (tuplesOf b) line .state) (lineList (tuplesOf b) (readLine line) l) (linesOf (drop next script)))) room′
+      ∙ ap (λ (ts : State). before (length line + 1) a (runLines (length out₀ - end) ts (lineList (tuplesOf b) (readLine line) l) (linesOf (drop next script)))) (sym (left .tuples))
+      ∙ ap (λ (k : List ℕ). before (length line + 1) a (runLines (length out₀ - end) (tuplesOf b′) k (linesOf (drop next script)))) (sym (left .list)) in
       record {
         ready = left .ready;
         words = left .size ∙ S .words;
@@ -153,6 +168,8 @@ module _ (b₀ l₀ : List ℕ) (script : Text) (from : ℕ) (out₀ : Text) whe
         unmoved = λ e. absurd (omega (arith, S .onward, X .onward, e));
         fits = omega (arith, L .within, sized);
         done = S .done ++ a;
+        taken = S .taken + (length line + 1);
+        place = omega (arith, S .place, X .place, X .onward, X .within);
         put =
             record {
               place = omega (arith, L .put .place, S .put .place, grown);
@@ -162,7 +179,7 @@ module _ (b₀ l₀ : List ℕ) (script : Text) (from : ℕ) (out₀ : Text) whe
                   ∙ ap (λ (n : ℕ). written (written out₀ 0 (S .done)) n a) (S .put .place)
                   ∙ written-twice out₀ 0 (S .done) a (omega arith);
             };
-        run = S .run ∙ ap (printedBefore (S .done)) first ∙ printed-twice (S .done) a later;
+        run = S .run ∙ ap (before (S .taken) (S .done)) first ∙ before-twice (S .taken) (length line + 1) (S .done) a later;
       }
 
   -- where no further line is run
@@ -171,8 +188,9 @@ module _ (b₀ l₀ : List ℕ) (script : Text) (from : ℕ) (out₀ : Text) whe
       → (from < length script → mostLine ≤ length out₀ → from < at)
       → BlockRun (runLines (length out₀) (tuplesOf b₀) l₀ (linesOf (drop from script))) b₀ script from out₀ (record { next = at; length = size }) b l out
   run-end b l at size out S e forward =
-      let done : runLines (length out₀) (tuplesOf b₀) l₀ (linesOf (drop from script)) ≡ printedBefore (S .done) (unrun (tuplesOf b) l (linesOf (drop at script)))
-      = S .run ∙ ap (printedBefore (S .done)) e in
+      let done : runLines (length out₀) (tuplesOf b₀) l₀ (linesOf (drop from script)) ≡ before (S .taken) (S .done) (unrun (tuplesOf b) l (linesOf (drop at script)))
+      = S .run ∙ ap (before (S .taken) (S .done)) e in
+      let all : runLines (length out₀) (tuplesOf b₀) l₀ (linesOf (drop from script)) .taken ≡ S .taken + 0 = ap (λ (u : Run). u .taken) done in
       record {
         ready = S .ready;
         tuples = sym (ap (λ (u : Run). u .state) done);
@@ -181,7 +199,7 @@ module _ (b₀ l₀ : List ℕ) (script : Text) (from : ℕ) (out₀ : Text) whe
         list = sym (ap (λ (u : Run). u .list) done);
         put = subst (λ (bs : Text). Put bs out₀ 0 size out) (sym (ap (λ (u : Run). u .text) done ∙ append-nil (S .done))) (S .put);
         fits = S .fits;
-        within = S .within;
+        next = omega (arith, S .place, all);
         rest = sym (ap (λ (u : Run). u .rest) done);
         forward = forward;
       }

@@ -1,15 +1,18 @@
 -- A whole script: what `run_block` puts out block by block, on a buffer that `prepare` has prepared, is what document 01 has the script print.
 -- It rests on what a caller of these functions learns from their own contracts (`Learnt`), so a weaker contract breaks it.
+use mathlib.Core.Bool.{Bool, true, false, cond}
 use mathlib.Core.List.{List, [], _++_}
 use mathlib.Core.Path.{_≡_, sym, _∙_, ap, ap₂, subst}
 use Prim.Native.Nat.{ℕ, _≤_}
 use native.Mathlib.Omega.{arith}
+use lib.Dec.{leb}
 use lib.ListN.{length, take, drop}
 use contract.Lifetimes.{Lfts}
 use borrow.Fn.Kinds.{Dens, resT, endedOf}
 use denote.Triple.Clauses.{AtExit}
 use Rattle.model.specs.declared.Preparation.{Preparation}
 use Rattle.model.specs.Tuples.{fresh}
+use Rattle.model.specs.Steps.{refusal}
 use Rattle.model.specs.Machine.{State}
 use Rattle.model.specs.Buffer.{tuplesOf}
 use Rattle.calls.proofs.Lists.{PreparedBy, prepared-preparing}
@@ -17,13 +20,18 @@ use Rattle.text.specs.Bytes.{Text}
 use Rattle.text.proofs.Written.{take-first}
 use Rattle.lines.specs.Lines.{linesOf}
 use Rattle.lines.proofs.LineLaws.{no-lines}
+use Rattle.print.specs.Answers.{answerLine}
 use Rattle.script.specs.declared.Block.{Block}
-use Rattle.script.specs.Scripts.{linesOutput, scriptOutput}
+use Rattle.script.specs.Scripts.{linesOutput, scriptOutput, mostInput, slipsOutput}
 use Rattle.script.specs.Runs.{Run, runLines, BlockRun}
 use Rattle.script.proofs.Blocks.{AsAll, run-as-all}
 use Rattle.script.proofs.Fresh.{fresh-tuples}
 use Rattle.script.proofs.run_block.Kinds as kinds
 use Rattle.script.proofs.run_block.Reads as reads
+use Rattle.script.proofs.accepted.Kinds as accepted-kinds
+use Rattle.script.proofs.accepted.Reads as accepted-reads
+use Rattle.script.proofs.refuse_input.Kinds as refuse-kinds
+use Rattle.script.proofs.refuse_input.Reads as refuse-reads
 
 -- calls of `run_block` one after the other, each with the store and the list as the call before left them and from where it stopped, until no line is left;
 -- and what they put out: of each output its first `length` bytes
@@ -60,3 +68,36 @@ pub whole-script : (script out : Text) (raw b l : List ℕ) (r : Preparation) �
 unfolding scriptOutput
 whole-script script out raw b l r size P printed =
     printed-output printed ∙ ap (λ (ts : State). linesOutput ts (linesOf script)) (fresh-tuples raw b r (prepared-preparing P) size)
+
+-- ---- an input of any length
+
+-- a call of `accepted`: its argument and its answer
+pub data AcceptedBy : ℕ → Bool → Type 0 where
+  accepted-by : (κs : Lfts 0) (a : Dens κs accepted-kinds.ps) (r : resT accepted-kinds.r κs .Denot) (e : AtExit (endedOf 0 accepted-kinds.ps accepted-kinds.r) κs)
+      → accepted-reads.Learnt κs a r e → AcceptedBy (a .0) r
+
+accepted-is : {n : ℕ} {t : Bool} → AcceptedBy n t → t ≡ leb n mostInput
+accepted-is (accepted-by κs a r e L) = L
+
+-- a call of `refuse_input`, and what it puts out: the first bytes, as many as it answers
+pub data RefusedBy : Text → Type 0 where
+  refused-by : (κs : Lfts 1) (a : Dens κs refuse-kinds.ps) (r : resT refuse-kinds.r κs .Denot) (e : AtExit (endedOf 1 refuse-kinds.ps refuse-kinds.r) κs)
+      → refuse-reads.Learnt κs a r e → RefusedBy (take r (e .0 .now))
+
+refused-is : {out : Text} → RefusedBy out → out ≡ answerLine (refusal 11)
+refused-is (refused-by κs a r e L) =
+    let counted : r ≡ length (answerLine (refusal 11)) = omega (arith, L .place) in
+    ap₂ (λ (n : ℕ) (bs : Text). take n bs) counted (L .bytes) ∙ take-first (a .0 .now) (answerLine (refusal 11))
+
+-- what is put out for an input: what its lines print on a fresh store where `accepted` says yes, else the refusal
+pub data Answered (input : Text) : Text → Type 0 where
+  run-lines : {out : Text} (raw b l : List ℕ) (r : Preparation) → AcceptedBy (length input) true → length raw ≡ 12292 → PreparedBy raw r b → Printed input b l 0 out → Answered input out
+  refuse-all : {out : Text} → AcceptedBy (length input) false → RefusedBy out → Answered input out
+
+-- "It reads at most 65,536 bytes of standard input (more: the one line `R 11`)": what is put out for any input is what document 01 has `slips` print
+pub slips-output : (input out : Text) → Answered input out → out ≡ slipsOutput input
+unfolding slipsOutput
+slips-output input out (run-lines raw b l r said size P printed) =
+    whole-script input out raw b l r size P printed ∙ ap (λ (t : Bool). cond t (scriptOutput input) (answerLine (refusal 11))) (accepted-is said)
+slips-output input out (refuse-all said refused) =
+    refused-is refused ∙ ap (λ (t : Bool). cond t (scriptOutput input) (answerLine (refusal 11))) (accepted-is said)

@@ -2,7 +2,7 @@
 use mathlib.Core.Bool.{true, cond}
 use mathlib.Core.List.{List, [], _∷_, _++_}
 use mathlib.Core.Path.{_≡_}
-use Prim.Native.Nat.{ℕ, _+_, _-_, _≤_, _<_}
+use Prim.Native.Nat.{ℕ, _+_, _-_, _≤_, _<_, min}
 use lib.Dec.{leb, ltb}
 use lib.ListN.{length, drop}
 use Rattle.model.specs.declared.Call.{Call}
@@ -46,6 +46,8 @@ pub record Run : Type 0 where
   pub state : State
   pub list : List ℕ
   pub rest : List Text
+  -- how many bytes the lines take that were run, with their line feeds
+  pub taken : ℕ
 
 -- the answer list after a line
 unfoldable pub lineList : State → Reading → List ℕ → List ℕ
@@ -57,18 +59,18 @@ unfoldable pub linesList : State → List ℕ → List Text → List ℕ
 linesList ts l [] = l
 linesList ts l (x ∷ xs) = linesList (lineOutcome ts x .state) (lineList ts (readLine x) l) xs
 
--- a text printed before what a run prints
-abbrev pub printedBefore : Text → Run → Run
-printedBefore bs r = record { text = bs ++ r .text; state = r .state; list = r .list; rest = r .rest }
+-- lines of so many bytes, which print a text, before a run
+abbrev pub before : ℕ → Text → Run → Run
+before n bs r = record { text = bs ++ r .text; state = r .state; list = r .list; rest = r .rest; taken = n + r .taken }
 
--- lines are run as long as there is room for the longest line
+-- lines are run as long as there is room for any line
 unfoldable pub runLines : ℕ → State → List ℕ → List Text → Run
-runLines room ts l [] = record { text = []; state = ts; list = l; rest = [] }
+runLines room ts l [] = record { text = []; state = ts; list = l; rest = []; taken = 0 }
 runLines room ts l (x ∷ xs) =
     cond (leb mostLine room)
-    (printedBefore (answerLine (lineOutcome ts x .answer))
+    (before (length x + 1) (answerLine (lineOutcome ts x .answer))
     (runLines (room - length (answerLine (lineOutcome ts x .answer))) (lineOutcome ts x .state) (lineList ts (readLine x) l) xs))
-    (record { text = []; state = ts; list = l; rest = x ∷ xs })
+    (record { text = []; state = ts; list = l; rest = x ∷ xs; taken = 0 })
 
 -- where the line behind one that ends at a place starts: behind its line feed, or at the script's end
 abbrev pub nextLine : ℕ → ℕ → ℕ
@@ -83,7 +85,8 @@ pub record BlockRun (u : Run) (b : List ℕ) (script : Text) (from : ℕ) (out :
   pub list : l′ ≡ u .list
   pub put : Put (u .text) out 0 (r .length) out′
   pub fits : r .length ≤ length out
-  pub within : r .next ≤ length script
+  -- behind the lines that were run; the last line of the script may lack its line feed
+  pub next : r .next ≡ min (from + u .taken) (length script)
   pub rest : linesOf (drop (r .next) script) ≡ u .rest
   -- at least one line is run, where there is one and the output is long enough
   pub forward : from < length script → mostLine ≤ length out → from < r .next

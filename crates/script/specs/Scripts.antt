@@ -22,12 +22,12 @@ abbrev pub scriptPlaces : ℕ
 scriptPlaces = 2048
 
 -- a line that reads as a call is the machine's step; one that does not is refused, and makes no call
-unfoldable pub outcomeOf : State → Reading → Outcome
-outcomeOf ts (Read c) = machine scriptRecords ts c scriptPlaces
-outcomeOf ts (Refused number) = record { answer = refusal number; state = ts }
+unfoldable pub readingOutcome : State → Reading → Outcome
+readingOutcome ts (Read c) = machine scriptRecords ts c scriptPlaces
+readingOutcome ts (Refused number) = record { answer = refusal number; state = ts }
 
 unfoldable pub lineOutcome : State → Text → Outcome
-lineOutcome ts line = outcomeOf ts (readLine line)
+lineOutcome ts line = readingOutcome ts (readLine line)
 
 -- "runs the lines": what they print one after the other ..
 unfoldable pub linesOutput : State → List Text → Text

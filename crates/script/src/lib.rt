@@ -1,17 +1,19 @@
 // A script run line by line on a store that is known to be one; what it prints goes to lent bytes.
-// The functions are pub for the program above, which has proved what they require.
+// run_line, run_block and refuse_input are pub for those above them, which have proved what they require.
 use lines::Reading;
 use model::Answer;
 ghost use mathlib.Core.Path.{_≡_};
 ghost use Prim.Native.Nat.{_+_, _≤_};
+ghost use lib.Dec.{leb};
 ghost use lib.ListN.{length, drop};
 ghost use Rattle.model.specs.Buffer.{tuplesOf};
 ghost use Rattle.model.specs.Steps.{refusal};
 ghost use Rattle.lines.specs.Lines.{linesOf};
 ghost use Rattle.print.specs.Answers.{answerLine, mostLine, Put};
+ghost use Rattle.script.specs.Scripts.{mostInput};
 ghost use Rattle.script.specs.Runs.{Ready, LineRun, runLines, BlockRun, nextLine};
 
-// How far a block of output has come.
+// What a block of output holds, and where it stopped.
 pub struct Block {
     // Where the next line starts.
     pub next: usize,
@@ -51,7 +53,7 @@ fn next_line(script: &[u8], end: usize) -> usize
     end
 }
 
-// Runs the lines from place `from` on, as long as the output has room for the longest line.
+// Runs the lines from place `from` on, as long as the output has room for any line.
 pub fn run_block(
     store: &mut [u32],
     list: &mut [u32],
@@ -73,6 +75,13 @@ pub fn run_block(
         at = next_line(script, at + line.len());
     }
     Block { next: at, length }
+}
+
+// May an input of so many bytes be run: at most 65,536.
+pub fn accepted(length: usize) -> bool
+    ensures { λ r. ⌜ r ≡ leb length mostInput ⌝ }
+{
+    length <= 65536
 }
 
 // Writes the refusal of an input that is too long.

@@ -1,1 +1,1 @@
-// Bytes, words and numbers of scripts: definitions in specs/, theorems about them in proofs/. There is no code here.
+// Bytes and numbers of scripts: definitions in specs/, theorems about them in proofs/. There is no code here.

@@ -1,6 +1,7 @@
 //! The inputs of the program crates: scripts whose output `rt check` compares.
 //! Those here are long, or hold bytes that a text doesn't show.
 
+mod blocks;
 mod full;
 pub mod long;
 mod manual;
@@ -22,6 +23,7 @@ pub fn all(top: &Path) -> io::Result<Vec<(&'static str, Vec<u8>)>> {
         ("slips_exact", long::exact()),
         ("slips_over", long::over()),
         ("slips_full", full::script()),
+        ("slips_blocks", blocks::script()),
     ])
 }
 

@@ -8,31 +8,27 @@ use Rattle.program.proofs.run_script.Lts as lts
 use Rattle.program.proofs.run_lines.Reads as run-lines-reads
 use Rattle.verify.proofs.prepare.Reads as prepare-reads
 
--- src/lib.rt:33:21
+-- src/lib.rt:26:21
 slice-aggregate-prepare : tie.Need-slice-aggregate-prepare
 slice-aggregate-prepare c = search needs
 
--- src/lib.rt:33:5
+-- src/lib.rt:26:5
 prepare-requires : tie.Need-prepare-requires
 prepare-requires c κs = search needs
 
--- src/lib.rt:34:15
+-- src/lib.rt:27:15
 slice-aggregate-run-lines : tie.Need-slice-aggregate-run-lines
 slice-aggregate-run-lines c = search needs
 
--- src/lib.rt:34:27
+-- src/lib.rt:27:27
 slice-aggregate-run-lines-2 : tie.Need-slice-aggregate-run-lines-2
 slice-aggregate-run-lines-2 c = search needs
 
--- src/lib.rt:34:5
+-- src/lib.rt:27:5
 run-lines-requires : tie.Need-run-lines-requires
-run-lines-requires c κs = (fresh-ready _ _ _ (c .before .before .before .before .prepare .ensures .0) refl _ refl, c .before .before .before .before .before .before .before .before .pre)
+run-lines-requires c κs = fresh-ready _ _ _ (c .before .before .before .prepare .ensures .0) refl _ refl
 
--- src/lib.rt:28:1
-same-length : tie.Need-same-length
-same-length c = search needs
-
--- src/lib.rt:28:1
+-- src/lib.rt:23:1
 returns : tie.Need-returns
 returns c = search needs
 
@@ -45,5 +41,4 @@ run-script-spec =
     slice-aggregate-run-lines
     slice-aggregate-run-lines-2
     run-lines-requires
-    same-length
     returns)
