@@ -2,8 +2,11 @@
 // The definitions over them, in the order of document 01, are in specs/. There is no code here.
 
 // "Nodes, edges and spaces are named by 1 to 65,535 (16 bits), separately": one type for each sort of name.
+// Those of nodes and edges have the layout of C, for the pairs of a list that C or Rust lends.
+#[repr(C)]
 pub struct NodeName(pub u16);
 
+#[repr(C)]
 pub struct EdgeName(pub u16);
 
 pub struct SpaceName(pub u16);
@@ -132,6 +135,7 @@ pub struct Key {
 }
 
 // "The answer list is a lent list of pairs (edge, node)."
+#[repr(C)]
 pub struct Pair {
     pub edge: EdgeName,
     pub node: NodeName,
