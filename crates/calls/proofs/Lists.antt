@@ -58,6 +58,12 @@ bounds raw e =
     let high : length raw ≤ 12297 = leb-true (length raw) 12297 (and-right (leb 10 (length raw)) (leb (length raw) 12297) e) in
     (omega (arith, low), omega (arith, high))
 
+-- demand 3 of calls on a buffer that is prepared
+pub prepared-demand-3 : (raw b b′ : List ℕ) (C : ℕ) (xs : List CallMade) → capacityOf raw ≡ C → Prepared raw b → Trace b xs b′ → WholeList C fresh xs b′
+prepared-demand-3 raw b b′ C xs size P calls =
+    let C′ = bounds raw (P .fits) in
+    demand-3 C raw b b′ xs (omega (arith, size, C′ .0)) (omega (arith, size, C′ .1)) size P calls
+
 -- where `prepare` answers C, the buffer has that C and is prepared
 pub prepared-by : (raw b : List ℕ) (C : ℕ) → PreparedBy raw (Capacity C) b → (capacityOf raw ≡ C) × Prepared raw b
 prepared-by raw b C P = capacity-prepared raw b C (prepared-preparing P)
@@ -66,6 +72,4 @@ prepared-by raw b C P = capacity-prepared raw b C (prepared-preparing P)
 pub entry-demand-3 : (raw b b′ : List ℕ) (C : ℕ) (xs : List CallMade) → PreparedBy raw (Capacity C) b → Executed b xs b′ → WholeList C fresh xs b′
 entry-demand-3 raw b b′ C xs P calls =
     let Q = prepared-by raw b C P in
-    let size = Q .0 in
-    let C′ = bounds raw (Q .1 .fits) in
-    demand-3 C raw b b′ xs (omega (arith, size, C′ .0)) (omega (arith, size, C′ .1)) size (Q .1) (executed-trace calls)
+    prepared-demand-3 raw b b′ C xs (Q .0) (Q .1) (executed-trace calls)

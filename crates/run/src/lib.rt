@@ -29,8 +29,8 @@ fn upper_half(w: u32) -> u16
     (w / 65536) as u16
 }
 
-// The space of a call: its form, and its number where it has one.
-fn space_of(form: u32, s: u16) -> Space
+// The space of a call: its form, and its number where it has one. Public for the crates above.
+pub fn space_of(form: u32, s: u16) -> Space
     ensures { λ r. ⌜ r ≡ spaceOf form s ⌝ }
 {
     if form == 0 {
@@ -85,8 +85,8 @@ fn lists_fit(calls: &[u32], count: usize, room: usize) -> bool
     true
 }
 
-// The kind of an answer.
-fn kind_of(a: Answer) -> u32
+// The kind of an answer. Public for the crates above.
+pub fn kind_of(a: Answer) -> u32
     ensures { λ r. ⌜ r ≡ kindOf a ⌝ }
 {
     match a {
@@ -108,8 +108,8 @@ fn bit_of(b: bool) -> u32
     0
 }
 
-// What an answer carries.
-fn number_of(a: Answer) -> u32
+// What an answer carries; the count of a list that a store gives fits. Public for the crates above, which have proved that.
+pub fn number_of(a: Answer) -> u32
     requires { ⌜ listCount a ≤ 4294967295 ⌝ }
     ensures { λ r. ⌜ r ≡ numberOf a ⌝ }
 {
@@ -158,13 +158,7 @@ fn run_all(store: &mut [u32], calls: &[u32], count: usize, answers: &mut [u32], 
 }
 
 // Runs the calls that stand in `calls`: answers 0 when all were made, 1 when the buffer is no store, 9 when there is not enough room.
-#[no_mangle]
-pub extern "C" fn run_calls(
-    store: &mut [u32],
-    calls: &[u32],
-    answers: &mut [u32],
-    lists: &mut [u32],
-) -> u32
+pub fn run_calls(store: &mut [u32], calls: &[u32], answers: &mut [u32], lists: &mut [u32]) -> u32
     ensures { λ r. ⌜ Ran (now (store .entry)) (now (calls .entry)) (now (answers .entry)) (now (lists .entry)) r (now (store .exit)) (now (answers .exit)) (now (lists .exit)) ⌝ }
 {
     if !verify::is_store(store) {

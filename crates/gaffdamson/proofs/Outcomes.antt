@@ -1,0 +1,67 @@
+-- What the C functions answer and leave, from what the functions below them say.
+use mathlib.Core.Bool.{Bool, true, false, cond}
+use mathlib.Core.List.{List}
+use mathlib.Core.Path.{_≡_, refl, sym, ap, _∙_, subst}
+use Prim.Native.Nat.{ℕ, _≤_}
+use native.Mathlib.Omega.{arith}
+use lib.ListN.{length}
+use Rattle.model.specs.declared.Answer.{Answer}
+use Rattle.model.specs.declared.Answer.the-variants.{Refusal}
+use Rattle.model.specs.declared.Call.{Call}
+use Rattle.model.specs.declared.Preparation.{Preparation}
+use Rattle.model.specs.declared.Preparation.the-variants.{Refused, Capacity}
+use Rattle.model.specs.Machine.{machine}
+use Rattle.model.specs.Buffer.{fitsLength, capacityOf, tuplesOf, isStore, Preparing}
+use Rattle.model.specs.OneCall.{answerOf, listCount, OneCall}
+use Rattle.calls.proofs.Counts.{answer-most}
+use Rattle.verify.specs.Prepare.{afterPreparing}
+use Rattle.gaffdamson.specs.Numbers.{PackedAs, packedPreparation}
+use Rattle.gaffdamson.specs.Calls.{answerOn, Called, preparationOf, PreparedAs}
+
+module _ (b l b′ l′ : List ℕ) (c : Call) (a : Answer) (O : OneCall b l c a b′ l′) where
+  -- how many pairs an answer lists fits in a word
+  pub answer-counted : listCount a ≤ 4294967295
+  unfolding listCount
+  answer-counted = go (isStore b) refl
+    where
+      go : (s : Bool) → isStore b ≡ s → listCount a ≤ 4294967295
+      go true e = omega (arith, answer-most b l b′ l′ c a e (O .onStore e))
+      go false e = omega (arith, ap listCount (O .noStore e .answer))
+
+  answer-on : a ≡ answerOn b c (length l)
+  unfolding answerOn
+  answer-on = go (isStore b) refl
+    where
+      chosen : Bool → Answer
+      chosen s = cond s (answerOf (machine (capacityOf b) (tuplesOf b) c (length l) .answer)) (Refusal 1)
+
+      go : (s : Bool) → isStore b ≡ s → a ≡ chosen (isStore b)
+      go true e = O .onStore e .answer ∙ sym (ap chosen e)
+      go false e = O .noStore e .answer ∙ sym (ap chosen e)
+
+  -- one call, with its answer as a number
+  pub called : (c′ : Call) (r : ℕ) → c ≡ c′ → PackedAs a r → Called b l c′ r b′ l′
+  called c′ r same e =
+      subst (λ (x : Call). Called b l x r b′ l′) same
+      (record {
+        answer = subst (λ (x : Answer). PackedAs x r) answer-on e;
+        call = subst (λ (x : Answer). OneCall b l c x b′ l′) answer-on O;
+      })
+
+preparation-of : (b b′ : List ℕ) (p : Preparation) → Preparing b p b′ → p ≡ preparationOf b
+unfolding preparationOf
+preparation-of b b′ p P = go (fitsLength b) refl
+  where
+    go : (f : Bool) → fitsLength b ≡ f → p ≡ preparationOf b
+    go true f = P .inside f .0 ∙ sym (ap (λ (x : Bool). cond x (Capacity (capacityOf b)) (Refused 1)) f)
+    go false f = P .outside f .0 ∙ sym (ap (λ (x : Bool). cond x (Capacity (capacityOf b)) (Refused 1)) f)
+
+-- preparing, with its answer as a number
+pub prepared-as : (b b′ : List ℕ) (p : Preparation) (r : ℕ) → Preparing b p b′ → b′ ≡ afterPreparing b → r ≡ packedPreparation p → PreparedAs b r b′
+prepared-as b b′ p r P w e =
+    let same = preparation-of b b′ p P in
+    record {
+      answer = e ∙ ap packedPreparation same;
+      buffer = w;
+      preparing = subst (λ (x : Preparation). Preparing b x b′) same P;
+    }

@@ -1,0 +1,52 @@
+-- What the C functions take and do: the fields of a call as numbers; preparing and one call, with their answers as numbers.
+use mathlib.Core.Bool.{Bool, true, false, cond}
+use mathlib.Core.List.{List}
+use mathlib.Core.Path.{_≡_}
+use Prim.Native.Nat.{ℕ}
+use lib.ListN.{length}
+use Rattle.model.specs.declared.Answer.{Answer}
+use Rattle.model.specs.declared.Answer.the-variants.{Refusal}
+use Rattle.model.specs.declared.Call.{Call}
+use Rattle.model.specs.declared.Preparation.{Preparation}
+use Rattle.model.specs.declared.Preparation.the-variants.{Refused, Capacity}
+use Rattle.model.specs.Machine.{machine}
+use Rattle.model.specs.Buffer.{fitsLength, capacityOf, tuplesOf, isStore, Preparing}
+use Rattle.model.specs.OneCall.{answerOf, OneCall}
+use Rattle.verify.specs.Prepare.{afterPreparing}
+use Rattle.run.specs.Words.{spaceOf}
+use Rattle.gaffdamson.specs.Numbers.{PackedAs, packedPreparation}
+
+-- ---- one call
+
+-- the call with these fields; the space by its form (0: UNIVERSE, any other number: the space numbered s), as in a run of calls
+unfoldable pub callOf : ℕ → ℕ → ℕ → ℕ → ℕ → ℕ → ℕ → Call
+callOf operator n g m v form s =
+    record {
+      operator = operator;
+      n = record { 0 = n };
+      g = record { 0 = g };
+      m = record { 0 = m };
+      v = v;
+      s = spaceOf form s;
+    }
+
+-- the answer of a call on any buffer: refusal 1 where it is no store, else the machine's
+unfoldable pub answerOn : List ℕ → Call → ℕ → Answer
+answerOn b c room = cond (isStore b) (answerOf (machine (capacityOf b) (tuplesOf b) c room .answer)) (Refusal 1)
+
+-- the call c on the buffer b with the answer list l gives the number r and leaves the buffer b′ and the list l′
+pub record Called (b l : List ℕ) (c : Call) (r : ℕ) (b′ l′ : List ℕ) : Type 0 where
+  pub answer : PackedAs (answerOn b c (length l)) r
+  pub call : OneCall b l c (answerOn b c (length l)) b′ l′
+
+-- ---- preparing
+
+-- the answer of preparing any buffer: refusal 1 for "a length outside 10 to 12,297 words", else C
+unfoldable pub preparationOf : List ℕ → Preparation
+preparationOf b = cond (fitsLength b) (Capacity (capacityOf b)) (Refused 1)
+
+-- preparing the buffer b gives the number r and leaves the buffer b′
+pub record PreparedAs (b : List ℕ) (r : ℕ) (b′ : List ℕ) : Type 0 where
+  pub answer : r ≡ packedPreparation (preparationOf b)
+  pub buffer : b′ ≡ afterPreparing b
+  pub preparing : Preparing b (preparationOf b) b′
