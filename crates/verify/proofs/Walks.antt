@@ -8,7 +8,7 @@ use Prim.Native.Nat.{ℕ, zero, suc, _+_, _-_, _≤_, _<_}
 use native.Mathlib.Omega.{arith}
 use lib.Dec.{eqb, leb, ltb}
 use lib.ListN.{length}
-use borrow.Author.Tests.{eqb-true, eqb-false, eq-eqb, ne-eqb, le-leb, lt-leb, leb-true, ltb-false, lt-ltb, le-ltb}
+use borrow.Author.Tests.{eqb-true, eqb-false, eq-eqb, ne-eqb, le-leb, lt-leb, leb-true, ltb-true, ltb-false, lt-ltb, le-ltb}
 use Rattle.model.specs.Buffer.{word, capacityOf, next, walk, ends, orNothing, usedChain, freeChain, usedOf, freeOf, count}
 use Rattle.model.specs.Rules.{Chain}
 use Rattle.model.proofs.Bools.{and-left, and-right, and-both}
@@ -17,7 +17,7 @@ use Rattle.model.proofs.Steps.{every-record}
 use Rattle.model.proofs.Store.{record-every}
 use Rattle.verify.specs.declared.chains.Walk.{Walk}
 use Rattle.verify.specs.declared.chains.Walked.{Walked}
-use Rattle.verify.specs.Checks.{Walkable, nextsWithin, metOnce, chainsRight, linksRight, allWithin, endsWithin, steps, lastMet, stoppedWalk, walkedOn, walkedFrom, stepped, FreeWalk}
+use Rattle.verify.specs.Checks.{Walkable, nextsWithin, metOnce, chainsRight, linksRight, allWithin, endsWithin, steps, lastMet, stoppedWalk, walkedOn, walkedFrom, stepped, inRun, alongRun, FreeWalk}
 use Rattle.verify.proofs.Capacity.{some-record}
 use Rattle.verify.proofs.Once.{lastOr, once-test}
 
@@ -53,6 +53,54 @@ module _ (b : List ℕ) where
       ∙ ap₂ (λ (t : Bool) (c : ℕ). found t c (lastMet (next b) left (next b (suc i)) (suc i)))
       (sym (ends-more (capacityOf b) (suc i) (walk (next b) left (next b (suc i))) (le-leb (suc i) (capacityOf b) high))) q
 
+  run-told : (at : ℕ) → inRun b at ≡ true → (at ≢ 0) × (at ≤ capacityOf b) × (at + 1 ≡ next b at)
+  unfolding inRun
+  run-told at e =
+      let low = ltb-true 0 at (and-left (ltb 0 at) _ e) in
+      let more = and-right (ltb 0 at) _ e in (
+        λ z. absurd (omega (arith, low, z)),
+        leb-true at (capacityOf b) (and-left (leb at (capacityOf b)) _ more),
+        sym (eqb-true (next b at) (at + 1) (and-right (leb at (capacityOf b)) _ more)),
+      )
+
+  pub run-none : (at : ℕ) → at ≡ 0 → false ≡ inRun b at
+  unfolding inRun
+  run-none at z = sym (ap (λ (t : Bool). t && (leb at (capacityOf b) && eqb (next b at) (at + 1))) (le-ltb 0 at (omega (arith, z))))
+
+  pub run-far : (at : ℕ) → at ≢ 0 → capacityOf b < at → false ≡ inRun b at
+  unfolding inRun
+  run-far at n h =
+      sym
+      (ap₂ (λ (t u : Bool). t && (u && eqb (next b at) (at + 1))) (lt-ltb 0 at (omega (arith, n))) (lt-leb at (capacityOf b) h))
+
+  pub run-here : (at n : ℕ) → at ≢ 0 → at ≤ capacityOf b → n ≡ next b at → eqb n (at + 1) ≡ inRun b at
+  unfolding inRun
+  run-here at n low high e =
+      ap (λ (x : ℕ). eqb x (at + 1)) e
+      ∙ sym (ap₂ (λ (t u : Bool). t && (u && eqb (next b at) (at + 1))) (lt-ltb 0 at (omega (arith, low))) (le-leb at (capacityOf b) high))
+
+  pub run-low : (at : ℕ) → inRun b at ≡ true → at ≤ capacityOf b
+  run-low at e = run-told at e .1
+
+  pub along-stop : (left at last : ℕ) → left ≢ 0 → inRun b at ≡ false → record { at = at; left = left; last = last } ≡ alongRun b left at last
+  unfolding alongRun
+  along-stop zero at last n e = absurd (n refl)
+  along-stop (suc left) at last n e =
+      sym (ap (λ (t : Bool). cond t (alongRun b left (at + 1) at) (record { at = at; left = suc left; last = last })) e)
+
+  pub along-on : (left at last : ℕ) → left ≢ 0 → inRun b at ≡ true → alongRun b (left - 1) (at + 1) at ≡ alongRun b left at last
+  unfolding alongRun
+  along-on zero at last n e = absurd (n refl)
+  along-on (suc left) at last n e =
+      let z : suc left - 1 ≡ left = omega arith in
+      ap (λ (k : ℕ). alongRun b k (at + 1) at) z
+      ∙ sym (ap (λ (t : Bool). cond t (alongRun b left (at + 1) at) (record { at = at; left = suc left; last = last })) e)
+
+  pub along-end : (left at last : ℕ) → left ≡ 0 → record { at = at; left = left; last = last } ≡ alongRun b left at last
+  unfolding alongRun
+  along-end zero at last z = refl
+  along-end (suc left) at last z = absurd (omega (arith, z))
+
   pub walked-end : (left at last : ℕ) → at ≡ 0
       → record { ended = true; count = capacityOf b - left; last = last } ≡ walkedOn b (record { at = at; left = left; last = last })
   walked-end left at last z = go left ∙ ap (λ (i : ℕ). walkedOn b (record { at = i; left = left; last = last })) (sym z)
@@ -63,6 +111,40 @@ module _ (b : List ℕ) where
       go : (k : ℕ) → record { ended = true; count = capacityOf b - k; last = last } ≡ walkedOn b (record { at = 0; left = k; last = last })
       go zero = unfold walkedOn walk steps lastMet endsWithin allWithin in ap (λ (c : ℕ). found true c last) (none-more (capacityOf b - 0))
       go (suc k) = unfold walkedOn walk steps lastMet endsWithin allWithin in ap (λ (c : ℕ). found true c last) (none-more (capacityOf b - suc k))
+
+  -- a walk along records that follow one another finds what the walk itself finds
+  pub along-same : (left at last : ℕ) → left ≤ capacityOf b
+      → (walkedOn b (alongRun b left at last) ≡ walkedOn b (record { at = at; left = left; last = last })) × (alongRun b left at last .left ≤ left)
+  unfolding alongRun
+  along-same zero at last few = (refl, omega arith)
+  along-same (suc left) at last few = go (inRun b at) refl (along-same left (at + 1) at (omega (arith, few)))
+    where
+      here : Walk
+      here = record { at = at; left = suc left; last = last }
+
+      chosen : Bool → Walk
+      chosen t = cond t (alongRun b left (at + 1) at) here
+
+      go : (t : Bool) → inRun b at ≡ t
+          → (walkedOn b (alongRun b left (at + 1) at) ≡ walkedOn b (record { at = at + 1; left = left; last = at })) × (alongRun b left (at + 1) at .left ≤ left)
+          → (walkedOn b (chosen (inRun b at)) ≡ walkedOn b here) × (chosen (inRun b at) .left ≤ suc left)
+      go false e rest = let w = ap chosen e in (ap (walkedOn b) w, omega (arith, ap (λ (x : Walk). x .left) w))
+      go true e rest =
+          let w = ap chosen e in
+          let in-it = run-told at e in
+          let z : suc left - 1 ≡ left = omega arith in (
+            ap (walkedOn b) w ∙ rest .0 ∙ ap (λ (k : ℕ). walkedOn b (record { at = at + 1; left = k; last = at })) (sym z)
+                ∙ walked-on (suc left) at last (at + 1) (in-it .0) (λ e. absurd (omega (arith, e))) few (in-it .1) (in-it .2),
+            omega (arith, ap (λ (x : Walk). x .left) w, rest .1),
+          )
+
+  -- one record on, and along those that follow one another
+  pub walked-run : (left at last n : ℕ) (w : Walk) → at ≢ 0 → left ≢ 0 → left ≤ capacityOf b → at ≤ capacityOf b → n ≡ next b at
+      → w ≡ alongRun b (left - 1) n at → (walkedOn b w ≡ walkedOn b (record { at = at; left = left; last = last })) × (w .left < left)
+  walked-run left at last n w at≢ left≢ few high e same =
+      let run = along-same (left - 1) n at (omega (arith, few)) in
+      let shorter : w .left ≡ alongRun b (left - 1) n at .left = ap (λ (x : Walk). x .left) same in
+      (ap (walkedOn b) same ∙ run .0 ∙ walked-on left at last n at≢ left≢ few high e, omega (arith, shorter, run .1, left≢))
 
   pub walked-long : (left at last : ℕ) → at ≢ 0 → left ≡ 0 → stoppedWalk ≡ walkedOn b (record { at = at; left = left; last = last })
   walked-long left at last at≢ z = go at at≢ ∙ ap (λ (k : ℕ). walkedOn b (record { at = at; left = k; last = last })) (sym z)

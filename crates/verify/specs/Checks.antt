@@ -95,6 +95,15 @@ walkedFrom b head = walkedOn b (record { at = head; left = capacityOf b; last = 
 unfoldable pub stepped : List ℕ → Walk → Walk
 stepped b w = cond (eqb (w .at) 0 || ltb (capacityOf b) (w .at)) w (record { at = next b (w .at); left = w .left - 1; last = w .at })
 
+-- is the next of a record the one after it in the buffer
+unfoldable pub inRun : List ℕ → ℕ → Bool
+inRun b at = ltb 0 at && (leb at (capacityOf b) && eqb (next b at) (at + 1))
+
+-- a walk, with so many to go, as far as each next is the record after
+unfoldable pub alongRun : List ℕ → ℕ → ℕ → ℕ → Walk
+alongRun b zero at last = record { at = at; left = 0; last = last }
+alongRun b (suc left) at last = cond (inRun b at) (alongRun b left (at + 1) at) (record { at = at; left = suc left; last = last })
+
 -- a walk of the free chain that has gone some records on, with so many to go at least
 pub record FreeWalk (b : List ℕ) (w : Walk) (most : ℕ) : Type 0 where
   pub few : w .left ≤ capacityOf b

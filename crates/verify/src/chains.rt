@@ -6,7 +6,7 @@ ghost use mathlib.Core.Logic.{_≢_};
 ghost use mathlib.Core.Path.{_≡_};
 ghost use Prim.Native.Nat.{_≤_};
 ghost use Rattle.model.specs.Buffer.{word, capacityOf};
-ghost use Rattle.verify.specs.Checks.{headsFit, Walkable, stoppedWalk, walkedOn, walkedFrom, stepped, FreeWalk, linksRight};
+ghost use Rattle.verify.specs.Checks.{headsFit, Walkable, stoppedWalk, walkedOn, walkedFrom, stepped, inRun, alongRun, FreeWalk, linksRight};
 
 // A walk of a chain over at most C records.
 pub struct Walk {
@@ -77,6 +77,40 @@ pub fn step(b: &[u32], c: usize, w: Walk) -> Walk
     }
 }
 
+// Is the next of a record the one after it in the buffer.
+fn in_run(b: &[u32], c: usize, at: usize) -> bool
+    requires { ⌜ Walkable (now b) × (c ≡ capacityOf (now b)) ⌝ }
+    ensures { λ r. ⌜ r ≡ inRun (now (b .entry)) at ⌝ }
+{
+    if at == 0 {
+        return false;
+    }
+    if at > c {
+        return false;
+    }
+    let after = at + 1;
+    records::next_of(b, at) == after
+}
+
+// Walks on as far as each next is the record after, as in a fresh store: there no read waits for the one before it.
+fn along_run(b: &[u32], c: usize, w: Walk) -> Walk
+    requires { ⌜ Walkable (now b) × (c ≡ capacityOf (now b)) ⌝ }
+    ensures { λ r. ⌜ r ≡ alongRun (now (b .entry)) (w .left) (w .at) (w .last) ⌝ }
+{
+    let mut left = w.left;
+    let mut at = w.at;
+    let mut last = w.last;
+    while left != 0 {
+        if !in_run(b, c, at) {
+            return Walk { at, left, last };
+        }
+        last = at;
+        at += 1;
+        left -= 1;
+    }
+    Walk { at, left, last }
+}
+
 // Walks on until the chain ends, over at most C records in all.
 fn finish(b: &[u32], w: Walk) -> Walked
     requires { ⌜ Walkable (now b) × (w .left ≤ capacityOf (now b)) ⌝ }
@@ -93,9 +127,18 @@ fn finish(b: &[u32], w: Walk) -> Walked
         if left == 0 {
             return given_up();
         }
-        last = at;
-        at = records::next_of(b, at);
-        left -= 1;
+        let on = along_run(
+            b,
+            c,
+            Walk {
+                at: records::next_of(b, at),
+                left: left - 1,
+                last: at,
+            },
+        );
+        left = on.left;
+        at = on.at;
+        last = on.last;
     }
     Walked {
         ended: true,
