@@ -137,13 +137,31 @@ fn touches(n: u32, k: Key) -> bool
 }
 
 // The code of the first entry that a key gives; 0 for none. Most keys of a walk do not have the node at an end.
+// Query and key are built anew for the call, so that a walk keeps its own in registers.
 fn touching_code(q: PairQuery, k: Key) -> u64
     ensures { λ r. ⌜ r ≡ headCode (firstAt (Query.Pairs q) k) ⌝ }
 {
     if !touches(q.n, k) {
         return 0;
     }
-    first_pair_code(q, k)
+    let d = q.d;
+    let part = q.part;
+    first_pair_code(
+        PairQuery {
+            d,
+            s: q.s,
+            n: q.n,
+            g: q.g,
+            m: q.m,
+            part,
+        },
+        Key {
+            s: k.s,
+            n: k.n,
+            g: k.g,
+            m: k.m,
+        },
+    )
 }
 
 // Is the key that of a node.
