@@ -51,40 +51,38 @@ fn record(buffer: &[u32], index: usize) -> Record {
     }
 }
 
-/// Whether a buffer is a store, by all the rules.
-pub fn is_store(buffer: &[u32]) -> bool {
-    let Some((used, _)) = chains(buffer) else {
-        return false;
-    };
-    let Some(tuples) = tuples_of(buffer, &used) else {
-        return false;
-    };
+/// The tuples of a store, in the order of its used chain, and how many free
+/// records it has.
+pub type Contents = (Vec<(Key, Value)>, usize);
+
+/// What a store holds; none if the buffer is not a store, by all the rules.
+pub fn contents(buffer: &[u32]) -> Option<Contents> {
+    let (used, free) = chains(buffer)?;
+    let tuples = tuples_of(buffer, &used)?;
     let keys: Vec<Key> = tuples.iter().map(|&(key, _)| key).collect();
-    used_count_is_right(buffer, used.len())
+    let is_store = used_count_is_right(buffer, used.len())
         && begins_with_universe(&keys)
         && strictly_ascends(&keys)
         && keys.iter().all(has_the_form_of_a_key)
-        && nothing_named_is_missing(&keys)
+        && nothing_named_is_missing(&keys);
+    is_store.then_some((tuples, free.len()))
+}
+
+/// Whether a buffer is a store.
+pub fn is_store(buffer: &[u32]) -> bool {
+    contents(buffer).is_some()
 }
 
 /// The tuples of a store, in the order of its used chain. A buffer that is
 /// not a store has none.
 pub fn tuples(buffer: &[u32]) -> Vec<(Key, Value)> {
-    if !is_store(buffer) {
-        return Vec::new();
-    }
-    chains(buffer)
-        .and_then(|(used, _)| tuples_of(buffer, &used))
-        .unwrap_or_default()
+    contents(buffer).map_or_else(Vec::new, |(tuples, _)| tuples)
 }
 
 /// How many free records a store has: "free records are those of the free
 /// chain". A buffer that is not a store has none.
 pub fn free_count(buffer: &[u32]) -> usize {
-    if !is_store(buffer) {
-        return 0;
-    }
-    chains(buffer).map_or(0, |(_, free)| free.len())
+    contents(buffer).map_or(0, |(_, free)| free)
 }
 
 /// "Preparing uses record 1 for UNIVERSE, chains 2 to C as free in ascending

@@ -7,12 +7,11 @@ pub mod buffer;
 pub mod chained;
 pub mod compare;
 pub mod inputs;
+pub mod library;
 pub mod load;
 pub mod machine;
 pub mod operators;
 pub mod packed;
-#[cfg(feature = "rattle")]
-pub mod proved;
 pub mod random;
 pub mod raw;
 pub mod script;

@@ -1,6 +1,7 @@
 //! Lists of calls to measure with.
 
 use crate::machine::{Call, Edge, Node, Space, SpaceName, NIL};
+use crate::operators::{kind, Kind};
 
 /// The length of every answer list of a load.
 pub const LIST_LENGTH: usize = 2_048;
@@ -50,6 +51,24 @@ impl Iterator for Drawn {
             list_length: LIST_LENGTH,
         })
     }
+}
+
+/// Drawn calls of which three in four create or list, so that the store fills.
+pub fn dense(seed: u32, k: u32) -> impl Iterator<Item = Call> {
+    Drawn::new(seed, k).enumerate().map(|(place, call)| {
+        let operator = match place % 4 {
+            0 => call.operator,
+            1 => 1 + call.operator % 3,
+            2 => [45, 51, 3][place / 4 % 3],
+            _ => 30 + call.operator % 15,
+        };
+        Call { operator, ..call }
+    })
+}
+
+/// The same without removals.
+pub fn filling(seed: u32, k: u32) -> impl Iterator<Item = Call> {
+    dense(seed, k).filter(|call| kind(call.operator) != Some(Kind::Destroy))
 }
 
 /// The space of this number, where 0 is UNIVERSE.

@@ -126,6 +126,19 @@ impl Machine {
         }
     }
 
+    /// A machine in a later state.
+    pub fn with_tuples(capacity: usize, tuples: impl IntoIterator<Item = (Key, Value)>) -> Machine {
+        Machine {
+            tuples: tuples.into_iter().collect(),
+            capacity,
+        }
+    }
+
+    /// How many more tuples it can hold.
+    pub fn free_count(&self) -> usize {
+        self.capacity - self.tuples.len()
+    }
+
     /// The tuples of the state, ascending by key.
     pub fn tuples(&self) -> impl Iterator<Item = (Key, Value)> + '_ {
         self.tuples.iter().map(|(&key, &value)| (key, value))

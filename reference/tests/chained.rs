@@ -63,19 +63,13 @@ fn drawn_calls_are_answered_alike() {
     }
 }
 
-/// Creates drawn three times as often, so that the store fills.
+/// Creates drawn more often, so that the store fills.
 #[test]
 fn a_dense_graph_is_answered_alike() {
     let mut compared = Compared::new(600, 0);
     let mut most = 0;
-    for (place, call) in Drawn::new(5, 6).take(4_000).enumerate() {
-        let operator = match place % 4 {
-            0 => call.operator,
-            1 => 1 + call.operator % 3,
-            2 => [45, 51, 3][place / 4 % 3],
-            _ => 30 + call.operator % 15,
-        };
-        compared.step_around_k(&Call { operator, ..call });
+    for (place, call) in load::dense(5, 6).take(4_000).enumerate() {
+        compared.step_around_k(&call);
         if place % 10 == 0 {
             compared.check_state();
         }
@@ -158,28 +152,15 @@ fn buffers_are_judged_alike() {
     assert!((2_000..13_000).contains(&stores), "{stores}");
 }
 
-/// One or two words of a larger store are changed.
 #[test]
 fn damaged_panels_are_judged_alike() {
-    let mut panel = vec![0; 12_292];
-    assert_eq!(chained::prepare(&mut panel), Ok(2_048));
-    for call in load::panel() {
-        chained::execute_known(&mut panel, &call, &mut []);
-    }
-    assert!(buffer::is_store(&panel));
     let mut draws = Draws::new(11, 5, 0);
+    let panel = buffers::after(&mut draws, 2_048, load::panel());
+    assert!(buffer::is_store(&panel));
     let mut stores = 0;
     for _ in 0..1_500 {
         let mut words = panel.clone();
-        for _ in 0..1 + draws.below(2) {
-            let place = draws.below(words.len());
-            words[place] = match draws.below(4) {
-                0 => draws.below(2_100) as u32,
-                1 => words[place].wrapping_add(1),
-                2 => words[place].wrapping_sub(1),
-                _ => words[draws.below(12_292)],
-            };
-        }
+        buffers::change_large(&mut draws, &mut words);
         let is_store = buffer::is_store(&words);
         assert_eq!(chained::is_store(&words), is_store);
         stores += u32::from(is_store);

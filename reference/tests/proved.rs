@@ -3,10 +3,10 @@
 
 mod common;
 
-use common::lent::{answer_of, LONGEST_LIST, UNWRITTEN};
+use common::lent::{answer_of, UNWRITTEN};
+use gaffdamson_reference::library::{compare, lendable, PROVED};
 use gaffdamson_reference::machine::{Answer, Call};
 use gaffdamson_reference::packed::{self, WORDS_IN_AN_ANSWER};
-use gaffdamson_reference::proved::run_calls;
 use gaffdamson_reference::random::{buffers, lists, Draws};
 use gaffdamson_reference::{buffer, load};
 
@@ -22,15 +22,6 @@ fn answers_of(calls: &[Call], answers: &[u32], lists: &[u32]) -> Vec<Answer> {
     all
 }
 
-/// Calls whose lists can be lent.
-fn lendable(calls: &[Call]) -> Vec<Call> {
-    let shorten = |call: &Call| Call {
-        list_length: call.list_length.min(LONGEST_LIST),
-        ..*call
-    };
-    calls.iter().map(shorten).collect()
-}
-
 #[test]
 fn runs_of_calls_are_answered_alike() {
     for place in 0..500 {
@@ -38,14 +29,17 @@ fn runs_of_calls_are_answered_alike() {
         let capacity = 1 + draws.below(if place % 5 == 0 { 2_048 } else { 40 });
         let length = draws.below(80);
         let run = lists::run(&mut draws, capacity, length);
-        let calls = lendable(&run.calls);
+        let calls: Vec<Call> = run.calls.iter().map(lendable).collect();
         let room = calls.iter().map(|call| call.list_length).sum();
         let packed: Vec<u32> = calls.iter().flat_map(packed::call).collect();
         let mut words = vec![7; 4 + 6 * capacity + place as usize % 6];
         assert_eq!(buffer::prepare(&mut words), Ok(capacity as u32));
         let mut answers = vec![UNWRITTEN; WORDS_IN_AN_ANSWER * calls.len()];
         let mut lists = vec![UNWRITTEN; room];
-        assert_eq!(run_calls(&mut words, &packed, &mut answers, &mut lists), 0);
+        assert_eq!(
+            (PROVED.run)(&mut words, &packed, &mut answers, &mut lists),
+            0
+        );
         assert_eq!(answers_of(&calls, &answers, &lists), run.answers);
         let tuples: Vec<_> = run.machine.tuples().collect();
         assert_eq!(buffer::tuples(&words), tuples);
@@ -63,7 +57,7 @@ fn buffers_are_judged_alike() {
         let mut words = buffers::draw(&mut Draws::new(11, 7, place));
         let before = words.clone();
         let mut lists = vec![UNWRITTEN; call.list_length];
-        let answer = run_calls(&mut words, &packed::call(&call), &mut [0; 2], &mut lists);
+        let answer = (PROVED.run)(&mut words, &packed::call(&call), &mut [0; 2], &mut lists);
         let expected = u32::from(!buffer::is_store(&words));
         assert_eq!(answer, expected, "{words:?}");
         assert_eq!(words, before);
@@ -90,7 +84,7 @@ fn a_run_without_room_is_refused() {
         let mut words_left = words.clone();
         let mut answers_left = vec![UNWRITTEN; answers];
         let mut lists_left = vec![UNWRITTEN; lists];
-        let given = run_calls(&mut words_left, &packed, &mut answers_left, &mut lists_left);
+        let given = (PROVED.run)(&mut words_left, &packed, &mut answers_left, &mut lists_left);
         assert_eq!(given, expected);
         if expected != 0 {
             assert_eq!(&words_left, words);
@@ -98,4 +92,11 @@ fn a_run_without_room_is_refused() {
             assert_eq!(lists_left, vec![UNWRITTEN; lists]);
         }
     }
+}
+
+/// Calls and buffers of all kinds, by all functions.
+#[test]
+fn the_library_does_as_the_machine() {
+    let found = compare(&PROVED, 10_000, 1_000, 1);
+    assert_eq!(found.failed, 0, "{found}");
 }

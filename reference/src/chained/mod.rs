@@ -16,6 +16,7 @@ use std::ops::RangeInclusive;
 
 use crate::machine::{Call, Space};
 use crate::operators::Direction;
+use crate::packed::{self, WORDS_IN_AN_ANSWER, WORDS_IN_A_CALL};
 use chain::{Place, Record, Store, G, M, N, S};
 
 pub use check::is_store;
@@ -96,6 +97,29 @@ pub fn execute_known(buffer: &mut [u32], call: &Call, list: &mut [u32]) -> Answe
         Ok(fields) => step(&mut store, &fields, list),
         Err(number) => Answer::Refusal(number),
     }
+}
+
+/// Checks a store once and makes all calls (`packed` has their form); the
+/// lists stand one after the other. Gives 0, or 1 where the buffer is not a
+/// store, or 9 where the answers or lists have too little room.
+pub fn run(buffer: &mut [u32], calls: &[u32], answers: &mut [u32], lists: &mut [u32]) -> u32 {
+    if !is_store(buffer) {
+        return 1;
+    }
+    let (calls, _) = calls.as_chunks::<WORDS_IN_A_CALL>();
+    let (answers, _) = answers.as_chunks_mut::<WORDS_IN_AN_ANSWER>();
+    let room: u64 = calls.iter().map(|call| u64::from(call[5])).sum();
+    if answers.len() < calls.len() || (lists.len() as u64) < room {
+        return 9;
+    }
+    let mut rest = lists;
+    for (words, answer) in calls.iter().zip(answers) {
+        let call = packed::call_of(words);
+        let (list, others) = rest.split_at_mut(call.list_length);
+        rest = others;
+        *answer = packed::words_of(execute_known(buffer, &call, list));
+    }
+    0
 }
 
 const READS_N: u8 = 1;

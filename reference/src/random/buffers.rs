@@ -1,20 +1,66 @@
 //! Random buffers: stores whose records stand in any order, and damaged ones.
 
-use crate::machine::{Key, Value};
+use crate::machine::{Call, Key, Machine, Value};
 
 use super::{lists, Draws};
 
 /// The words of a record after next: s, n, g, m, value.
-type Fields = [u32; 5];
+pub(super) type Fields = [u32; 5];
 
 /// Where the heads and the count of the used records stand.
-const USED_HEAD: usize = 1;
-const FREE_HEAD: usize = 2;
-const USED_COUNT: usize = 3;
+pub(super) const USED_HEAD: usize = 1;
+pub(super) const FREE_HEAD: usize = 2;
+pub(super) const USED_COUNT: usize = 3;
 
 /// A buffer. A third are stores, but for what happens to be drawn; in a third
 /// the tuples are wrong, in a third some words.
 pub fn draw(draws: &mut Draws) -> Vec<u32> {
+    let damage = [None, Some(Damage::Tuples), Some(Damage::Words)];
+    draw_with(draws, |draws| draws.one_of(&damage))
+}
+
+/// A buffer whose tuples are wrong, or some words.
+pub fn draw_damaged(draws: &mut Draws) -> Vec<u32> {
+    draw_with(draws, |draws| {
+        Some(draws.one_of(&[Damage::Tuples, Damage::Words]))
+    })
+}
+
+/// A store of so many records that has what some calls leave.
+pub fn after(
+    draws: &mut Draws,
+    capacity: usize,
+    calls: impl IntoIterator<Item = Call>,
+) -> Vec<u32> {
+    let mut machine = Machine::new(capacity);
+    for call in calls {
+        machine.step(&call);
+    }
+    let tuples: Vec<Fields> = machine.tuples().map(fields).collect();
+    lay_out(draws, &tuples, capacity)
+}
+
+/// One or two words of a large store are changed, by one or to those of another
+/// place.
+pub fn change_large(draws: &mut Draws, words: &mut [u32]) {
+    for _ in 0..1 + draws.below(2) {
+        let place = draws.below(words.len());
+        words[place] = match draws.below(4) {
+            0 => draws.below(2_100) as u32,
+            1 => words[place].wrapping_add(1),
+            2 => words[place].wrapping_sub(1),
+            _ => words[draws.below(words.len())],
+        };
+    }
+}
+
+#[derive(Clone, Copy, PartialEq)]
+enum Damage {
+    Tuples,
+    Words,
+}
+
+fn draw_with(draws: &mut Draws, damage: impl Fn(&mut Draws) -> Option<Damage>) -> Vec<u32> {
     let capacity = if draws.once_in(4) {
         1 + draws.below(5)
     } else {
@@ -23,19 +69,19 @@ pub fn draw(draws: &mut Draws) -> Vec<u32> {
     let length = capacity + draws.below(16);
     let machine = lists::run(draws, capacity, length).machine;
     let mut tuples: Vec<Fields> = machine.tuples().map(fields).collect();
-    let damage = draws.below(3);
-    if damage == 1 {
+    let damage = damage(draws);
+    if damage == Some(Damage::Tuples) {
         damage_tuples(draws, &mut tuples);
     }
     let capacity = capacity.max(tuples.len());
     let mut words = lay_out(draws, &tuples, capacity);
-    if damage == 2 {
+    if damage == Some(Damage::Words) {
         damage_words(draws, &mut words, capacity);
     }
     words
 }
 
-fn fields((key, value): (Key, Value)) -> Fields {
+pub(super) fn fields((key, value): (Key, Value)) -> Fields {
     let [s, n, g, m] = [key.s.0, key.n.0, key.g.0, key.m.0].map(u32::from);
     [s, n, g, m, value]
 }
@@ -51,7 +97,7 @@ fn any_word(draws: &mut Draws, capacity: usize) -> u32 {
 
 /// The tuples in records in any order, both chains, any words in the free
 /// records and up to five past the last.
-fn lay_out(draws: &mut Draws, tuples: &[Fields], capacity: usize) -> Vec<u32> {
+pub(super) fn lay_out(draws: &mut Draws, tuples: &[Fields], capacity: usize) -> Vec<u32> {
     let mut order: Vec<usize> = (1..=capacity).collect();
     draws.shuffle(&mut order);
     let (used, free) = order.split_at(tuples.len());
@@ -71,7 +117,7 @@ fn lay_out(draws: &mut Draws, tuples: &[Fields], capacity: usize) -> Vec<u32> {
 }
 
 /// Where the next of record i stands.
-fn next_of(index: usize) -> usize {
+pub(super) fn next_of(index: usize) -> usize {
     4 + 6 * (index - 1)
 }
 

@@ -24,6 +24,26 @@ const LONG_LISTS: [usize; 4] = [8, 2048, 2049, 4_294_967_295];
 /// C operators, as often as they are to be drawn.
 const CREATES: [u32; 12] = [1, 1, 1, 2, 2, 2, 3, 3, 3, 45, 45, 51];
 
+/// Numbers that are no operators, some of them one in their lower half.
+const NO_OPERATORS: [u32; 16] = [
+    0,
+    58,
+    59,
+    65_535,
+    65_536,
+    65_537,
+    65_536 + 45,
+    65_536 + 57,
+    0x7fff_ffff,
+    0x8000_0000,
+    0x8000_0001,
+    0x8000_0000 + 50,
+    0x8000_0000 + 58,
+    0xffff_0000 + 51,
+    u32::MAX - 1,
+    u32::MAX,
+];
+
 /// A list of about 25 calls; a short one now and then.
 pub fn draw(draws: &mut Draws) -> Run {
     let capacity = match draws.below(8) {
@@ -108,7 +128,13 @@ pub(super) fn mostly_answered(
     call
 }
 
-/// A call with any names, or with those of a tuple that is present.
+/// A call with any names of any list, or with those of a tuple that is present.
+pub fn any_call(draws: &mut Draws, machine: &Machine) -> Call {
+    let pool = draws.below(NODES.len());
+    aimed_call(draws, pool, machine)
+}
+
+/// A call with names of a pool, or with those of a tuple that is present.
 pub(super) fn aimed_call(draws: &mut Draws, pool: usize, machine: &Machine) -> Call {
     let mut call = draw_call(draws, pool);
     if !draws.once_in(4) {
@@ -160,7 +186,7 @@ fn draw_call(draws: &mut Draws, pool: usize) -> Call {
 /// Any operator number; creates more often than removals.
 fn draw_operator(draws: &mut Draws) -> u32 {
     if draws.once_in(40) {
-        return draws.one_of(&[0, 58, u32::MAX]);
+        return draws.one_of(&NO_OPERATORS);
     }
     if draws.once_in(6) {
         return draws.one_of(&CREATES);

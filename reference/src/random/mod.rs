@@ -5,6 +5,7 @@ pub mod buffers;
 pub mod damage;
 pub mod lists;
 pub mod scripts;
+pub mod systematic;
 
 /// A small generator of numbers.
 pub struct Draws(u64);

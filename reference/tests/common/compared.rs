@@ -1,8 +1,7 @@
 //! The hand-written store beside the tuple machine.
 
 use gaffdamson_reference::machine::{Answer, Call, Machine};
-use gaffdamson_reference::operators::{kind, Kind};
-use gaffdamson_reference::{buffer, chained, packed};
+use gaffdamson_reference::{buffer, chained, operators, packed};
 
 use super::lent::{answer_of, LONGEST_LIST, UNWRITTEN};
 
@@ -32,11 +31,7 @@ impl Compared {
         let answer = run(chained::execute_known, &mut self.words, call);
         assert_eq!(answer, expected, "{call:?}");
         assert_eq!(checked, self.words);
-        let may_change = matches!(
-            kind(call.operator),
-            Some(Kind::Create | Kind::Bind | Kind::Destroy)
-        );
-        if !may_change || matches!(answer, Answer::Refusal(_)) {
+        if !operators::writes(call.operator) || matches!(answer, Answer::Refusal(_)) {
             assert_eq!(self.words, before, "{call:?}");
         }
         answer

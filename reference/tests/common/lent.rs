@@ -1,13 +1,11 @@
 //! Answer lists that are lent to a store.
 
+pub use gaffdamson_reference::library::LONGEST_LIST;
 use gaffdamson_reference::machine::Answer;
 use gaffdamson_reference::packed::{self, WORDS_IN_AN_ANSWER};
 
 /// What every place of a list holds before a call.
 pub const UNWRITTEN: u32 = 0xdead_beef;
-
-/// The longest list that is lent; no call lists more.
-pub const LONGEST_LIST: usize = 2_100;
 
 /// The answer with the pairs of its list; the places past them, or all after
 /// another answer, must be unwritten.

@@ -183,30 +183,13 @@ impl Output {
             };
             let start = Instant::now();
             match mode {
-                Mode::Known => side.run(run),
-                Mode::Checked => run_each(side, run),
+                Mode::Known => side.run_known(run),
+                Mode::Checked => side.run_checked(run),
             }
             times.push(start.elapsed());
             hash.add_answers(calls, &self.answers, &self.lists);
         }
         times
-    }
-}
-
-/// Makes a run of each call.
-fn run_each(side: &mut dyn Side, run: Run) {
-    let mut lists = run.lists;
-    let answers = run.answers.chunks_mut(WORDS_IN_AN_ANSWER);
-    let packed = run.packed.chunks(WORDS_IN_A_CALL);
-    for ((calls, packed), answers) in run.calls.chunks(1).zip(packed).zip(answers) {
-        let (list, others) = lists.split_at_mut(calls[0].list_length);
-        lists = others;
-        side.run(Run {
-            calls,
-            packed,
-            answers,
-            lists: list,
-        });
     }
 }
 

@@ -1,14 +1,16 @@
 //! What is measured: each side makes the same calls and writes the same words.
 
+use gaffdamson_reference::buffer;
+#[cfg(feature = "rattle")]
+use gaffdamson_reference::library::PROVED;
+use gaffdamson_reference::library::{Library, HAND_WRITTEN};
 use gaffdamson_reference::machine::{Call, Key, Machine, Value};
-use gaffdamson_reference::packed::{self, WORDS_IN_AN_ANSWER, WORDS_IN_A_CALL};
-use gaffdamson_reference::{buffer, chained};
+use gaffdamson_reference::packed::{self, WORDS_IN_AN_ANSWER};
 
 /// C of every load.
 pub const CAPACITY: usize = 2_048;
 
-/// Calls made one after the other on a store that is checked once before
-/// them; of the lists, one stands after the other.
+/// Calls made one after the other; of the lists, one stands after the other.
 pub struct Run<'a> {
     pub calls: &'a [Call],
     pub packed: &'a [u32],
@@ -22,7 +24,11 @@ pub trait Side {
     /// Makes a fresh store.
     fn prepare(&mut self);
 
-    fn run(&mut self, run: Run);
+    /// Makes calls on a store that is checked once before them.
+    fn run_known(&mut self, run: Run);
+
+    /// Makes calls, with a check of the store before each.
+    fn run_checked(&mut self, run: Run);
 
     /// The tuples that are there.
     fn tuples(&self) -> Vec<(Key, Value)>;
@@ -32,33 +38,23 @@ pub trait Side {
 pub fn all() -> Vec<Box<dyn Side>> {
     vec![
         Box::new(OrderedMap(Machine::new(CAPACITY))),
-        Box::new(InBuffer("hand-written", hand_written, fresh_buffer())),
+        Box::new(InBuffer::new("hand-written", HAND_WRITTEN)),
         #[cfg(feature = "rattle")]
-        Box::new(InBuffer("proved", proved, fresh_buffer())),
+        Box::new(InBuffer::new("proved", PROVED)),
     ]
 }
 
-fn fresh_buffer() -> Vec<u32> {
-    let mut words = vec![0; 4 + 6 * CAPACITY];
-    chained::prepare(&mut words).expect("the length is right");
-    words
-}
-
 /// Each call with its answer and its list.
-fn parts<'a>(
-    calls: &'a [Call],
-    answers: &'a mut [u32],
-    lists: &'a mut [u32],
-) -> impl Iterator<Item = (&'a Call, &'a mut [u32], &'a mut [u32])> {
-    let mut rest = lists;
-    calls
-        .iter()
-        .zip(answers.chunks_exact_mut(WORDS_IN_AN_ANSWER))
-        .map(move |(call, answer)| {
-            let (list, others) = std::mem::take(&mut rest).split_at_mut(call.list_length);
-            rest = others;
-            (call, answer, list)
-        })
+fn parts(
+    run: Run<'_>,
+) -> impl Iterator<Item = (&Call, &mut [u32; WORDS_IN_AN_ANSWER], &mut [u32])> {
+    let mut rest = run.lists;
+    let (answers, _) = run.answers.as_chunks_mut();
+    run.calls.iter().zip(answers).map(move |(call, answer)| {
+        let (list, others) = std::mem::take(&mut rest).split_at_mut(call.list_length);
+        rest = others;
+        (call, answer, list)
+    })
 }
 
 /// The second implementation. It has no buffer that could be checked.
@@ -73,11 +69,14 @@ impl Side for OrderedMap {
         self.0 = Machine::new(CAPACITY);
     }
 
-    fn run(&mut self, run: Run) {
-        for (call, answer, list) in parts(run.calls, run.answers, run.lists) {
-            let words = packed::write(&self.0.step(call), list);
-            answer.copy_from_slice(&words);
+    fn run_known(&mut self, run: Run) {
+        for (call, answer, list) in parts(run) {
+            *answer = packed::write(&self.0.step(call), list);
         }
+    }
+
+    fn run_checked(&mut self, run: Run) {
+        self.run_known(run);
     }
 
     fn tuples(&self) -> Vec<(Key, Value)> {
@@ -85,52 +84,45 @@ impl Side for OrderedMap {
     }
 }
 
-/// A store in a buffer: what it is called, how it makes a run of calls, and
-/// its words.
-struct InBuffer(&'static str, fn(&mut [u32], Run), Vec<u32>);
+/// A store in a buffer, with the functions that work on it.
+struct InBuffer {
+    name: &'static str,
+    functions: Library,
+    words: Vec<u32>,
+}
+
+impl InBuffer {
+    fn new(name: &'static str, functions: Library) -> InBuffer {
+        let words = vec![0; 4 + 6 * CAPACITY];
+        InBuffer {
+            name,
+            functions,
+            words,
+        }
+    }
+}
 
 impl Side for InBuffer {
     fn name(&self) -> &'static str {
-        self.0
+        self.name
     }
 
     fn prepare(&mut self) {
-        chained::prepare(&mut self.2).expect("the length is right");
+        (self.functions.prepare)(&mut self.words).expect("the length is right");
     }
 
-    fn run(&mut self, run: Run) {
-        self.1(&mut self.2, run);
+    /// What is left unwritten after a refusal shows in the answers.
+    fn run_known(&mut self, run: Run) {
+        (self.functions.run)(&mut self.words, run.packed, run.answers, run.lists);
+    }
+
+    fn run_checked(&mut self, run: Run) {
+        for (call, answer, list) in parts(run) {
+            *answer = packed::words_of((self.functions.call)(&mut self.words, call, list));
+        }
     }
 
     fn tuples(&self) -> Vec<(Key, Value)> {
-        buffer::tuples(&self.2)
+        buffer::tuples(&self.words)
     }
-}
-
-/// The hand-written store.
-fn hand_written(words: &mut [u32], run: Run) {
-    if !chained::is_store(words) {
-        return;
-    }
-    let mut rest = run.lists;
-    for (packed, answer) in run
-        .packed
-        .as_chunks::<WORDS_IN_A_CALL>()
-        .0
-        .iter()
-        .zip(run.answers.chunks_exact_mut(WORDS_IN_AN_ANSWER))
-    {
-        let call = packed::call_of(packed);
-        let (list, others) = rest.split_at_mut(call.list_length);
-        rest = others;
-        let given = chained::execute_known(words, &call, list);
-        answer.copy_from_slice(&packed::words_of(given));
-    }
-}
-
-/// The proved store. What it leaves unwritten after a refusal shows in the
-/// answers.
-#[cfg(feature = "rattle")]
-fn proved(words: &mut [u32], run: Run) {
-    gaffdamson_reference::proved::run_calls(words, run.packed, run.answers, run.lists);
 }

@@ -1,0 +1,103 @@
+//! A call and its fields.
+
+use crate::c;
+
+/// The name of a node, 1 to 65,535.
+#[derive(Clone, Copy, PartialEq, Eq, PartialOrd, Ord, Hash, Debug)]
+pub struct Node(pub u16);
+
+/// The name of an edge, 1 to 65,535.
+#[derive(Clone, Copy, PartialEq, Eq, PartialOrd, Ord, Hash, Debug)]
+pub struct Edge(pub u16);
+
+/// The name of a space, 1 to 65,535. UNIVERSE has none.
+#[derive(Clone, Copy, PartialEq, Eq, PartialOrd, Ord, Hash, Debug)]
+pub struct SpaceName(pub u16);
+
+/// The space of a call.
+#[derive(Clone, Copy, PartialEq, Eq, Hash, Debug)]
+pub enum Space {
+    /// The universal space, which has all nodes and edges.
+    Universe,
+    /// The space of this name.
+    Numbered(SpaceName),
+}
+
+/// How many words a call takes in a list for [`run`](crate::run).
+pub const WORDS_IN_A_CALL: usize = 6;
+
+/// A call. Fields that its operator does not read have no effect.
+///
+/// ```
+/// use gaffdamson::{operator, Call, Node, Space, SpaceName};
+///
+/// let create = Call {
+///     n: Node(1),
+///     space: Space::Numbered(SpaceName(2)),
+///     ..Call::new(operator::CUN)
+/// };
+/// assert_eq!(create.operator, 45);
+/// ```
+#[derive(Clone, Copy, PartialEq, Eq, Hash, Debug)]
+pub struct Call {
+    /// A number of [`operator`](crate::operator); any other is refused.
+    pub operator: u32,
+    /// The first node.
+    pub n: Node,
+    /// The edge.
+    pub g: Edge,
+    /// The second node.
+    pub m: Node,
+    /// The value; 0 is NIL.
+    pub v: u32,
+    /// The space.
+    pub space: Space,
+}
+
+impl Call {
+    /// A call on UNIVERSE, with a value of NIL and no names.
+    pub const fn new(operator: u32) -> Call {
+        Call {
+            operator,
+            n: Node(0),
+            g: Edge(0),
+            m: Node(0),
+            v: 0,
+            space: Space::Universe,
+        }
+    }
+
+    /// The call as [`run`](crate::run) takes it, with a list of so many places.
+    pub fn words(&self, list_length: u32) -> [u32; WORDS_IN_A_CALL] {
+        let (form, s) = c::form_and_number(self.space);
+        let both = |low: u16, high: u16| u32::from(high) << 16 | u32::from(low);
+        [
+            self.operator,
+            both(self.n.0, self.g.0),
+            both(self.m.0, s),
+            self.v,
+            form,
+            list_length,
+        ]
+    }
+}
+
+#[cfg(test)]
+mod tests {
+    use super::*;
+
+    #[test]
+    fn each_field_has_its_place_in_the_words() {
+        let call = Call {
+            operator: 4,
+            n: Node(1),
+            g: Edge(2),
+            m: Node(3),
+            v: u32::MAX,
+            space: Space::Numbered(SpaceName(65_535)),
+        };
+        let words = [4, 0x2_0001, 0xffff_0003, u32::MAX, 1, 9];
+        assert_eq!(call.words(9), words);
+        assert_eq!(Call::new(56).words(0), [56, 0, 0, 0, 0, 0]);
+    }
+}

@@ -1,0 +1,120 @@
+//! A store that owns its buffer.
+
+use crate::{call, is_store, prepare, Answer, Call, Pair, Refusal, MOST_RECORDS};
+
+/// A store that owns its buffer.
+#[derive(Clone, PartialEq, Eq, Debug)]
+pub struct Store(Vec<u32>);
+
+/// What a call that is not refused gives, with the entries of its list.
+#[derive(Clone, PartialEq, Eq, Debug)]
+pub enum Reply {
+    /// The name of a node or a space; UNIVERSE is 0.
+    Name(u16),
+    /// A value; 0 is NIL.
+    Value(u32),
+    /// Whether what was asked for is there.
+    YesNo(bool),
+    /// Ascending by edge, then node, each once.
+    List(Vec<Pair>),
+}
+
+impl Store {
+    /// A fresh store with room for so many tuples, UNIVERSE among them: 1 to
+    /// [`MOST_RECORDS`].
+    pub fn new(records: usize) -> Result<Store, Refusal> {
+        if records > MOST_RECORDS {
+            return Err(Refusal::NOT_A_STORE);
+        }
+        let mut words = vec![0; 4 + 6 * records];
+        prepare(&mut words)?;
+        Ok(Store(words))
+    }
+
+    /// The store that some words are; the words again if they are none.
+    pub fn from_words(words: Vec<u32>) -> Result<Store, Vec<u32>> {
+        if is_store(&words) {
+            Ok(Store(words))
+        } else {
+            Err(words)
+        }
+    }
+
+    /// The words of the store, as they can be kept and read again.
+    pub fn words(&self) -> &[u32] {
+        &self.0
+    }
+
+    /// Makes one call, with a list that is long enough for any.
+    pub fn call(&mut self, what: &Call) -> Result<Reply, Refusal> {
+        let mut list = [0; MOST_RECORDS];
+        match call(&mut self.0, what, &mut list) {
+            Answer::Refusal(refusal) => Err(refusal),
+            Answer::Name(name) => Ok(Reply::Name(name)),
+            Answer::Value(value) => Ok(Reply::Value(value)),
+            Answer::YesNo(is_so) => Ok(Reply::YesNo(is_so)),
+            Answer::List(count) => {
+                let entries = list[..count].iter().map(|&entry| Pair::from(entry));
+                Ok(Reply::List(entries.collect()))
+            }
+        }
+    }
+}
+
+#[cfg(test)]
+mod tests {
+    use super::*;
+    use crate::{operator, Edge, Node, Space, SpaceName};
+
+    #[test]
+    fn a_store_has_room_for_1_to_2048_tuples() {
+        for records in [0, 2_049, usize::MAX] {
+            assert_eq!(Store::new(records), Err(Refusal::NOT_A_STORE));
+        }
+        for records in [1, 2_048] {
+            assert!(Store::new(records).is_ok());
+        }
+    }
+
+    #[test]
+    fn each_kind_of_reply() {
+        let mut store = Store::new(8).expect("a length of stores");
+        let node = Call {
+            n: Node(1),
+            ..Call::new(operator::CUN)
+        };
+        let edge = |operator| Call {
+            operator,
+            g: Edge(7),
+            m: Node(1),
+            v: 60,
+            ..node
+        };
+        assert_eq!(store.call(&node), Ok(Reply::Name(1)));
+        assert_eq!(store.call(&edge(operator::COP)), Ok(Reply::Name(1)));
+        assert_eq!(store.call(&edge(operator::BOP)), Ok(Reply::Name(1)));
+        assert_eq!(store.call(&edge(operator::VOP)), Ok(Reply::Value(60)));
+        assert_eq!(store.call(&edge(operator::XIP)), Ok(Reply::YesNo(true)));
+        let pairs = vec![Pair { edge: 7, node: 1 }];
+        assert_eq!(store.call(&edge(operator::SAP)), Ok(Reply::List(pairs)));
+        let elsewhere = Call {
+            space: Space::Numbered(SpaceName(2)),
+            ..node
+        };
+        assert_eq!(store.call(&elsewhere), Err(Refusal::NO_SPACE));
+    }
+
+    #[test]
+    fn the_words_of_a_store_are_one() {
+        let mut store = Store::new(3).expect("a length of stores");
+        let create = Call {
+            n: Node(1),
+            ..Call::new(operator::CUN)
+        };
+        assert_eq!(store.call(&create), Ok(Reply::Name(1)));
+        let mut words = store.words().to_vec();
+        assert_eq!(Store::from_words(words.clone()), Ok(store));
+        words[3] += 1;
+        assert_eq!(Store::from_words(words.clone()), Err(words));
+    }
+}
