@@ -18,7 +18,7 @@ use Rattle.lines.specs.declared.Reading.{Reading}
 use Rattle.lines.specs.declared.Reading.the-variants.{Read}
 use Rattle.lines.specs.declared.arguments.SpaceArgument.{SpaceArgument}
 use Rattle.lines.specs.declared.arguments.SpaceArgument.the-variants.{Given, NotASpace}
-use Rattle.lines.specs.OperatorWords.{operatorNumber}
+use Rattle.letters.specs.OperatorWords.{operatorNumber}
 use Rattle.lines.specs.Calls.{mostValue, refused, takeNumber, takeSpace, complete, callOf, inOrder, spaceThenValue, spaces, arguments, readWords, readLine}
 use Rattle.lines.specs.Places.{wordsBehind, argumentAt, fieldAt, spaceOf}
 use Rattle.lines.proofs.LineLaws.{part-before}

@@ -9,7 +9,7 @@ use Rattle.text.specs.Bytes.{sameText, lineFeed, blank, A, B, C, D, G, N, O, P,
 use Rattle.text.specs.Numerals.{digit, isDigit, allDigits, plainDigits, numberAfter, readNumber}
 use Rattle.lines.specs.declared.Reading.the-variants.{Read}
 use Rattle.lines.specs.Lines.{inFront, linesOf, wordsOf}
-use Rattle.lines.specs.OperatorWords.{operatorWords, numberFrom, operatorNumber}
+use Rattle.letters.specs.OperatorWords.{operatorWords, numberFrom, operatorNumber}
 use Rattle.lines.specs.Calls.{refused, withNumber, takeNumber, takeSpace, complete, callOf, inOrder, spaceThenValue, spaces, arguments, readWords, readLine}
 
 -- a line feed ends a line and starts none

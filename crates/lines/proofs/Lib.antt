@@ -1,7 +1,6 @@
 pub mod Digits
 pub mod LineLaws
 pub mod WordLaws
-pub mod LookUp
 pub mod ArgumentLaws
 pub mod CallLaws
 pub mod Reachable

@@ -22,7 +22,7 @@ use Rattle.text.proofs.Printing.{reads-back, digits-printed}
 use Rattle.lines.specs.declared.Reading.{Reading}
 use Rattle.lines.specs.declared.Reading.the-variants.{Read}
 use Rattle.lines.specs.Lines.{inFront, wordsOf}
-use Rattle.lines.specs.OperatorWords.{operatorWords, numberFrom, operatorNumber}
+use Rattle.letters.specs.OperatorWords.{operatorWords, numberFrom, operatorNumber}
 use Rattle.lines.specs.Calls.{mostValue, withNumber, takeNumber, takeSpace, complete, callOf, inOrder, spaceThenValue, spaces, arguments, readWords, readLine}
 use Rattle.model.specs.Unread.{readable}
 use Rattle.lines.specs.Reachable.{joined, lettersOf, spaceText, ifRead, orderedOf, argumentsOf, lineOf, SpaceFits, Fitting}

@@ -14,7 +14,7 @@ use Rattle.text.specs.Numerals.{readNumber}
 use Rattle.lines.specs.declared.Reading.{Reading}
 use Rattle.lines.specs.declared.Reading.the-variants.{Read, Refused}
 use Rattle.lines.specs.Lines.{wordsOf}
-use Rattle.lines.specs.OperatorWords.{operatorNumber}
+use Rattle.letters.specs.OperatorWords.{operatorNumber}
 
 -- "values to 4,294,967,295"
 abbrev pub mostValue : ℕ

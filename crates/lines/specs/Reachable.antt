@@ -11,7 +11,7 @@ use Rattle.model.specs.Keys.{mostName}
 use Rattle.model.specs.Operators.{readsOf}
 use Rattle.text.specs.Bytes.{Text, blank, S, U}
 use Rattle.text.specs.Numerals.{printedNumber}
-use Rattle.lines.specs.OperatorWords.{operatorWords}
+use Rattle.letters.specs.OperatorWords.{operatorWords}
 use Rattle.lines.specs.Calls.{mostValue}
 
 -- "one blank before each": a word, and the words behind it, as a line

@@ -3,7 +3,7 @@ use super::Argument;
 use super::numbers::Numeral;
 use super::numbers::number_in;
 use super::words::end_of;
-use super::words::same;
+use letters::same;
 use model::Space;
 use model::SpaceName;
 ghost use mathlib.Core.Path.{_≡_};

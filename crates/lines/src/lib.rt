@@ -1,7 +1,6 @@
 // The lines of a script, read as calls.
 mod arguments;
 mod numbers;
-mod operator_words;
 mod words;
 
 use arguments::SpaceArgument;
@@ -9,11 +8,11 @@ use arguments::argument_at;
 use arguments::field_at;
 use arguments::space_at;
 use arguments::space_optional;
+use letters::operator_number;
 use model::Call;
 use model::EdgeName;
 use model::NodeName;
 use model::Space;
-use operator_words::operator_number;
 use words::end_of;
 ghost use mathlib.Core.Path.{_≡_};
 ghost use Prim.Native.Nat.{_≤_};

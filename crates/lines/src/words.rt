@@ -1,8 +1,8 @@
-// Bytes of a text: where a part ends, and whether two texts are the same.
+// Bytes of a text: where a part ends.
 ghost use mathlib.Core.Path.{_≡_};
 ghost use Prim.Native.Nat.{_+_, _≤_};
 ghost use lib.ListN.{length, drop};
-ghost use Rattle.text.specs.Bytes.{before, sameText};
+ghost use Rattle.text.specs.Bytes.{before};
 
 // The place of the first byte `end` from a place on; the text's length where there is none.
 // It is pub for the modules beside it, which have proved what it requires.
@@ -18,21 +18,4 @@ pub fn end_of(text: &[u8], from: usize, end: u8) -> usize
         at += 1;
     }
     at
-}
-
-// Are two texts the same.
-pub fn same(word: &[u8], letters: &[u8]) -> bool
-    ensures { λ r. ⌜ r ≡ sameText (now (word .entry)) (now (letters .entry)) ⌝ }
-{
-    if word.len() != letters.len() {
-        return false;
-    }
-    let mut i = 0;
-    while i < word.len() {
-        if word[i] != letters[i] {
-            return false;
-        }
-        i += 1;
-    }
-    true
 }

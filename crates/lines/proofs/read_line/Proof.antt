@@ -8,7 +8,7 @@ use Rattle.lines.proofs.read_line.Tie as tie
 use Rattle.lines.proofs.read_line.Reads as reads
 use Rattle.lines.proofs.read_line.Lts as lts
 use Rattle.lines.proofs.in_order.Reads as in-order-reads
-use Rattle.lines.proofs.operator_words.operator_number.Reads as operator-number-reads
+use Rattle.letters.proofs.operator_number.Reads as operator-number-reads
 use Rattle.lines.proofs.space_then_value.Reads as space-then-value-reads
 use Rattle.lines.proofs.spaces_of.Reads as spaces-of-reads
 use Rattle.lines.proofs.words.end_of.Reads as end-of-reads

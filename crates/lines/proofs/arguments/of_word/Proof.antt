@@ -5,7 +5,7 @@ use Rattle.lines.proofs.arguments.of_word.Tie as tie
 use Rattle.lines.proofs.arguments.of_word.Reads as reads
 use Rattle.lines.proofs.arguments.of_word.Lts as lts
 use Rattle.lines.proofs.numbers.number_in.Reads as number-in-reads
-use Rattle.lines.proofs.words.same.Reads as same-reads
+use Rattle.letters.proofs.same.Reads as same-reads
 
 slice-aggregate-same : tie.Need-slice-aggregate-same
 slice-aggregate-same c = search needs

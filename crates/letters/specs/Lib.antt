@@ -1,0 +1,2 @@
+pub mod OperatorWords
+pub mod Letters
