@@ -1,0 +1,4 @@
+pub mod Rooms
+pub mod Unpacked
+pub mod Calls
+pub mod Lent

@@ -1,0 +1,130 @@
+-- No call lists more than 4,096 pairs: with so much room, or with any room beyond it, it is the same call.
+use mathlib.Core.Bool.{Bool, true, false, cond}
+use mathlib.Core.List.{List, [], _∷_, _++_, map}
+use mathlib.Core.Path.{_≡_, refl, sym, ap, _∙_}
+use Prim.Native.Nat.{ℕ, suc, _≤_}
+use native.Mathlib.Omega.{arith}
+use lib.Dec.{eqb, ltb}
+use lib.ListN.{length, length-map}
+use borrow.Author.Tests.{ltb-true, ltb-false, le-ltb}
+use Rattle.model.specs.declared.Call.{Call}
+use Rattle.model.specs.declared.Direction.{Direction}
+use Rattle.model.specs.declared.Listing.{Listing}
+use Rattle.model.specs.declared.Operator.{Operator}
+use Rattle.model.specs.declared.Operator.the-variants.{Create, Bind, Value as Values, Exists, Destroy, List as Lists}
+use Rattle.model.specs.declared.Pair.{Pair}
+use Rattle.model.specs.Tuples.{Tuples}
+use Rattle.model.specs.Operators.{operatorOf}
+use Rattle.model.specs.Pairs.{pair, edgeOf, nodeOf, pairsOf, edgeNames, nodeNames, only, withEdge, withNode}
+use Rattle.model.specs.Steps.{nOf, gOf, mOf, sOf, listed, wouldList}
+use Rattle.model.specs.Refusals.{stop, first, spaceAbsent, nodeAbsent, secondAbsent, edgeAbsent, listShort, full, ofCall, ofTuples, earlier, refusalOf}
+use Rattle.model.specs.Machine.{outcomeOf, machine}
+use Rattle.model.specs.Buffer.{tuplesOf, isStore}
+use Rattle.list.proofs.Counted.{length-ascending}
+use Rattle.listing.proofs.Stores.{store-readable}
+use Rattle.collect.proofs.Collects.{listed-most}
+use Rattle.pairs.specs.InWords.{wordCount, lentWords}
+
+-- ---- the longest list
+
+length-only : (p : Pair → Bool) (ps : List Pair) → length (only p ps) ≤ length ps
+unfolding only
+length-only p [] = omega arith
+length-only p (q ∷ qs) = go (p q) (length-only p qs)
+  where
+    go : (t : Bool) → length (only p qs) ≤ length qs → length (cond t (q ∷ only p qs) (only p qs)) ≤ suc (length qs)
+    go true h = omega arith
+    go false h = omega arith
+
+length-edges : (ps : List Pair) → length (edgeNames ps) ≤ length ps
+unfolding edgeNames
+length-edges ps =
+    omega (arith, length-ascending (map (λ (p : Pair). pair (edgeOf p) 0) ps), length-map ps (λ (p : Pair). pair (edgeOf p) 0))
+
+length-nodes : (ps : List Pair) → length (nodeNames ps) ≤ length ps
+unfolding nodeNames
+length-nodes ps =
+    omega (arith, length-ascending (map (λ (p : Pair). pair 0 (nodeOf p)) ps), length-map ps (λ (p : Pair). pair 0 (nodeOf p)))
+
+module _ (b : List ℕ) (e : isStore b ≡ true) where
+  pairs-most : (d : Direction) (c : Call) → length (pairsOf d (sOf c) (nOf c) (tuplesOf b)) ≤ wordCount
+  unfolding listed
+  pairs-most d c = listed-most (Listing.P d) c (store-readable b e) tt
+
+  most-listed : (l : Listing) (c : Call) → length (listed l c (tuplesOf b)) ≤ wordCount
+  unfolding listed
+  most-listed (Listing.P d) c = pairs-most d c
+  most-listed (Listing.G d) c = omega (arith, length-edges (pairsOf d (sOf c) (nOf c) (tuplesOf b)), pairs-most d c)
+  most-listed (Listing.GN d) c =
+      let ps : List Pair = pairsOf d (sOf c) (nOf c) (tuplesOf b) in
+      omega (arith, length-edges (withNode (mOf c) ps), length-only (λ (p : Pair). eqb (nodeOf p) (mOf c)) ps, pairs-most d c)
+  most-listed (Listing.N d) c = omega (arith, length-nodes (pairsOf d (sOf c) (nOf c) (tuplesOf b)), pairs-most d c)
+  most-listed (Listing.NG d) c =
+      let ps : List Pair = pairsOf d (sOf c) (nOf c) (tuplesOf b) in
+      omega (arith, length-nodes (withEdge (gOf c) ps), length-only (λ (p : Pair). eqb (edgeOf p) (gOf c)) ps, pairs-most d c)
+  most-listed Listing.UN c = listed-most Listing.UN c (store-readable b e) tt
+  most-listed Listing.US c = listed-most Listing.US c (store-readable b e) tt
+  most-listed Listing.USn c = listed-most Listing.USn c (store-readable b e) tt
+
+  would-most : (op : Operator) (c : Call) → length (wouldList op c (tuplesOf b)) ≤ wordCount
+  unfolding wouldList
+  would-most (Create o) c = omega arith
+  would-most (Bind o) c = omega arith
+  would-most (Values o) c = omega arith
+  would-most (Exists o) c = omega arith
+  would-most (Destroy r) c = omega arith
+  would-most (Lists l) c = most-listed l c
+
+-- ---- how many words are lent
+
+pub lent-least : (room : ℕ) → ltb room wordCount ≡ true → room ≡ lentWords room
+unfolding lentWords
+lent-least room e = sym (ap (λ (t : Bool). cond t room wordCount) e)
+
+pub lent-most : (room : ℕ) → ltb room wordCount ≡ false → wordCount ≡ lentWords room
+unfolding lentWords
+lent-most room e = sym (ap (λ (t : Bool). cond t room wordCount) e)
+
+pub lent-within : (room : ℕ) → (lentWords room ≤ wordCount) × (lentWords room ≤ room)
+lent-within room = go (ltb room wordCount) refl
+  where
+    go : (t : Bool) → ltb room wordCount ≡ t → (lentWords room ≤ wordCount) × (lentWords room ≤ room)
+    go true e = let h = ltb-true room wordCount e in (omega (arith, lent-least room e, h), omega (arith, lent-least room e))
+    go false e = let h = ltb-false room wordCount e in (omega (arith, lent-most room e), omega (arith, lent-most room e, h))
+
+pub lent-in-words : (ws : List ℕ) (room lent : ℕ) → length ws ≡ wordCount → lent ≡ lentWords room → lent ≤ length ws
+lent-in-words ws room lent enough L = omega (arith, enough, L, lent-within room .0)
+
+-- ---- the same call
+
+module _ (b : List ℕ) (e : isStore b ≡ true) (c : Call) (room : ℕ) where
+  same-short : listShort c (tuplesOf b) (lentWords room) ≡ listShort c (tuplesOf b) room
+  unfolding listShort
+  same-short = go (ltb room wordCount) refl
+    where
+      k : ℕ
+      k = length (wouldList (operatorOf (c .operator)) c (tuplesOf b))
+
+      most : k ≤ wordCount
+      most = would-most b e (operatorOf (c .operator)) c
+
+      go : (t : Bool) → ltb room wordCount ≡ t → ltb (lentWords room) k ≡ ltb room k
+      go true h = ap (λ (n : ℕ). ltb n k) (sym (lent-least room h))
+      go false h =
+          let low = ltb-false room wordCount h in
+          le-ltb (lentWords room) k (omega (arith, most, lent-most room h)) ∙ sym (le-ltb room k (omega (arith, most, low)))
+
+  pub same-refusal : (C : ℕ) → refusalOf C (tuplesOf b) c (lentWords room) ≡ refusalOf C (tuplesOf b) c room
+  unfolding refusalOf earlier ofTuples
+  same-refusal C =
+      let ts : Tuples = tuplesOf b in
+      ap
+      (λ (t : Bool).
+      first
+      ((ofCall c ++ (stop 5 (spaceAbsent c ts) ∷ stop 6 (nodeAbsent c ts) ∷ stop 7 (secondAbsent c ts) ∷ stop 8 (edgeAbsent c ts) ∷ stop 9 t ∷ []))
+      ++ (stop 10 (full C c ts) ∷ [])))
+      same-short
+
+  pub same-machine : (C : ℕ) → machine C (tuplesOf b) c (lentWords room) ≡ machine C (tuplesOf b) c room
+  unfolding machine
+  same-machine C = ap (λ r. outcomeOf r (tuplesOf b) c) (same-refusal C)
