@@ -1,79 +1,21 @@
 -- No call lists more than 4,096 pairs: with so much room, or with any room beyond it, it is the same call.
 use mathlib.Core.Bool.{Bool, true, false, cond}
-use mathlib.Core.List.{List, [], _∷_, _++_, map}
+use mathlib.Core.List.{List, [], _∷_, _++_}
 use mathlib.Core.Path.{_≡_, refl, sym, ap, _∙_}
-use Prim.Native.Nat.{ℕ, suc, _≤_}
+use Prim.Native.Nat.{ℕ, _≤_}
 use native.Mathlib.Omega.{arith}
-use lib.Dec.{eqb, ltb}
-use lib.ListN.{length, length-map}
+use lib.Dec.{ltb}
+use lib.ListN.{length}
 use borrow.Author.Tests.{ltb-true, ltb-false, le-ltb}
 use Rattle.model.specs.declared.Call.{Call}
-use Rattle.model.specs.declared.Direction.{Direction}
-use Rattle.model.specs.declared.Listing.{Listing}
-use Rattle.model.specs.declared.Operator.{Operator}
-use Rattle.model.specs.declared.Operator.the-variants.{Create, Bind, Value as Values, Exists, Destroy, List as Lists}
-use Rattle.model.specs.declared.Pair.{Pair}
 use Rattle.model.specs.Tuples.{Tuples}
 use Rattle.model.specs.Operators.{operatorOf}
-use Rattle.model.specs.Pairs.{pair, edgeOf, nodeOf, pairsOf, edgeNames, nodeNames, only, withEdge, withNode}
-use Rattle.model.specs.Steps.{nOf, gOf, mOf, sOf, listed, wouldList}
+use Rattle.model.specs.Steps.{wouldList}
 use Rattle.model.specs.Refusals.{stop, first, spaceAbsent, nodeAbsent, secondAbsent, edgeAbsent, listShort, full, ofCall, ofTuples, earlier, refusalOf}
 use Rattle.model.specs.Machine.{outcomeOf, machine}
 use Rattle.model.specs.Buffer.{tuplesOf, isStore}
-use Rattle.list.proofs.Counted.{length-ascending}
-use Rattle.listing.proofs.Stores.{store-readable}
-use Rattle.collect.proofs.Collects.{listed-most}
+use Rattle.calls.proofs.Counts.{would-most}
 use Rattle.pairs.specs.InWords.{wordCount, lentWords}
-
--- ---- the longest list
-
-length-only : (p : Pair → Bool) (ps : List Pair) → length (only p ps) ≤ length ps
-unfolding only
-length-only p [] = omega arith
-length-only p (q ∷ qs) = go (p q) (length-only p qs)
-  where
-    go : (t : Bool) → length (only p qs) ≤ length qs → length (cond t (q ∷ only p qs) (only p qs)) ≤ suc (length qs)
-    go true h = omega arith
-    go false h = omega arith
-
-length-edges : (ps : List Pair) → length (edgeNames ps) ≤ length ps
-unfolding edgeNames
-length-edges ps =
-    omega (arith, length-ascending (map (λ (p : Pair). pair (edgeOf p) 0) ps), length-map ps (λ (p : Pair). pair (edgeOf p) 0))
-
-length-nodes : (ps : List Pair) → length (nodeNames ps) ≤ length ps
-unfolding nodeNames
-length-nodes ps =
-    omega (arith, length-ascending (map (λ (p : Pair). pair 0 (nodeOf p)) ps), length-map ps (λ (p : Pair). pair 0 (nodeOf p)))
-
-module _ (b : List ℕ) (e : isStore b ≡ true) where
-  pairs-most : (d : Direction) (c : Call) → length (pairsOf d (sOf c) (nOf c) (tuplesOf b)) ≤ wordCount
-  unfolding listed
-  pairs-most d c = listed-most (Listing.P d) c (store-readable b e) tt
-
-  most-listed : (l : Listing) (c : Call) → length (listed l c (tuplesOf b)) ≤ wordCount
-  unfolding listed
-  most-listed (Listing.P d) c = pairs-most d c
-  most-listed (Listing.G d) c = omega (arith, length-edges (pairsOf d (sOf c) (nOf c) (tuplesOf b)), pairs-most d c)
-  most-listed (Listing.GN d) c =
-      let ps : List Pair = pairsOf d (sOf c) (nOf c) (tuplesOf b) in
-      omega (arith, length-edges (withNode (mOf c) ps), length-only (λ (p : Pair). eqb (nodeOf p) (mOf c)) ps, pairs-most d c)
-  most-listed (Listing.N d) c = omega (arith, length-nodes (pairsOf d (sOf c) (nOf c) (tuplesOf b)), pairs-most d c)
-  most-listed (Listing.NG d) c =
-      let ps : List Pair = pairsOf d (sOf c) (nOf c) (tuplesOf b) in
-      omega (arith, length-nodes (withEdge (gOf c) ps), length-only (λ (p : Pair). eqb (edgeOf p) (gOf c)) ps, pairs-most d c)
-  most-listed Listing.UN c = listed-most Listing.UN c (store-readable b e) tt
-  most-listed Listing.US c = listed-most Listing.US c (store-readable b e) tt
-  most-listed Listing.USn c = listed-most Listing.USn c (store-readable b e) tt
-
-  would-most : (op : Operator) (c : Call) → length (wouldList op c (tuplesOf b)) ≤ wordCount
-  unfolding wouldList
-  would-most (Create o) c = omega arith
-  would-most (Bind o) c = omega arith
-  would-most (Values o) c = omega arith
-  would-most (Exists o) c = omega arith
-  would-most (Destroy r) c = omega arith
-  would-most (Lists l) c = most-listed l c
 
 -- ---- how many words are lent
 
