@@ -4,7 +4,6 @@
 -- Assumes nothing.
 use mathlib.Core.Path.{_≡_, refl, sym, _∙_, ap, subst}
 use Prim.Native.Nat.{ℕ, _≤_, _<_, _^_}
-use native.Mathlib.Omega.{arith}
 use mathlib.Core.List.{[], _∷_, List}
 use lib.Dec.{lit<}
 use lib.ListN.{length}
@@ -20,7 +19,7 @@ use prog.Wp.{Heap, Calls, Loops, WpFn, Tables}
 use ghost.Atoms.{Atoms, sem}
 use contract.Monad.{Fun, fact}
 use contract.Running.{givenOf, tables, tablesOf}
-use types.Kit.{Given, ‵, raw, given, some, later, _⊛_, ⋆, _$_, _∵_, !, qed, by, move, keep, drop, use0, use1, use2, use3, split, join, pick, learn, rewrite, fsplit, fjoin, feqL, feqI, suffices, frame, await, done}
+use types.Kit.{Given, ‵, raw, given, some, later, _⊛_, _$_, _∵_, !, qed, by, move, drop, use0, use1, use2, use3, split, join, pick, learn, rewrite, fsplit, fjoin, feqL, feqI, suffices, frame, await, done}
 use types.Run.{look, init, store, forget, stop, hop, fld, from, load, lit, addr, of-opd, and-then, no-more, assigns, land, returns, enter, alloc1, alloc0, params1, pass1, pass0, free1, free0}
 use types.Part.{agg, rep, whole, sub, look-in}
 use types.SemTy.{Arr, cells}
