@@ -2,3 +2,4 @@ pub mod Rooms
 pub mod Unpacked
 pub mod Calls
 pub mod Lent
+pub mod Lists

@@ -9,10 +9,10 @@ use Rattle.model.specs.declared.Answer.{Answer}
 use Rattle.model.specs.declared.Answer.the-variants.{Refusal, Name, Value, YesNo, List as Listed}
 use Rattle.model.specs.declared.Pair.{Pair}
 use Rattle.model.specs.Steps.{Reply, refusal, name, valued, yesNo, pairs}
-use Rattle.model.specs.Machine.{machine}
+use Rattle.model.specs.Machine.{State, Request, machine, answers}
 use Rattle.model.specs.Buffer.{capacityOf, tuplesOf, isStore}
 use Rattle.model.specs.OneCall.{pack, unpack, OneCall}
-use Rattle.model.specs.CallLists.{CallMade}
+use Rattle.model.specs.CallLists.{CallMade, WholeList}
 
 -- the pairs that the first k words hold in the first k places, the rest what they held
 unfoldable pub unpackedOnto : ℕ → List ℕ → List Pair → List Pair
@@ -54,6 +54,17 @@ pub record PairsMade : Type 0 where
 abbrev pub packed : PairsMade → CallMade
 packed x = record { call = x .call; lent = map pack (x .lent); answer = x .answer; left = map pack (x .left) }
 
+-- what the machine is fed: "only the calls: operator, fields and the length of the call's answer list"
+abbrev pub requestsInPairs : List PairsMade → List Request
+requestsInPairs xs = map (λ (x : PairsMade). record { call = x .call; room = length (x .lent) }) xs
+
 -- what the callers observe
 abbrev pub repliesInPairs : List PairsMade → List Reply
 repliesInPairs xs = map (λ (x : PairsMade). observedInPairs (x .answer) (x .left)) xs
+
+-- what is claimed of a list of calls made from a store of C records that holds the tuples ts, to the buffer b
+pub record WholeInPairs (C : ℕ) (ts : State) (xs : List PairsMade) (b : List ℕ) : Type 0 where
+  -- all that demand 3 claims of calls with packed lists
+  pub whole : WholeList C ts (map packed xs) b
+  -- demand 3: "the answers are those of 01's tuple machine", in pairs
+  pub answered : repliesInPairs xs ≡ answers C ts (requestsInPairs xs)

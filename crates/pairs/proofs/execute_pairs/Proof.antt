@@ -4,7 +4,6 @@
 -- Assumes nothing.
 use mathlib.Core.Path.{_≡_, refl, sym, _∙_, ap, subst}
 use Prim.Native.Nat.{ℕ, _≤_, _<_, _^_}
-use native.Mathlib.Omega.{arith}
 use mathlib.Core.List.{[], _∷_, List}
 use lib.Dec.{lit<}
 use lib.ListN.{length}
@@ -20,7 +19,7 @@ use prog.Wp.{Heap, Calls, Loops, WpFn, Tables}
 use ghost.Atoms.{Atoms, sem}
 use contract.Monad.{Fun, fact}
 use contract.Running.{givenOf, tables, tablesOf}
-use types.Kit.{Given, ‵, raw, given, some, later, _⊛_, ⋆, _$_, _∵_, !, qed, by, move, keep, drop, use0, use1, use2, use3, split, join, pick, learn, rewrite, fsplit, fjoin, feqL, feqI, suffices, frame, await, done}
+use types.Kit.{Given, ‵, raw, given, some, later, _⊛_, _$_, _∵_, !, qed, by, move, drop, use0, use1, use2, use3, split, join, pick, learn, rewrite, fsplit, fjoin, feqL, feqI, suffices, frame, await, done}
 use types.Run.{look, init, store, forget, stop, hop, fld, from, load, lit, addr, of-opd, and-then, no-more, assigns, land, returns, enter, alloc1, alloc0, params1, pass1, pass0, free1, free0}
 use types.Part.{agg, rep, whole, sub, look-in}
 use types.SemTy.{Arr, cells}
@@ -175,6 +174,17 @@ module _ {M : Type 1} (𝓤 : URA M) (H : Heap 𝓤) (A : Atoms 𝓤) (W : Given
         move ! (1 ∷ []) $ split ! $ nothing ! $ move ! (2 ∷ 0 ∷ []) $ join ! $ move ! (1 ∷ 0 ∷ []) $ join ! $ frame ! $ split ! $
         nothing ! $ owned ! usize (Is usize) (uint-makes 𝓤 H A W w64) k _ (refl, k-fits) $ fjoin ! $ move ! (2 ∷ 0 ∷ []) $ fjoin ! $ move ! (1 ∷ 0 ∷ []) $ fjoin ! $ done !
 
+  -- the last values of what `execute_words` is lent: of the store, and of the words
+  abbrev Lasts-words : Type 0
+  Lasts-words = List ℕ × (Unit {0} × (Unit {0} × (List ℕ × Unit {0})))
+
+  abbrev words-of : Lasts-words → List ℕ
+  words-of zs = zs .1 .1 .1 .0
+
+  -- what the array holds at first
+  abbrev blank : List ℕ
+  blank = zeros 4096
+
   fits-4096 : 4096 < 2 ^ 64
   fits-4096 = lit< tt
 
@@ -190,8 +200,8 @@ module _ {M : Type 1} (𝓤 : URA M) (H : Heap 𝓤) (A : Atoms 𝓤) (W : Given
         pass1 ! (init ! 28 refl (tt, (tt, (record { fits = room .0 }, tt)))) $ pass1 ! (init ! 26 refl (LL.lawful CT.the-type CT′.the-laws 𝓤 H A W .typed c _ is-call .0)) $ pass1 ! (init ! 24 refl (tt, (tt, (record { fits = room′ .0 }, tt)))) $ pass0 ! $
         -- [_15; …; _14; …; … _1; …; room for _0; …; the tokens; what the parameters own]: the array is made, and is the cells of its words
         assigns ! (rep ! 4096 (lit ! tt)) (from ! (stop !)) (init ! 22 refl (zeros-typed 𝓤 H A W 4096)) $
-        owned ! (Array u32 4096) (Is (Array u32 4096)) (array-makes 𝓤 H A W u32 (uint-makes 𝓤 H A W w32) 4096) (zeros 4096) (zeros-val 4096 ∷ []) (zeros-is 4096) $ move ! (23 ∷ 0 ∷ []) $
-        use2 W (given (length (zeros 4096) ≡ 4096) (‵ (cells (mem u32) (zeros 4096) l₄ 0))) (words-out 𝓤 H A W 4096 (zeros 4096) (zeros-val 4096) l₄ 0) $ learn ! (λ size.
+        owned ! (Array u32 4096) (Is (Array u32 4096)) (array-makes 𝓤 H A W u32 (uint-makes 𝓤 H A W w32) 4096) blank (zeros-val 4096 ∷ []) (zeros-is 4096) $ move ! (23 ∷ 0 ∷ []) $
+        use2 W (given (length blank ≡ 4096) (‵ (cells (mem u32) blank l₄ 0))) (words-out 𝓤 H A W 4096 blank (zeros-val 4096) l₄ 0) $ learn ! (λ size.
         -- [the words; _15; …; _5; …; what frees _4; _3; …; the tokens; what the parameters own]
         assigns ! (addr ! (from ! (fld ! refl (hop ! (look-in ! 28 (sub ! 0 refl (whole !))) (stop !))))) (from ! (stop !)) (init ! 19 refl (tt, tt)) $
         assigns ! (agg ! (and-then ! (load ! (from ! (stop !)) (look ! 19 refl)) (and-then ! (load ! (from ! (fld ! refl (stop !))) (look-in ! 28 (sub ! 1 refl (whole !)))) (no-more !)))) (from ! (stop !)) (init ! 17 refl (tt, (tt, (record { fits = room .0 }, tt)))) $
@@ -200,26 +210,26 @@ module _ {M : Type 1} (𝓤 : URA M) (H : Heap 𝓤) (A : Atoms 𝓤) (W : Given
         assigns ! (agg ! (and-then ! (load ! (from ! (stop !)) (look ! 13 refl)) (and-then ! (big-lit ! (record { fits = fits-4096 })) (no-more !)))) (from ! (stop !)) (init ! 11 refl (tt, (tt, (record { fits = fits-4096 }, tt)))) $
         -- the words are lent for a lifetime of the call
         lft-new ! tt (λ ν. move ! (1 ∷ []) $
-        use1 W (later (some (λ (δ : GName). ‵ (MutSlice (named 1) (ν ∷ []) u32 .own (w l₄ δ (zeros 4096)) (sliceVal (l₄, 0) (length (zeros 4096)) ∷ [])) ⊛ ‵ (flent (ν ∷ []) (Held u32 (length (zeros 4096)) l₄ 0 δ)))))
-        (lends-slice 𝓤 H A W u32 (named 1) (ν ∷ []) (zeros 4096) l₄ 0 (room-4096 (zeros 4096) size)) $ await ! tt $ pick ! (λ δ. split ! $
-        rewrite ! 0 (λ (n : ℕ). ‵ (MutSlice (named 1) (ν ∷ []) u32 .own (w l₄ δ (zeros 4096)) (sliceVal (l₄, 0) n ∷ []))) size refl $
+        use1 W (later (some (λ (δ : GName). ‵ (MutSlice (named 1) (ν ∷ []) u32 .own (w l₄ δ blank) (sliceVal (l₄, 0) (length blank) ∷ [])) ⊛ ‵ (flent (ν ∷ []) (Held u32 (length blank) l₄ 0 δ)))))
+        (lends-slice 𝓤 H A W u32 (named 1) (ν ∷ []) blank l₄ 0 (room-4096 blank size)) $ await ! tt $ pick ! (λ δ. split ! $
+        rewrite ! 0 (λ (n : ℕ). ‵ (MutSlice (named 1) (ν ∷ []) u32 .own (w l₄ δ blank) (sliceVal (l₄, 0) n ∷ []))) size refl $
         move ! (35 ∷ []) $ fsplit ! $ move ! (1 ∷ []) $ fsplit ! $ drop ! $ fsplit ! $ move ! (1 ∷ []) $ drop ! $ move ! (36 ∷ []) $ split ! $ move ! (1 ∷ []) $ split ! $ move ! (1 ∷ []) $ drop ! $
         -- [the list's token; the store's; what the list owns; the store; the words; what their lender keeps; their token; _15; …]
-        move ! (1 ∷ 6 ∷ []) $ join ! $ move ! (3 ∷ 4 ∷ []) $ join ! $ use2 W (raw (ExecuteWords 𝓤 H A mem′ run .pre (to-words l₄ ν δ (zeros 4096)))) (goes-words l₄ ν δ (zeros 4096) size) $
+        move ! (1 ∷ 6 ∷ []) $ join ! $ move ! (3 ∷ 4 ∷ []) $ join ! $ use2 W (raw (ExecuteWords 𝓤 H A mem′ run .pre (to-words l₄ ν δ blank))) (goes-words l₄ ν δ blank size) $
         -- `execute_words`
-        calls-at ! fm (ExecuteWords 𝓤 H A mem′ run) known-words (to-words l₄ ν δ (zeros 4096))
+        calls-at ! fm (ExecuteWords 𝓤 H A mem′ run) known-words (to-words l₄ ν δ blank)
         (and-then ! (load ! (from ! (stop !)) (look ! 20 refl)) (and-then ! (load ! (from ! (stop !)) (look ! 29 refl)) (and-then ! (load ! (from ! (stop !)) (look ! 18 refl)) (and-then ! (load ! (from ! (stop !)) (look ! 14 refl)) (no-more !))))) (λ v.
         use1 W (later (some (λ (r : Answer). ((‵ (flft κ q) ⊛ ‵ (flft (ν ∷ []) fullShare) ⊛ ‵ ftrue) ⊛ ‵ (AT.the-row .own r (v ∷ [])))
-        ⊛ raw (ensured 𝓤 H A execute-words.ended (execute-words.clauses 𝓤 H A mem′ run) (κ, (ν ∷ [], tt)) (x, (c, (length ys, (w l₄ δ (zeros 4096), tt)))) tt r)))) (id⊢ 𝓤 _) $ await ! tt $ pick ! (λ r. split ! $ move ! (1 ∷ []) $
-        use1 W (some (λ (zs : List ℕ × (Unit {0} × (Unit {0} × (List ℕ × Unit {0})))). ‵ (lasts execute-words.ended (κ, (ν ∷ [], tt)) (x, (c, (length ys, (w l₄ δ (zeros 4096), tt)))) zs)
-        ⊛ raw (fact 𝓤 (CallInWords xs c (length ys) (zeros 4096) r (zs .0) (zs .1 .1 .1 .0))))) (id⊢ 𝓤 _) $ pick ! (λ zs. split ! $ move ! (1 ∷ []) $ heard ! (CallInWords xs c (length ys) (zeros 4096) r (zs .0) (zs .1 .1 .1 .0)) (λ I.
+        ⊛ raw (ensured 𝓤 H A execute-words.ended (execute-words.clauses 𝓤 H A mem′ run) (κ, (ν ∷ [], tt)) (x, (c, (length ys, (w l₄ δ blank, tt)))) tt r)))) (id⊢ 𝓤 _) $ await ! tt $ pick ! (λ r. split ! $ move ! (1 ∷ []) $
+        use1 W (some (λ (zs : Lasts-words). ‵ (lasts execute-words.ended (κ, (ν ∷ [], tt)) (x, (c, (length ys, (w l₄ δ blank, tt)))) zs)
+        ⊛ raw (fact 𝓤 (CallInWords xs c (length ys) blank r (zs .0) (words-of zs))))) (id⊢ 𝓤 _) $ pick ! (λ zs. split ! $ move ! (1 ∷ []) $ heard ! (CallInWords xs c (length ys) blank r (zs .0) (words-of zs)) (λ I.
         fsplit ! $ fsplit ! $ move ! (1 ∷ []) $ feqL ! (λ same. move ! (1 ∷ []) $ fsplit ! $ drop ! $ fsplit ! $ drop ! $ fsplit ! $ fsplit ! $ move ! (1 ∷ []) $ feqL ! (λ same-words. move ! (1 ∷ []) $ drop ! $
         -- [the words' last list; the store's; the tokens and the answer; the list's token; the list; what the words' lender keeps; _15; …]
         move ! (2 ∷ []) $ split ! $ move ! (1 ∷ []) $ peeks ! AT.the-row (Is AT.the-row) (shows 𝓤 H A AT.the-row) r (v ∷ []) (λ is.
         land ! (from ! (stop !)) (init ! 27 refl (EL.lawful AT.the-type AT′.the-laws 𝓤 H A W tt .typed r _ is .0)) $ drop ! $
         -- the lifetime is ended, and the words come back
         split ! $ move ! (1 ∷ []) $ split ! $ move ! (1 ∷ []) $ drop ! $ lft-end ! tt $ move ! (0 ∷ 6 ∷ 2 ∷ []) $
-        use3 W (later (‵ (Arr (mem u32) (length (zeros 4096)) .lies (zs .1 .1 .1 .0) l₄ 0))) (slice-back 𝓤 H A W u32 (ν ∷ []) δ (zs .1 .1 .1 .0) (length (zeros 4096)) l₄ 0) $ await ! tt $ fsplit ! $ drop ! $
+        use3 W (later (‵ (Arr (mem u32) (length blank) .lies (words-of zs) l₄ 0))) (slice-back 𝓤 H A W u32 (ν ∷ []) δ (words-of zs) (length blank) l₄ 0) $ await ! tt $ fsplit ! $ drop ! $
         -- [the words; the store's token; its last list; the list's token; the list; _15; …]
         assigns ! (addr ! (from ! (fld ! refl (hop ! (look-in ! 28 (sub ! 0 refl (whole !))) (stop !))))) (from ! (stop !)) (init ! 11 refl (tt, tt)) $
         assigns ! (agg ! (and-then ! (load ! (from ! (stop !)) (look ! 11 refl)) (and-then ! (load ! (from ! (fld ! refl (stop !))) (look-in ! 28 (sub ! 1 refl (whole !)))) (no-more !)))) (from ! (stop !)) (init ! 9 refl (tt, (tt, (record { fits = room′ .0 }, tt)))) $
@@ -233,34 +243,34 @@ module _ {M : Type 1} (𝓤 : URA M) (H : Heap 𝓤) (A : Atoms 𝓤) (W : Given
         peeks ! usize (Is usize) (shows 𝓤 H A usize) (listCount r) (vk ∷ []) (λ isk. land ! (from ! (stop !)) (store ! 20 refl (uint-lawful 𝓤 H A W w64 .typed (listCount r) _ isk .0)) $
         rewrite ! 20 (λ (u : Val). ‵ (fat fullShare (tyInt w64) l₈ 0 u)) (ap only (isk .0)) refl $ drop ! $
         -- the words are shared for a lifetime of the next call
-        use1 W (‵ (row u32 fullShare (zs .1 .1 .1 .0) l₄ 0)) (whole-out 𝓤 H A W u32 (zs .1 .1 .1 .0) l₄ 0) $ feqI ! ℕ (length (zs .1 .1 .1 .0)) (length (zs .1 .1 .1 .0)) refl $ fjoin ! $
+        use1 W (‵ (row u32 fullShare (words-of zs) l₄ 0)) (whole-out 𝓤 H A W u32 (words-of zs) l₄ 0) $ feqI ! ℕ (length (words-of zs)) (length (words-of zs)) refl $ fjoin ! $
         lft-new ! tt (λ μ. move ! (1 ∷ []) $
-        use1 W (later (some (λ (ε : GName). ‵ (ShrSlice (named 1) (μ ∷ []) u32 .own (w l₄ ε (zs .1 .1 .1 .0)) (sliceVal (l₄, 0) (length (zs .1 .1 .1 .0)) ∷ [])) ⊛ ‵ (flent (μ ∷ []) (arr-parts (shares u32) (length (zs .1 .1 .1 .0)) .part fullShare (zs .1 .1 .1 .0) l₄ 0)))))
-        (lends-shr-slice 𝓤 H A W u32 (named 1) (μ ∷ []) fullShare (zs .1 .1 .1 .0) l₄ 0 (room-4096 (zs .1 .1 .1 .0) (same-words ∙ size))) $ await ! tt $ pick ! (λ ε. split ! $
-        rewrite ! 0 (λ (n : ℕ). ‵ (ShrSlice (named 1) (μ ∷ []) u32 .own (w l₄ ε (zs .1 .1 .1 .0)) (sliceVal (l₄, 0) n ∷ []))) (same-words ∙ size) refl $
+        use1 W (later (some (λ (ε : GName). ‵ (ShrSlice (named 1) (μ ∷ []) u32 .own (w l₄ ε (words-of zs)) (sliceVal (l₄, 0) (length (words-of zs)) ∷ [])) ⊛ ‵ (flent (μ ∷ []) (arr-parts (shares u32) (length (words-of zs)) .part fullShare (words-of zs) l₄ 0)))))
+        (lends-shr-slice 𝓤 H A W u32 (named 1) (μ ∷ []) fullShare (words-of zs) l₄ 0 (room-4096 (words-of zs) (same-words ∙ size))) $ await ! tt $ pick ! (λ ε. split ! $
+        rewrite ! 0 (λ (n : ℕ). ‵ (ShrSlice (named 1) (μ ∷ []) u32 .own (w l₄ ε (words-of zs)) (sliceVal (l₄, 0) n ∷ []))) (same-words ∙ size) refl $
         -- [the words; what their lender keeps; their token; the store's; its last list; the list's token; the list; _15; …]
-        move ! (5 ∷ 2 ∷ []) $ join ! $ move ! (5 ∷ 1 ∷ []) $ join ! $ use2 W (raw (WritePairs 𝓤 H A mem′ run .pre (to-pairs l₄ μ ε (zs .1 .1 .1 .0) (listCount r)))) (goes-pairs l₄ μ ε (zs .1 .1 .1 .0) (listCount r) (isk .1) (I .inList, I .inWords)) $
+        move ! (5 ∷ 2 ∷ []) $ join ! $ move ! (5 ∷ 1 ∷ []) $ join ! $ use2 W (raw (WritePairs 𝓤 H A mem′ run .pre (to-pairs l₄ μ ε (words-of zs) (listCount r)))) (goes-pairs l₄ μ ε (words-of zs) (listCount r) (isk .1) (I .inList, I .inWords)) $
         -- `write_pairs`
-        calls-at ! fm (WritePairs 𝓤 H A mem′ run) known-pairs (to-pairs l₄ μ ε (zs .1 .1 .1 .0) (listCount r))
+        calls-at ! fm (WritePairs 𝓤 H A mem′ run) known-pairs (to-pairs l₄ μ ε (words-of zs) (listCount r))
         (and-then ! (load ! (from ! (stop !)) (look ! 8 refl)) (and-then ! (load ! (from ! (stop !)) (look ! 4 refl)) (and-then ! (load ! (from ! (stop !)) (look ! 18 refl)) (no-more !)))) (λ vu.
         use1 W (later (some (λ (u : Unit {0}). ((‵ (flft κ′ q′) ⊛ ‵ (flft (μ ∷ []) fullShare) ⊛ ‵ ftrue) ⊛ ‵ (unit .own u (vu ∷ [])))
-        ⊛ raw (ensured 𝓤 H A write-pairs.ended (write-pairs.clauses 𝓤 H A mem′ run) (κ′, (μ ∷ [], tt)) (y, (w l₄ ε (zs .1 .1 .1 .0), (listCount r, tt))) tt u)))) (id⊢ 𝓤 _) $ await ! tt $ pick ! (λ u. split ! $ move ! (1 ∷ []) $
-        use1 W (some (λ (ls : List Pair × (Unit {0} × (Unit {0} × Unit {0}))). ‵ (lasts write-pairs.ended (κ′, (μ ∷ [], tt)) (y, (w l₄ ε (zs .1 .1 .1 .0), (listCount r, tt))) ls)
-        ⊛ raw (fact 𝓤 (ls .0 ≡ unpackedOnto (listCount r) (zs .1 .1 .1 .0) ys)))) (id⊢ 𝓤 _) $ pick ! (λ ls. split ! $ move ! (1 ∷ []) $ heard ! (ls .0 ≡ unpackedOnto (listCount r) (zs .1 .1 .1 .0) ys) (λ wrote.
+        ⊛ raw (ensured 𝓤 H A write-pairs.ended (write-pairs.clauses 𝓤 H A mem′ run) (κ′, (μ ∷ [], tt)) (y, (w l₄ ε (words-of zs), (listCount r, tt))) tt u)))) (id⊢ 𝓤 _) $ await ! tt $ pick ! (λ u. split ! $ move ! (1 ∷ []) $
+        use1 W (some (λ (ls : List Pair × (Unit {0} × (Unit {0} × Unit {0}))). ‵ (lasts write-pairs.ended (κ′, (μ ∷ [], tt)) (y, (w l₄ ε (words-of zs), (listCount r, tt))) ls)
+        ⊛ raw (fact 𝓤 (ls .0 ≡ unpackedOnto (listCount r) (words-of zs) ys)))) (id⊢ 𝓤 _) $ pick ! (λ ls. split ! $ move ! (1 ∷ []) $ heard ! (ls .0 ≡ unpackedOnto (listCount r) (words-of zs) ys) (λ wrote.
         fsplit ! $ fsplit ! $ move ! (1 ∷ []) $ feqL ! (λ same-list. move ! (1 ∷ []) $ drop ! $
         -- [the list's last pairs; the tokens and the result; what the words' lender keeps; the store's token; its last list; _15; …]
         move ! (1 ∷ []) $ split ! $ move ! (1 ∷ []) $ peeks ! unit (Is unit) (shows 𝓤 H A unit) u (vu ∷ []) (λ isu.
         land ! (from ! (stop !)) (init ! 14 refl (nothing-lawful 𝓤 H A W .typed u _ isu .0)) $ drop ! $
         split ! $ move ! (1 ∷ []) $ split ! $ move ! (1 ∷ []) $ drop ! $ lft-end ! tt $ move ! (0 ∷ 3 ∷ []) $ lent-back ! tt $ fsplit ! $ drop ! $
-        use1 W (‵ (cells (mem u32) (zs .1 .1 .1 .0) l₄ 0)) (whole-in 𝓤 H A W u32 (zs .1 .1 .1 .0) l₄ 0) $
-        use1 W (‵ (froom (tyArray (tyInt w32) 4096) l₄ 0)) (words-room 𝓤 H A W 4096 (zs .1 .1 .1 .0) l₄ 0 (same-words ∙ size)) $
+        use1 W (‵ (cells (mem u32) (words-of zs) l₄ 0)) (whole-in 𝓤 H A W u32 (words-of zs) l₄ 0) $
+        use1 W (‵ (froom (tyArray (tyInt w32) 4096) l₄ 0)) (words-room 𝓤 H A W 4096 (words-of zs) l₄ 0 (same-words ∙ size)) $
         -- [room for _4; the list's token; its last pairs; the store's token; its last list; _15; …]
         assigns ! (of-opd ! (load ! (from ! (stop !)) (look ! 25 refl))) (from ! (stop !)) (init ! 34 refl (EL.lawful AT.the-type AT′.the-laws 𝓤 H A W tt .typed r _ is .0)) $
         returns ! (look ! 34 refl) $ forget ! 5 refl $ forget ! 7 refl $ forget ! 9 refl $ forget ! 11 refl $ forget ! 13 refl $ forget ! 15 refl $ forget ! 17 refl $ forget ! 19 refl $ forget ! 21 refl $ forget ! 23 refl $ forget ! 25 refl $ forget ! 28 refl $ forget ! 30 refl $ forget ! 32 refl $ forget ! 34 refl $
         move ! (34 ∷ 35 ∷ []) $ free1 ! $ move ! (32 ∷ 33 ∷ []) $ free1 ! $ move ! (30 ∷ 31 ∷ []) $ free1 ! $ move ! (28 ∷ 29 ∷ []) $ free1 ! $ move ! (0 ∷ 27 ∷ []) $ free1 ! $ move ! (24 ∷ 25 ∷ []) $ free1 ! $ move ! (22 ∷ 23 ∷ []) $ free1 ! $ move ! (20 ∷ 21 ∷ []) $ free1 ! $
         move ! (18 ∷ 19 ∷ []) $ free1 ! $ move ! (16 ∷ 17 ∷ []) $ free1 ! $ move ! (14 ∷ 15 ∷ []) $ free1 ! $ move ! (12 ∷ 13 ∷ []) $ free1 ! $ move ! (10 ∷ 11 ∷ []) $ free1 ! $ move ! (8 ∷ 9 ∷ []) $ free1 ! $ move ! (6 ∷ 7 ∷ []) $ free1 ! $ move ! (4 ∷ 5 ∷ []) $ free1 ! $ free0 ! $
         nothing ! $ move ! (1 ∷ 0 ∷ []) $ join ! $ move ! (2 ∷ 0 ∷ []) $ join ! $ move ! (0 ∷ 2 ∷ 1 ∷ []) $
-        by ! (exits r v is (zs .0) (ls .0) (in-pairs xs (zeros 4096) (zs .0) (zs .1 .1 .1 .0) ys (ls .0) c r I wrote) same same-list)))))))))))))))))))))))))))))))))))))))
+        by ! (exits r v is (zs .0) (ls .0) (in-pairs xs blank (zs .0) (words-of zs) ys (ls .0) c r I wrote) same same-list)))))))))))))))))))))))))))))))))))))))
 
 module _ {M : Type 1} (𝓤 : URA M) (H : Heap 𝓤) (A : Atoms 𝓤) (W : Given 𝓤 H A) (mem′ : Memory → SProp 𝓤) (run : Routine → Fun 𝓤) (𝓣 : Tables 𝓤 H) (known-words : Triple 𝓤 (𝓣 .C #pairs·execute-words) (ExecuteWords 𝓤 H A mem′ run))
     (known-count : Triple 𝓤 (𝓣 .C #pairs·count-of) (CountOf 𝓤 H A mem′ run)) (known-pairs : Triple 𝓤 (𝓣 .C #pairs·write-pairs) (WritePairs 𝓤 H A mem′ run)) where

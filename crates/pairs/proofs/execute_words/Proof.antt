@@ -5,10 +5,6 @@ use Rattle.pairs.proofs.Calls.{in-words}
 use borrow.Author.Needs.{needs}
 use Rattle.pairs.proofs.execute_words.Statement.{statement}
 use Rattle.pairs.proofs.execute_words.Tie as tie
-use Rattle.pairs.proofs.execute_words.Reads as reads
-use Rattle.pairs.proofs.execute_words.Lts as lts
-use Rattle.pairs.proofs.lent_words.Reads as lent-words-reads
-use Rattle.calls.proofs.execute.Reads as execute-reads
 
 lent-words-requires : tie.Need-lent-words-requires
 lent-words-requires c κs = search needs
