@@ -18,8 +18,8 @@ use Rattle.model.specs.Buffer.{fitsLength, capacityOf, Prepared, Preparing}
 use Rattle.model.specs.CallLists.{CallMade, Trace, end, then, WholeList}
 use Rattle.model.proofs.Bools.{and-left, and-right}
 use Rattle.model.proofs.CallLists.{demand-3}
-use Rattle.verify.proofs.prepare.Kinds as prepare-kinds
-use Rattle.verify.proofs.prepare.Reads as prepare-reads
+use Rattle.fresh.proofs.prepare.Kinds as prepare-kinds
+use Rattle.fresh.proofs.prepare.Reads as prepare-reads
 use Rattle.calls.proofs.execute.Kinds as kinds
 use Rattle.calls.proofs.execute.Reads as reads
 

@@ -20,19 +20,12 @@ ghost use Rattle.operate.specs.Operate.{NearIn};
 ghost use Rattle.conditions.specs.Located.{beforeKey, near, nearNodes, nearUniverse, alsoIn, fartherOf, soughtIn, spaceAlone, withNode, withNodes, locatedIn, Told};
 ghost use Rattle.model.specs.Steps.{sOf};
 
-// The key of node n in space s; n = 0: that of the space.
-fn node_key(s: u32, n: u32) -> Key
-    ensures { λ r. ⌜ r ≡ nodeKey s n ⌝ }
-{
-    Key { s, n, g: 0, m: 0 }
-}
-
 // The last used record whose key is below that of node n in space s.
 fn before_node(b: &[u32], hint: usize, s: u32, n: u32) -> usize
     requires { ⌜ Linked (now b) × Hint (now b) hint ⌝ }
     ensures { λ r. ⌜ r ≡ beforeKey (now (b .entry)) (nodeKey s n) ⌝ }
 {
-    let place = chain::seek(b, hint, node_key(s, n));
+    let place = chain::seek(b, hint, records::node_key(s, n));
     place.before
 }
 
@@ -139,7 +132,7 @@ fn seek_node(b: &[u32], hint: usize, s: u32, n: u32) -> Sought
     requires { ⌜ Linked (now b) × Hint (now b) hint ⌝ }
     ensures { λ r. ⌜ r ≡ soughtIn (now (b .entry)) (nodeKey s n) ⌝ }
 {
-    let k = node_key(s, n);
+    let k = records::node_key(s, n);
     let place = chain::seek(b, hint, k);
     let at = place.at;
     Sought {
@@ -298,7 +291,7 @@ pub fn node_absent(b: &[u32], l: Located, c: Call) -> bool
 {
     if c.operator == 57 {
         let f = operate::fields_of(c);
-        return key_absent(b, 0, node_key(0, f.n));
+        return key_absent(b, 0, records::node_key(0, f.n));
     }
     if !node_asked(c.operator) {
         return false;

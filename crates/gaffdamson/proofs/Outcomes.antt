@@ -14,7 +14,7 @@ use Rattle.model.specs.Machine.{machine}
 use Rattle.model.specs.Buffer.{fitsLength, capacityOf, tuplesOf, isStore, Preparing}
 use Rattle.model.specs.OneCall.{answerOf, listCount, OneCall}
 use Rattle.calls.proofs.Counts.{answer-most}
-use Rattle.verify.specs.Prepare.{afterPreparing}
+use Rattle.fresh.specs.Prepare.{afterPreparing}
 use Rattle.gaffdamson.specs.Numbers.{PackedAs, packedPreparation}
 use Rattle.gaffdamson.specs.Calls.{answerOn, Called, preparationOf, PreparedAs}
 

@@ -12,7 +12,7 @@ use Rattle.model.specs.declared.Preparation.the-variants.{Refused, Capacity}
 use Rattle.model.specs.Machine.{machine}
 use Rattle.model.specs.Buffer.{fitsLength, capacityOf, tuplesOf, isStore, Preparing}
 use Rattle.model.specs.OneCall.{answerOf, OneCall}
-use Rattle.verify.specs.Prepare.{afterPreparing}
+use Rattle.fresh.specs.Prepare.{afterPreparing}
 use Rattle.run.specs.Words.{spaceOf}
 use Rattle.gaffdamson.specs.Numbers.{PackedAs, packedPreparation}
 

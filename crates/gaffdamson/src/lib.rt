@@ -57,7 +57,7 @@ fn call_of(operator: u32, n: u16, g: u16, m: u16, v: u32, form: u32, s: u16) -> 
 pub extern "C" fn gaffdamson_prepare(store: &mut [u32]) -> u64
     ensures { λ r. ⌜ PreparedAs (now (store .entry)) r (now (store .exit)) ⌝ }
 {
-    let prepared = verify::prepare(store);
+    let prepared = fresh::prepare(store);
     pack_preparation(prepared)
 }
 

@@ -238,27 +238,15 @@ fn nearer_code(seen: u64, best: u64, e: u64) -> u64
     best
 }
 
-// The key of a node.
-fn node_key(s: u32, n: u32) -> Key
-    ensures { λ r. ⌜ r ≡ nodeKey s n ⌝ }
-{
-    Key {
-        s: s,
-        n: n,
-        g: 0,
-        m: 0,
-    }
-}
-
 // No key below this one gives a pair.
 fn pairs_start(q: PairQuery) -> Key
     ensures { λ r. ⌜ r ≡ pairsStart (q .d) (q .s) (q .n) ⌝ }
 {
     let d = q.d;
     match d {
-        Direction::Outpointing => node_key(q.s, q.n),
-        Direction::Inpointing => node_key(q.s, 0),
-        Direction::Adjacent => node_key(q.s, 0),
+        Direction::Outpointing => records::node_key(q.s, q.n),
+        Direction::Inpointing => records::node_key(q.s, 0),
+        Direction::Adjacent => records::node_key(q.s, 0),
     }
 }
 
@@ -268,9 +256,9 @@ fn start_key(q: Query) -> Key
 {
     match q {
         Query::Pairs(p) => pairs_start(p),
-        Query::Nodes(s) => node_key(s, 0),
-        Query::Spaces => node_key(0, 0),
-        Query::SpacesOf(_) => node_key(0, 0),
+        Query::Nodes(s) => records::node_key(s, 0),
+        Query::Spaces => records::node_key(0, 0),
+        Query::SpacesOf(_) => records::node_key(0, 0),
     }
 }
 

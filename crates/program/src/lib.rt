@@ -23,7 +23,7 @@ fn run_lines(store: &mut [u32], list: &mut [u32], script: &[u8])
 fn run_script(script: &[u8]) {
     let mut store: [u32; 12292] = [0; 12292];
     let mut list: [u32; 2048] = [0; 2048];
-    verify::prepare(&mut store);
+    fresh::prepare(&mut store);
     run_lines(&mut store, &mut list, script);
 }
 

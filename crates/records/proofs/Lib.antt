@@ -1,2 +1,3 @@
 pub mod KeyOrder
 pub mod Words
+pub mod Sizes

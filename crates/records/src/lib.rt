@@ -4,9 +4,9 @@ use model::Key;
 ghost use mathlib.Core.Path.{_≡_};
 ghost use Prim.Native.Nat.{_+_, _≤_, _<_};
 ghost use lib.ListN.{length, set};
-ghost use Rattle.model.specs.Buffer.{word, recordStart, next, keyAt};
+ghost use Rattle.model.specs.Buffer.{word, capacityOf, recordStart, next, keyAt};
 ghost use Rattle.model.specs.Ordered.{isLess};
-ghost use Rattle.model.specs.Keys.{compareKeys, sameKey};
+ghost use Rattle.model.specs.Keys.{nodeKey, compareKeys, sameKey};
 ghost use Rattle.records.specs.Words.{Inside, putNext, putValue, putTuple};
 
 // A word as an index.
@@ -14,6 +14,21 @@ pub fn index_of(w: u32) -> usize
     ensures { λ r. ⌜ r ≡ w ⌝ }
 {
     w as usize
+}
+
+// C: how many records the buffer has room for.
+pub fn capacity(b: &[u32]) -> usize
+    requires { ⌜ 4 ≤ length (now b) ⌝ }
+    ensures { λ r. ⌜ r ≡ capacityOf (now (b .entry)) ⌝ }
+{
+    (b.len() - 4) / 6
+}
+
+// The key (s,n,0,0): node n in s, and with n = 0 space s.
+pub fn node_key(s: u32, n: u32) -> Key
+    ensures { λ r. ⌜ r ≡ nodeKey s n ⌝ }
+{
+    Key { s, n, g: 0, m: 0 }
 }
 
 // One of the words 0 to 3.

@@ -11,7 +11,7 @@ use Rattle.model.specs.Buffer.{word, fitsLength, capacityOf, everyRecord}
 use Rattle.model.proofs.Bools.{and-left, and-right}
 use Rattle.model.proofs.Store.{fits-least, fits-most, fits-length}
 use Rattle.verify.specs.Checks.{headsFit, Walkable}
-use Rattle.verify.proofs.Preparing.{too-short, too-long}
+use Rattle.records.proofs.Sizes.{too-short, too-long}
 
 -- ---- length and heads
 

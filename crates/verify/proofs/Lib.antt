@@ -1,5 +1,3 @@
-pub mod Capacity
-pub mod Preparing
 pub mod Once
 pub mod Heads
 pub mod Walks

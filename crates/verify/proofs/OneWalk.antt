@@ -19,7 +19,7 @@ use Rattle.model.proofs.Tuples.{same-key}
 use Rattle.verify.specs.Checks.{Walkable, endsWithin, walkedOn, walkedFrom, stepped, FreeWalk, UsedEnds, UsedFound, Held, Marks, MarksFit, withNamed, tuplesFrom, shapedKey, goodKey, keysRight, mayMeet, keyFollows, stoppedWalk, startsRight, usedWalk, supported, settled, endThere, nothingKept, foundWith, listWith, everyEnd, Listed, keptCount}
 use Rattle.verify.specs.declared.chains.Walk.{Walk}
 use Rattle.verify.specs.declared.ends.Found.{Found}
-use Rattle.verify.proofs.Capacity.{some-record, few-records}
+use Rattle.records.proofs.Sizes.{some-record, few-records}
 use Rattle.verify.proofs.Walks.{walked-on, walked-end, walked-long, walked-far, found-ends, free-first, free-next}
 use Rattle.verify.proofs.Rest.{AscendsLeft, ascends-empty, ascends-not-first, ascends-start, ascends-next, ascends-no, ascends-end, EveryLeft, every-start, every-next, every-no, every-end, every-held, tuples-next, tuples-none}
 use Rattle.verify.proofs.Hints.{named-marks, named-fit, marks-fit}

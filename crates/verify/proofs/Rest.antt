@@ -22,7 +22,7 @@ use Rattle.model.proofs.Tuples.{own-key}
 use Rattle.model.proofs.Chains.{chain-walk}
 use Rattle.records.specs.Words.{Inside}
 use Rattle.verify.specs.Checks.{Walkable, allWithin, UsedEnds, recordsFrom, tuplesFrom, OnChain, Seekable, isAt, isBefore, Held}
-use Rattle.verify.proofs.Capacity.{room}
+use Rattle.records.proofs.Sizes.{room}
 use Rattle.verify.proofs.Walks.{met-by-walk}
 
 -- ---- one record on

@@ -18,7 +18,7 @@ use Rattle.model.proofs.Store.{record-every}
 use Rattle.verify.specs.declared.chains.Walk.{Walk}
 use Rattle.verify.specs.declared.chains.Walked.{Walked}
 use Rattle.verify.specs.Checks.{Walkable, nextsWithin, metOnce, chainsRight, linksRight, allWithin, endsWithin, steps, lastMet, stoppedWalk, walkedOn, walkedFrom, stepped, inRun, alongRun, FreeWalk}
-use Rattle.verify.proofs.Capacity.{some-record}
+use Rattle.records.proofs.Sizes.{some-record}
 use Rattle.verify.proofs.Once.{lastOr, once-test}
 
 -- ---- one walk

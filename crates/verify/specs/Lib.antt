@@ -1,2 +1,1 @@
-pub mod Prepare
 pub mod Checks

@@ -1,6 +1,6 @@
 // Words 0 to 3 and the two chains: is each record met exactly once.
 // Each function requires what the tests before it have shown.
-use super::layout::capacity;
+use records::capacity;
 ghost use mathlib.Core.Bool.{true};
 ghost use mathlib.Core.Logic.{_≢_};
 ghost use mathlib.Core.Path.{_≡_};

@@ -1,9 +1,9 @@
 // Has each edge tuple its two ends.
 // The walk requires that the used chain ends and its keys ascend from (0,0,0,0).
-use super::layout::node_key;
 use super::seek::holds_from;
 use super::seek::is_at;
 use super::seek::is_before;
+use records::node_key;
 ghost use mathlib.Core.Path.{_≡_};
 ghost use Rattle.model.specs.Buffer.{tuplesOf, everyKey};
 ghost use Rattle.records.specs.Words.{Inside};

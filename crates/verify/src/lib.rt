@@ -1,40 +1,18 @@
-// Preparing a buffer, and the exact check of a store.
+// The exact check of a store.
 mod chains;
 mod edge_ends;
 mod ends;
-mod fresh;
 mod keys;
-mod layout;
 mod marks;
 mod named;
 mod seek;
 
 use chains::Walked;
 use ends::Found;
-use model::Preparation;
 ghost use mathlib.Core.Bool.{_&&_};
 ghost use mathlib.Core.Path.{_≡_};
-ghost use Rattle.model.specs.Buffer.{Preparing, tuplesOf, everyKey, sound, isStore};
-ghost use Rattle.verify.specs.Prepare.{afterPreparing};
+ghost use Rattle.model.specs.Buffer.{tuplesOf, everyKey, sound, isStore};
 ghost use Rattle.verify.specs.Checks.{Walkable, linksRight, Sorted, supported, Decided};
-
-// Prepares the buffer as a store that holds UNIVERSE alone, and gives C; a length outside 10 to 12,297 words is refused (1).
-pub fn prepare(buffer: &mut [u32]) -> Preparation
-    ensures rules { λ r. ⌜ Preparing (now (buffer .entry)) r (now (buffer .exit)) ⌝ }
-    ensures words { λ _. ⌜ now (buffer .exit) ≡ afterPreparing (now (buffer .entry)) ⌝ }
-{
-    if buffer.len() < 10 {
-        return Preparation::Refused(1);
-    }
-    if buffer.len() > 12297 {
-        return Preparation::Refused(1);
-    }
-    let c = layout::capacity(buffer);
-    fresh::put_heads(buffer, c);
-    fresh::put_universe(buffer);
-    fresh::chain_free(buffer, c);
-    Preparation::Capacity(c as u32)
-}
 
 // Is all there that the tuples name, after the walk of the used chain.
 // What the walk found can only say yes; where it does not, the whole chain is searched again, and the first edge tuple without both ends ends the check.

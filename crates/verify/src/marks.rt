@@ -1,10 +1,10 @@
 // Marks: a word for each node tuple and each edge tuple of 0, at a place that its key gives.
 // The mark of node n in s is s × 65,536 + n; that of an edge tuple in record i is i × 65,536, where the record is read. 0 is no mark.
 // What no mark shows is sought by a walk.
-use super::layout::node_key;
 use super::seek::holds_from;
 use super::seek::is_at;
 use model::Key;
+use records::node_key;
 ghost use mathlib.Core.Logic.{_≢_};
 ghost use mathlib.Core.Path.{_≡_};
 ghost use Prim.Native.Nat.{_≤_, _<_};

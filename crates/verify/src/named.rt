@@ -1,8 +1,8 @@
 // Is there what each tuple names, but the ends of edges.
 // Each requires that the used chain ends and its keys ascend from (0,0,0,0).
-use super::layout::node_key;
 use super::seek::holds_from;
 use model::Key;
+use records::node_key;
 ghost use mathlib.Core.Path.{_≡_};
 ghost use Rattle.model.specs.Buffer.{tuplesOf, nodeSupported, everyKey};
 ghost use Rattle.verify.specs.Checks.{Sorted, edgeInUniverse, namedPresent};

@@ -11,7 +11,7 @@ use Rattle.conditions.proofs.node_absent.Reads as reads
 use Rattle.conditions.proofs.node_absent.Lts as lts
 use Rattle.conditions.proofs.key_absent.Reads as key-absent-reads
 use Rattle.conditions.proofs.node_asked.Reads as node-asked-reads
-use Rattle.conditions.proofs.node_key.Reads as node-key-reads
+use Rattle.records.proofs.node_key.Reads as node-key-reads
 use Rattle.operate.proofs.fields_of.Reads as fields-of-reads
 
 -- src/lib.rt:300:13

@@ -5,7 +5,7 @@ use Rattle.gaffdamson.proofs.gaffdamson_prepare.Tie as tie
 use Rattle.gaffdamson.proofs.gaffdamson_prepare.Reads as reads
 use Rattle.gaffdamson.proofs.gaffdamson_prepare.Lts as lts
 use Rattle.gaffdamson.proofs.pack_preparation.Reads as pack-preparation-reads
-use Rattle.verify.proofs.prepare.Reads as prepare-reads
+use Rattle.fresh.proofs.prepare.Reads as prepare-reads
 
 -- src/lib.rt:60:9
 prepare-requires : tie.Need-prepare-requires

@@ -5,7 +5,7 @@ use Rattle.list.proofs.pairs_start.Statement.{statement}
 use Rattle.list.proofs.pairs_start.Tie as tie
 use Rattle.list.proofs.pairs_start.Reads as reads
 use Rattle.list.proofs.pairs_start.Lts as lts
-use Rattle.list.proofs.node_key.Reads as node-key-reads
+use Rattle.records.proofs.node_key.Reads as node-key-reads
 
 -- src/lib.rt:232:35
 enum-told : tie.Need-enum-told

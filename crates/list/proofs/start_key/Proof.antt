@@ -5,7 +5,7 @@ use Rattle.list.proofs.start_key.Statement.{statement}
 use Rattle.list.proofs.start_key.Tie as tie
 use Rattle.list.proofs.start_key.Reads as reads
 use Rattle.list.proofs.start_key.Lts as lts
-use Rattle.list.proofs.node_key.Reads as node-key-reads
+use Rattle.records.proofs.node_key.Reads as node-key-reads
 use Rattle.list.proofs.pairs_start.Reads as pairs-start-reads
 
 -- src/lib.rt:243:22

@@ -6,7 +6,7 @@ use Rattle.program.proofs.run_script.Tie as tie
 use Rattle.program.proofs.run_script.Reads as reads
 use Rattle.program.proofs.run_script.Lts as lts
 use Rattle.program.proofs.run_lines.Reads as run-lines-reads
-use Rattle.verify.proofs.prepare.Reads as prepare-reads
+use Rattle.fresh.proofs.prepare.Reads as prepare-reads
 
 -- src/lib.rt:26:21
 slice-aggregate-prepare : tie.Need-slice-aggregate-prepare

@@ -13,7 +13,7 @@ use Rattle.verify.proofs.chains.finish.Lts as lts
 use Rattle.records.proofs.next_of.Reads as next-of-reads
 use Rattle.verify.proofs.chains.along_run.Reads as along-run-reads
 use Rattle.verify.proofs.chains.given_up.Reads as given-up-reads
-use Rattle.verify.proofs.layout.capacity.Reads as capacity-reads
+use Rattle.records.proofs.capacity.Reads as capacity-reads
 
 abbrev Inv-loop : tie.InvT-loop
 Inv-loop b c left₀ at₀ last₀ left at last = (c ≡ capacityOf b) × (left ≤ capacityOf b) × (walkedOn b (record { at = at; left = left; last = last }) ≡ walkedOn b (record { at = at₀; left = left₀; last = last₀ }))

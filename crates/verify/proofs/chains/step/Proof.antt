@@ -1,4 +1,4 @@
-use Rattle.verify.proofs.Capacity.{room}
+use Rattle.records.proofs.Sizes.{room}
 use Rattle.verify.proofs.Rest.{record-inside}
 use Rattle.verify.proofs.Walks.{step-ended, step-far, step-on}
 use native.Mathlib.Omega.{arith}

@@ -15,7 +15,7 @@ use Rattle.records.proofs.head_word.Reads as head-word-reads
 use Rattle.records.proofs.key_of.Reads as key-of-reads
 use Rattle.records.proofs.next_of.Reads as next-of-reads
 use Rattle.verify.proofs.edge_ends.space_start.Reads as space-start-reads
-use Rattle.verify.proofs.layout.node_key.Reads as node-key-reads
+use Rattle.records.proofs.node_key.Reads as node-key-reads
 use Rattle.verify.proofs.seek.holds_from.Reads as holds-from-reads
 use Rattle.verify.proofs.seek.is_at.Reads as is-at-reads
 use Rattle.verify.proofs.seek.is_before.Reads as is-before-reads

@@ -9,7 +9,7 @@ use Rattle.verify.proofs.keys.starts_right.Lts as lts
 use Rattle.records.proofs.head_word.Reads as head-word-reads
 use Rattle.records.proofs.key_of.Reads as key-of-reads
 use Rattle.records.proofs.key_same.Reads as key-same-reads
-use Rattle.verify.proofs.layout.node_key.Reads as node-key-reads
+use Rattle.records.proofs.node_key.Reads as node-key-reads
 
 head-word-requires : tie.Need-head-word-requires
 head-word-requires c κs = omega (arith, c .before .pre .least)

@@ -7,7 +7,7 @@ use mathlib.Core.Path.{_≡_, sym, ap, _∙_, subst}
 use Rattle.model.specs.Buffer.{capacityOf}
 use Rattle.verify.specs.Checks.{walkedOf, UsedFound}
 use Rattle.verify.specs.declared.keys.Used.{Used}
-use Rattle.verify.proofs.Capacity.{some-record}
+use Rattle.records.proofs.Sizes.{some-record}
 use Rattle.verify.proofs.Rest.{record-inside}
 use Rattle.verify.proofs.OneWalk.{Using, head-some, not-started, using-start, using-far, using-high, using-left, using-low, using-room, using-enough, using-no, using-good, using-next, using-end, using-found}
 use Rattle.verify.proofs.keys.walk_used.Statement.{statement}
@@ -25,7 +25,7 @@ use Rattle.verify.proofs.keys.key_follows.Reads as key-follows-reads
 use Rattle.verify.proofs.keys.may_meet.Reads as may-meet-reads
 use Rattle.verify.proofs.keys.starts_right.Reads as starts-right-reads
 use Rattle.verify.proofs.keys.stopped.Reads as stopped-reads
-use Rattle.verify.proofs.layout.capacity.Reads as capacity-reads
+use Rattle.records.proofs.capacity.Reads as capacity-reads
 
 abbrev Inv-loop : tie.InvT-loop
 Inv-loop b marks₀ list₀ c free₀ found₀ left₀ last₀ at₀ marks list free found left last at = (c ≡ capacityOf b) × Using b marks list found left last at free

@@ -7,7 +7,7 @@ use Rattle.verify.proofs.marks.node_there.Tie as tie
 use Rattle.verify.proofs.marks.node_there.Reads as reads
 use Rattle.verify.proofs.marks.node_there.Lts as lts
 use Rattle.records.proofs.head_word.Reads as head-word-reads
-use Rattle.verify.proofs.layout.node_key.Reads as node-key-reads
+use Rattle.records.proofs.node_key.Reads as node-key-reads
 use Rattle.verify.proofs.marks.node_shown.Reads as node-shown-reads
 use Rattle.verify.proofs.seek.holds_from.Reads as holds-from-reads
 

@@ -1,13 +1,13 @@
-use Rattle.verify.proofs.Preparing.{heads-put}
+use Rattle.fresh.proofs.Preparing.{heads-put}
 use native.Mathlib.Omega.{arith}
 use Rattle.model.proofs.Prepared.{follower-most}
 use borrow.Author.Needs.{needs}
-use Rattle.verify.proofs.fresh.put_heads.Statement.{statement}
-use Rattle.verify.proofs.fresh.put_heads.Tie as tie
-use Rattle.verify.proofs.fresh.put_heads.Reads as reads
-use Rattle.verify.proofs.fresh.put_heads.Lts as lts
+use Rattle.fresh.proofs.put_heads.Statement.{statement}
+use Rattle.fresh.proofs.put_heads.Tie as tie
+use Rattle.fresh.proofs.put_heads.Reads as reads
+use Rattle.fresh.proofs.put_heads.Lts as lts
 use Rattle.records.proofs.put_head_word.Reads as put-head-word-reads
-use Rattle.verify.proofs.fresh.follower_of.Reads as follower-of-reads
+use Rattle.fresh.proofs.follower_of.Reads as follower-of-reads
 
 follower-of-requires : tie.Need-follower-of-requires
 follower-of-requires c κs = search needs

@@ -1,12 +1,12 @@
-use Rattle.verify.proofs.Preparing.{universe-put}
+use Rattle.fresh.proofs.Preparing.{universe-put}
 use borrow.Author.Needs.{needs}
-use Rattle.verify.proofs.fresh.put_universe.Statement.{statement}
-use Rattle.verify.proofs.fresh.put_universe.Tie as tie
-use Rattle.verify.proofs.fresh.put_universe.Reads as reads
-use Rattle.verify.proofs.fresh.put_universe.Lts as lts
+use Rattle.fresh.proofs.put_universe.Statement.{statement}
+use Rattle.fresh.proofs.put_universe.Tie as tie
+use Rattle.fresh.proofs.put_universe.Reads as reads
+use Rattle.fresh.proofs.put_universe.Lts as lts
 use Rattle.records.proofs.put_next.Reads as put-next-reads
 use Rattle.records.proofs.put_tuple.Reads as put-tuple-reads
-use Rattle.verify.proofs.layout.node_key.Reads as node-key-reads
+use Rattle.records.proofs.node_key.Reads as node-key-reads
 
 node-key-requires : tie.Need-node-key-requires
 node-key-requires c κs = search needs

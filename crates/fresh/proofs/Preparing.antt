@@ -16,8 +16,8 @@ use Rattle.model.specs.Buffer.{word, recordStart, fitsLength, capacityOf, next,
 use Rattle.model.proofs.Bools.{clash}
 use Rattle.model.proofs.Store.{fits-length}
 use Rattle.records.specs.Words.{putNext, putTuple}
-use Rattle.verify.proofs.Capacity.{some-record, room}
-use Rattle.verify.specs.Prepare.{headed, universeIn, chained, preparedBuffer, afterPreparing}
+use Rattle.records.proofs.Sizes.{some-record, room}
+use Rattle.fresh.specs.Prepare.{headed, universeIn, chained, preparedBuffer, afterPreparing}
 
 -- ---- the chain of free records
 
@@ -213,11 +213,3 @@ refused b e = record { outside = λ f. (refl, refl); inside = λ f. absurd (clas
 pub after-refused : (b : List ℕ) → fitsLength b ≡ false → b ≡ afterPreparing b
 unfolding afterPreparing
 after-refused b e = sym (ap (λ (t : Bool). cond t (preparedBuffer b) b) e)
-
-pub too-short : (b : List ℕ) → length b < 10 → fitsLength b ≡ false
-unfolding fitsLength
-too-short b h = simp (lt-leb 10 (length b) h)
-
-pub too-long : (b : List ℕ) → 12297 < length b → fitsLength b ≡ false
-unfolding fitsLength
-too-long b h = simp (lt-leb (length b) 12297 h, le-leb 10 (length b) (omega arith))

@@ -1,16 +1,16 @@
 use Prim.Native.Nat.{_+_, _-_, _≤_}
 use lib.ListN.{length}
 use mathlib.Core.Path.{_≡_, refl, ap, _∙_}
-use Rattle.verify.specs.Prepare.{chained}
+use Rattle.fresh.specs.Prepare.{chained}
 use native.Mathlib.Omega.{arith}
 use Rattle.model.proofs.Prepared.{follower-most}
-use Rattle.verify.proofs.Preparing.{chained-length, chained-more}
-use Rattle.verify.proofs.fresh.chain_free.Statement.{statement}
-use Rattle.verify.proofs.fresh.chain_free.Tie as tie
-use Rattle.verify.proofs.fresh.chain_free.Reads as reads
-use Rattle.verify.proofs.fresh.chain_free.Lts as lts
+use Rattle.fresh.proofs.Preparing.{chained-length, chained-more}
+use Rattle.fresh.proofs.chain_free.Statement.{statement}
+use Rattle.fresh.proofs.chain_free.Tie as tie
+use Rattle.fresh.proofs.chain_free.Reads as reads
+use Rattle.fresh.proofs.chain_free.Lts as lts
 use Rattle.records.proofs.put_next.Reads as put-next-reads
-use Rattle.verify.proofs.fresh.follower_of.Reads as follower-of-reads
+use Rattle.fresh.proofs.follower_of.Reads as follower-of-reads
 
 abbrev Inv-loop : tie.InvT-loop
 Inv-loop b₀ c n₀ b n = (n ≤ c - 1) × (b ≡ chained c b₀ n)

@@ -2,10 +2,10 @@ use native.Mathlib.Omega.{arith}
 use mathlib.Core.Path.{sym}
 use Rattle.model.proofs.Prepared.{follower-on, follower-last}
 use borrow.Author.Needs.{needs}
-use Rattle.verify.proofs.fresh.follower_of.Statement.{statement}
-use Rattle.verify.proofs.fresh.follower_of.Tie as tie
-use Rattle.verify.proofs.fresh.follower_of.Reads as reads
-use Rattle.verify.proofs.fresh.follower_of.Lts as lts
+use Rattle.fresh.proofs.follower_of.Statement.{statement}
+use Rattle.fresh.proofs.follower_of.Tie as tie
+use Rattle.fresh.proofs.follower_of.Reads as reads
+use Rattle.fresh.proofs.follower_of.Lts as lts
 
 add-result : tie.Need-add-result
 add-result c = search needs

@@ -1,15 +1,15 @@
-use Rattle.verify.proofs.Capacity.{few-records, room}
-use Rattle.verify.proofs.Preparing.{prepares, after-prepared, refused, after-refused, too-short, too-long}
+use Rattle.records.proofs.Sizes.{few-records, room, too-short, too-long}
+use Rattle.fresh.proofs.Preparing.{prepares, after-prepared, refused, after-refused}
 use native.Mathlib.Omega.{arith}
 use borrow.Author.Needs.{needs}
-use Rattle.verify.proofs.prepare.Statement.{statement}
-use Rattle.verify.proofs.prepare.Tie as tie
-use Rattle.verify.proofs.prepare.Reads as reads
-use Rattle.verify.proofs.prepare.Lts as lts
-use Rattle.verify.proofs.layout.capacity.Reads as capacity-reads
-use Rattle.verify.proofs.fresh.chain_free.Reads as chain-free-reads
-use Rattle.verify.proofs.fresh.put_heads.Reads as put-heads-reads
-use Rattle.verify.proofs.fresh.put_universe.Reads as put-universe-reads
+use Rattle.fresh.proofs.prepare.Statement.{statement}
+use Rattle.fresh.proofs.prepare.Tie as tie
+use Rattle.fresh.proofs.prepare.Reads as reads
+use Rattle.fresh.proofs.prepare.Lts as lts
+use Rattle.records.proofs.capacity.Reads as capacity-reads
+use Rattle.fresh.proofs.chain_free.Reads as chain-free-reads
+use Rattle.fresh.proofs.put_heads.Reads as put-heads-reads
+use Rattle.fresh.proofs.put_universe.Reads as put-universe-reads
 
 returns : tie.Need-returns
 returns c = (refused _ (too-short _ (c .if1 .taken)), after-refused _ (too-short _ (c .if1 .taken)))

@@ -1,10 +1,10 @@
-// The words of a store that holds UNIVERSE alone.
-use super::layout::node_key;
+// Preparing a buffer: a fresh store, which holds UNIVERSE alone.
+use model::Preparation;
 ghost use mathlib.Core.Path.{_≡_};
 ghost use Prim.Native.Nat.{_+_, _-_, _*_, _≤_};
 ghost use lib.ListN.{length};
-ghost use Rattle.model.specs.Buffer.{follower};
-ghost use Rattle.verify.specs.Prepare.{headed, universeIn, chained};
+ghost use Rattle.model.specs.Buffer.{follower, Preparing};
+ghost use Rattle.fresh.specs.Prepare.{headed, universeIn, chained, afterPreparing};
 
 // The free record after record i in ascending order; 0 after the last.
 fn follower_of(c: usize, i: usize) -> usize
@@ -18,7 +18,7 @@ fn follower_of(c: usize, i: usize) -> usize
 }
 
 // Words 0 to 3 of a store that holds UNIVERSE alone.
-pub fn put_heads(b: &mut [u32], c: usize)
+fn put_heads(b: &mut [u32], c: usize)
     requires { ⌜ (4 ≤ length (now b)) × (c ≤ 2048) ⌝ }
     ensures { λ _. ⌜ now (b .exit) ≡ headed c (now (b .entry)) ⌝ }
 {
@@ -30,17 +30,17 @@ pub fn put_heads(b: &mut [u32], c: usize)
 }
 
 // UNIVERSE with NIL in record 1, which ends its chain.
-pub fn put_universe(b: &mut [u32])
+fn put_universe(b: &mut [u32])
     requires { ⌜ 10 ≤ length (now b) ⌝ }
     ensures { λ _. ⌜ now (b .exit) ≡ universeIn (now (b .entry)) ⌝ }
 {
-    let universe = node_key(0, 0);
+    let universe = records::node_key(0, 0);
     records::put_next(b, 1, 0);
     records::put_tuple(b, 1, universe, 0);
 }
 
 // Records 2 to C chained as free in ascending order.
-pub fn chain_free(b: &mut [u32], c: usize)
+fn chain_free(b: &mut [u32], c: usize)
     requires { ⌜ (4 + 6 * c ≤ length (now b)) × (c ≤ 2048) ⌝ }
     ensures { λ _. ⌜ now (b .exit) ≡ chained c (now (b .entry)) (c - 1) ⌝ }
 {
@@ -50,4 +50,22 @@ pub fn chain_free(b: &mut [u32], c: usize)
         records::put_next(b, n + 2, j);
         n += 1;
     }
+}
+
+// Prepares the buffer as a store that holds UNIVERSE alone, and gives C; a length outside 10 to 12,297 words is refused (1).
+pub fn prepare(buffer: &mut [u32]) -> Preparation
+    ensures rules { λ r. ⌜ Preparing (now (buffer .entry)) r (now (buffer .exit)) ⌝ }
+    ensures words { λ _. ⌜ now (buffer .exit) ≡ afterPreparing (now (buffer .entry)) ⌝ }
+{
+    if buffer.len() < 10 {
+        return Preparation::Refused(1);
+    }
+    if buffer.len() > 12297 {
+        return Preparation::Refused(1);
+    }
+    let c = records::capacity(buffer);
+    put_heads(buffer, c);
+    put_universe(buffer);
+    chain_free(buffer, c);
+    Preparation::Capacity(c as u32)
 }

@@ -1,10 +1,10 @@
 use mathlib.Core.Path.{refl}
 use Rattle.model.specs.Buffer.{capacityOf}
 use borrow.Author.Needs.{needs}
-use Rattle.verify.proofs.layout.capacity.Statement.{statement}
-use Rattle.verify.proofs.layout.capacity.Tie as tie
-use Rattle.verify.proofs.layout.capacity.Reads as reads
-use Rattle.verify.proofs.layout.capacity.Lts as lts
+use Rattle.records.proofs.capacity.Statement.{statement}
+use Rattle.records.proofs.capacity.Tie as tie
+use Rattle.records.proofs.capacity.Reads as reads
+use Rattle.records.proofs.capacity.Lts as lts
 
 sub-result : tie.Need-sub-result
 sub-result c = search needs
