@@ -9,3 +9,4 @@ pub mod Hints
 pub mod Parts
 pub mod Shows
 pub mod OneWalk
+pub mod UsedRuns

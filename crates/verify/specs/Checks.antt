@@ -326,6 +326,44 @@ foundWith b marks j k f = record { sure = f .sure && settled b marks j k; kept =
 unfoldable pub listWith : List ℕ → List ℕ → Key → ℕ → ℕ → List ℕ
 listWith marks list k kept i = cond (nothingKept marks k) list (set list kept i)
 
+-- ---- the whole walk of the used chain
+
+-- what the walk leaves: what it finds, the marks and the list
+pub record UsedRun : Type 0 where
+  pub used : Used
+  pub marks : List ℕ
+  pub list : List ℕ
+
+-- a walk that is given up
+abbrev pub runStopped : List ℕ → List ℕ → UsedRun
+runStopped marks list = record { used = stoppedUsed; marks = marks; list = list }
+
+-- a walk that has met so many records up to the end of the chain
+abbrev pub runEnded : ℕ → ℕ → Found → Walk → List ℕ → List ℕ → UsedRun
+runEnded count last f free marks list =
+    record { used = record { ended = true; count = count; last = last; found = f; free = free }; marks = marks; list = list }
+
+-- may the walk take a record after another, with so many to go
+unfoldable pub mayTake : List ℕ → ℕ → ℕ → ℕ → Bool
+mayTake b left last at = mayMeet (capacityOf b) left at && keyFollows (keyAt b last) (keyAt b at)
+
+-- the walk from a record on, with so many to go: each record is looked at, kept and marked, and the free chain is walked beside it
+unfoldable pub usedRun : List ℕ → ℕ → ℕ → ℕ → Found → Walk → List ℕ → List ℕ → UsedRun
+usedRun b zero at last f free marks list = cond (eqb at 0) (runEnded (capacityOf b - 0) last f free marks list) (runStopped marks list)
+usedRun b (suc left) at last f free marks list =
+    cond (eqb at 0) (runEnded (capacityOf b - suc left) last f free marks list)
+    (cond (mayTake b (suc left) last at)
+    (usedRun b left (next b at) at (foundWith b marks (keyAt b last) (keyAt b at) f) (stepped b free) (withNamed marks (keyAt b at) at)
+    (listWith marks list (keyAt b at) (f .kept) at))
+    (runStopped marks list))
+
+-- the whole walk, with these marks and this list at first
+unfoldable pub usedRunOf : List ℕ → List ℕ → List ℕ → UsedRun
+usedRunOf b marks list =
+    cond (startsRight b)
+    (usedRun b (capacityOf b - 1) (next b (word b 1)) (word b 1) (record { sure = true; kept = 0 }) (record { at = word b 2; left = capacityOf b; last = 0 }) marks list)
+    (runStopped marks list)
+
 -- are the second ends there of the first so many kept records
 unfoldable pub everyEnd : List ℕ → List ℕ → ℕ → Bool
 everyEnd b list kept = everyRecord (λ (j : ℕ). endThere (tuplesOf b) (keyAt b (getD list (j - 1) 0))) kept

@@ -10,7 +10,7 @@ ghost use mathlib.Core.Bool.{true};
 ghost use mathlib.Core.Path.{_≡_};
 ghost use lib.ListN.{length};
 ghost use Rattle.model.specs.Buffer.{word, smallKey};
-ghost use Rattle.verify.specs.Checks.{Walkable, shapedKey, goodKey, mayMeet, keyFollows, startsRight, stoppedUsed, walkedOf, usedWalk, UsedFound, Marks, keptCount};
+ghost use Rattle.verify.specs.Checks.{Walkable, shapedKey, goodKey, mayMeet, keyFollows, startsRight, stoppedUsed, walkedOf, usedWalk, usedRunOf, UsedFound, Marks, keptCount};
 
 // Are the words of a key at most 65,535.
 fn key_small(k: Key) -> bool
@@ -148,6 +148,7 @@ pub fn walk_used(b: &[u32], marks: &mut [u32], list: &mut [u16]) -> Used
     requires { ⌜ Walkable (now b) × Marks (now b) (now marks) × (length (now list) ≡ keptCount) ⌝ }
     ensures answer { λ r. ⌜ walkedOf r ≡ usedWalk (now (b .entry)) ⌝ }
     ensures lent { λ r. ⌜ (r .ended ≡ true → UsedFound (now (b .entry)) (now (marks .exit)) (now (list .exit)) (r .found) (r .free)) ⌝ }
+    ensures run { λ r. ⌜ record { used = r; marks = now (marks .exit); list = now (list .exit) } ≡ usedRunOf (now (b .entry)) (now (marks .entry)) (now (list .entry)) ⌝ }
 {
     if !starts_right(b) {
         return stopped();

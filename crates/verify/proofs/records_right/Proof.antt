@@ -26,7 +26,7 @@ returns : tie.Need-returns
 returns c = right-no-walk (c .before .before .before .before .before .before .before .before .args .b .now) (c .before .before .before .before .before .before .before .before .pre) (walkedOf (c .before .before .before .before .walk-used .result)) (c .before .before .before .before .walk-used .ensures .0) (not-true _ (c .if1 .taken))
 
 chains-right-requires : tie.Need-chains-right-requires
-chains-right-requires c κs = (c .before .before .before .before .before .before .before .before .before .pre, right-walk (c .before .before .before .before .before .before .before .before .before .args .b .now) (c .before .before .before .before .before .before .before .before .before .pre) (walkedOf (c .before .before .before .before .before .walk-used .result)) (c .before .before .before .before .before .walk-used .ensures .0) (not-false _ (c .before .if1 .left)), not-false _ (c .before .if1 .left), c .before .before .before .before .before .walk-used .ensures .1 (not-false _ (c .before .if1 .left)) .beside)
+chains-right-requires c κs = (c .before .before .before .before .before .before .before .before .before .pre, right-walk (c .before .before .before .before .before .before .before .before .before .args .b .now) (c .before .before .before .before .before .before .before .before .before .pre) (walkedOf (c .before .before .before .before .before .walk-used .result)) (c .before .before .before .before .before .walk-used .ensures .0) (not-false _ (c .before .if1 .left)), not-false _ (c .before .if1 .left), c .before .before .before .before .before .walk-used .ensures .1 .0 (not-false _ (c .before .if1 .left)) .beside)
 
 returns-2 : tie.Need-returns-2
 returns-2 c = right-no-chains (c .before .before .before .before .before .before .before .before .before .before .before .args .b .now) (c .before .before .before .before .before .before .before .before .before .before .before .pre) (walkedOf (c .before .before .before .before .before .before .before .walk-used .result)) (c .before .before .before .before .before .before .before .walk-used .ensures .0) (not-false _ (c .before .before .before .if1 .left)) _ (c .before .chains-right .ensures) (not-true _ (c .if2 .taken))
@@ -38,7 +38,7 @@ slice-aggregate-named-right-2 : tie.Need-slice-aggregate-named-right-2
 slice-aggregate-named-right-2 c = search needs
 
 named-right-requires : tie.Need-named-right-requires
-named-right-requires c κs = (right-sorted (c .before .before .before .before .before .before .before .before .before .before .before .before .before .before .args .b .now) (c .before .before .before .before .before .before .before .before .before .before .before .before .before .before .pre) (walkedOf (c .before .before .before .before .before .before .before .before .before .before .walk-used .result)) (c .before .before .before .before .before .before .before .before .before .before .walk-used .ensures .0) (not-false _ (c .before .before .before .before .before .before .if1 .left)), c .before .before .before .before .before .before .before .before .before .before .walk-used .ensures .1 (not-false _ (c .before .before .before .before .before .before .if1 .left)) .tuples)
+named-right-requires c κs = (right-sorted (c .before .before .before .before .before .before .before .before .before .before .before .before .before .before .args .b .now) (c .before .before .before .before .before .before .before .before .before .before .before .before .before .before .pre) (walkedOf (c .before .before .before .before .before .before .before .before .before .before .walk-used .result)) (c .before .before .before .before .before .before .before .before .before .before .walk-used .ensures .0) (not-false _ (c .before .before .before .before .before .before .if1 .left)), c .before .before .before .before .before .before .before .before .before .before .walk-used .ensures .1 .0 (not-false _ (c .before .before .before .before .before .before .if1 .left)) .tuples)
 
 returns-3 : tie.Need-returns-3
 returns-3 c = right-named (c .before .before .before .before .before .before .before .before .before .before .before .before .before .before .before .args .b .now) (c .before .before .before .before .before .before .before .before .before .before .before .before .before .before .before .pre) (walkedOf (c .before .before .before .before .before .before .before .before .before .before .before .walk-used .result)) (c .before .before .before .before .before .before .before .before .before .before .before .walk-used .ensures .0) (not-false _ (c .before .before .before .before .before .before .before .if1 .left)) _ (c .before .before .before .before .before .chains-right .ensures) (not-false _ (c .before .before .before .before .if2 .left)) _ (c .named-right .ensures)

@@ -5,11 +5,12 @@ use mathlib.Core.Bool.{true, false≢true}
 use mathlib.Core.Logic.{_≢_}
 use mathlib.Core.Path.{_≡_, sym, ap, _∙_, subst}
 use Rattle.model.specs.Buffer.{capacityOf}
-use Rattle.verify.specs.Checks.{walkedOf, UsedFound}
+use Rattle.verify.specs.Checks.{walkedOf, UsedFound, usedRun, usedRunOf}
 use Rattle.verify.specs.declared.keys.Used.{Used}
 use Rattle.records.proofs.Sizes.{some-record}
 use Rattle.verify.proofs.Rest.{record-inside}
 use Rattle.verify.proofs.OneWalk.{Using, head-some, not-started, using-start, using-far, using-high, using-left, using-low, using-room, using-enough, using-no, using-good, using-next, using-end, using-found}
+use Rattle.verify.proofs.UsedRuns.{run-unstarted, run-started, run-end, run-far, run-no, run-on}
 use Rattle.verify.proofs.keys.walk_used.Statement.{statement}
 use Rattle.verify.proofs.keys.walk_used.Tie as tie
 use Rattle.verify.proofs.keys.walk_used.Reads as reads
@@ -28,7 +29,7 @@ use Rattle.verify.proofs.keys.stopped.Reads as stopped-reads
 use Rattle.records.proofs.capacity.Reads as capacity-reads
 
 abbrev Inv-loop : tie.InvT-loop
-Inv-loop b marks₀ list₀ c free₀ found₀ left₀ last₀ at₀ marks list free found left last at = (c ≡ capacityOf b) × Using b marks list found left last at free
+Inv-loop b marks₀ list₀ c free₀ found₀ left₀ last₀ at₀ marks list free found left last at = (c ≡ capacityOf b) × Using b marks list found left last at free × (usedRun b left at last found free marks list ≡ usedRunOf b marks₀ list₀)
 
 abbrev μ-loop : tie.MeasureT-loop
 μ-loop b marks₀ list₀ c free₀ found₀ left₀ last₀ at₀ marks list free found left last at = left
@@ -40,7 +41,7 @@ stopped-requires : tie.Need-stopped-requires Inv-loop μ-loop
 stopped-requires c κs = tt
 
 returns : tie.Need-returns Inv-loop μ-loop
-returns c = (ap walkedOf (c .stopped .ensures) ∙ not-started (c .before .before .before .before .before .before .args .b .now) (c .before .before .before .before .before .before .pre .0) _ (c .before .before .starts-right .ensures) (not-true _ (c .before .if1 .taken)), λ y. absurd (false≢true (sym (ap (λ (u : Used). u .ended) (c .stopped .ensures)) ∙ y)))
+returns c = (ap walkedOf (c .stopped .ensures) ∙ not-started (c .before .before .before .before .before .before .args .b .now) (c .before .before .before .before .before .before .pre .0) _ (c .before .before .starts-right .ensures) (not-true _ (c .before .if1 .taken)), (λ y. absurd (false≢true (sym (ap (λ (u : Used). u .ended) (c .stopped .ensures)) ∙ y)), run-unstarted (c .before .before .before .before .before .before .args .b .now) _ _ _ (c .before .before .starts-right .ensures) (not-true _ (c .before .if1 .taken)) _ (c .stopped .ensures)))
 
 capacity-requires : tie.Need-capacity-requires Inv-loop μ-loop
 capacity-requires c κs = omega (arith, c .before .before .before .before .before .pre .0 .least)
@@ -58,7 +59,7 @@ next-of-requires : tie.Need-next-of-requires Inv-loop μ-loop
 next-of-requires c κs = record-inside _ _ (c .before .before .before .before .before .before .before .before .pre .0) (omega (arith, c .head-word .ensures, c .before .before .before .before .before .before .before .before .pre .0 .usedHead)) (head-some (c .before .before .before .before .before .before .before .before .args .b .now) _ (c .before .before .before .before .starts-right .ensures) (not-false _ (c .before .before .before .if1 .left)) _ (c .head-word .ensures))
 
 loop-holds : tie.Need-loop-holds Inv-loop μ-loop
-loop-holds c = (c .before .before .before .capacity .ensures, using-start (c .before .before .before .before .before .before .before .before .before .args .b .now) (c .before .before .before .before .before .before .before .before .before .pre .0) _ (c .before .before .before .before .before .starts-right .ensures) (not-false _ (c .before .before .before .before .if1 .left)) _ (c .before .head-word .ensures) _ _ (c .before .before .before .capacity .ensures) (c .next-of .ensures) _ (c .before .before .before .before .before .before .before .before .before .pre .1) _ (c .before .before .before .before .before .before .before .before .before .pre .2) _ (c .before .before .free-start .ensures))
+loop-holds c = (c .before .before .before .capacity .ensures, using-start (c .before .before .before .before .before .before .before .before .before .args .b .now) (c .before .before .before .before .before .before .before .before .before .pre .0) _ (c .before .before .before .before .before .starts-right .ensures) (not-false _ (c .before .before .before .before .if1 .left)) _ (c .before .head-word .ensures) _ _ (c .before .before .before .capacity .ensures) (c .next-of .ensures) _ (c .before .before .before .before .before .before .before .before .before .pre .1) _ (c .before .before .before .before .before .before .before .before .before .pre .2) _ (c .before .before .free-start .ensures), run-started (c .before .before .before .before .before .before .before .before .before .args .b .now) _ _ _ (c .before .before .before .before .before .starts-right .ensures) (not-false _ (c .before .before .before .before .if1 .left)) _ _ _ _ (c .before .before .before .capacity .ensures) (c .before .head-word .ensures) (c .next-of .ensures) (c .before .before .free-start .ensures))
 
 may-meet-requires : tie.Need-may-meet-requires Inv-loop μ-loop
 may-meet-requires c κs = tt
@@ -73,7 +74,7 @@ same-length-2 : tie.Need-same-length-2 Inv-loop μ-loop
 same-length-2 c = c .before .before .before .before .loop .inv .1 .listed .size ∙ sym (c .before .before .before .before .before .before .before .before .before .before .before .before .before .before .pre .2)
 
 returns-2 : tie.Need-returns-2 Inv-loop μ-loop
-returns-2 c = (ap walkedOf (c .stopped2 .ensures) ∙ using-far (c .before .before .before .before .before .before .before .before .before .before .before .before .before .before .args .b .now) (c .before .before .before .before .before .before .before .before .before .before .before .before .before .before .pre .0) _ _ (c .before .before .before .before .loop .found) (c .before .before .before .before .loop .left) (c .before .before .before .before .loop .last) (c .before .before .before .before .loop .at) (c .before .before .before .before .loop .free) (c .before .before .before .before .loop .inv .1) (c .before .before .before .loop-test .taken) _ (c .before .before .before .before .loop .inv .0) _ (c .before .before .may-meet .ensures) (not-true _ (c .before .if2 .taken)), λ y. absurd (false≢true (sym (ap (λ (u : Used). u .ended) (c .stopped2 .ensures)) ∙ y)))
+returns-2 c = (ap walkedOf (c .stopped2 .ensures) ∙ using-far (c .before .before .before .before .before .before .before .before .before .before .before .before .before .before .args .b .now) (c .before .before .before .before .before .before .before .before .before .before .before .before .before .before .pre .0) _ _ (c .before .before .before .before .loop .found) (c .before .before .before .before .loop .left) (c .before .before .before .before .loop .last) (c .before .before .before .before .loop .at) (c .before .before .before .before .loop .free) (c .before .before .before .before .loop .inv .1) (c .before .before .before .loop-test .taken) _ (c .before .before .before .before .loop .inv .0) _ (c .before .before .may-meet .ensures) (not-true _ (c .before .if2 .taken)), (λ y. absurd (false≢true (sym (ap (λ (u : Used). u .ended) (c .stopped2 .ensures)) ∙ y)), run-far (c .before .before .before .before .before .before .before .before .before .before .before .before .before .before .args .b .now) (c .before .before .before .before .loop .left) (c .before .before .before .before .loop .at) (c .before .before .before .before .loop .last) (c .before .before .before .before .loop .found) (c .before .before .before .before .loop .free) (c .before .before .before .before .loop .marks) (c .before .before .before .before .loop .list) (c .before .before .before .loop-test .taken) _ (c .before .before .before .before .loop .inv .0) _ (c .before .before .may-meet .ensures) (not-true _ (c .before .if2 .taken)) _ (c .stopped2 .ensures) ∙ c .before .before .before .before .loop .inv .2))
 
 key-of-requires : tie.Need-key-of-requires Inv-loop μ-loop
 key-of-requires c κs = record-inside _ _ (c .before .before .before .before .before .before .before .before .before .before .before .before .before .pre .0) (using-high (c .before .before .before .before .before .before .before .before .before .before .before .before .before .args .b .now) (c .before .before .before .before .before .before .before .before .before .before .before .before .before .pre .0) _ _ (c .before .before .before .loop .found) (c .before .before .before .loop .left) (c .before .before .before .loop .last) (c .before .before .before .loop .at) (c .before .before .before .loop .free) (c .before .before .before .loop .inv .1) (c .before .before .loop-test .taken) _ (c .before .before .before .loop .inv .0) _ (c .before .may-meet .ensures) (not-false _ (c .if2 .left))) (c .before .before .loop-test .taken)
@@ -97,7 +98,7 @@ same-length-4 : tie.Need-same-length-4 Inv-loop μ-loop
 same-length-4 c = c .before .before .before .before .before .before .before .before .before .loop .inv .1 .listed .size ∙ sym (c .before .before .before .before .before .before .before .before .before .before .before .before .before .before .before .before .before .before .before .pre .2)
 
 returns-3 : tie.Need-returns-3 Inv-loop μ-loop
-returns-3 c = (ap walkedOf (c .stopped3 .ensures) ∙ using-no (c .before .before .before .before .before .before .before .before .before .before .before .before .before .before .before .before .before .before .before .args .b .now) (c .before .before .before .before .before .before .before .before .before .before .before .before .before .before .before .before .before .before .before .pre .0) _ _ (c .before .before .before .before .before .before .before .before .before .loop .found) (c .before .before .before .before .before .before .before .before .before .loop .left) (c .before .before .before .before .before .before .before .before .before .loop .last) (c .before .before .before .before .before .before .before .before .before .loop .at) (c .before .before .before .before .before .before .before .before .before .loop .free) (c .before .before .before .before .before .before .before .before .before .loop .inv .1) (c .before .before .before .before .before .before .before .before .loop-test .taken) _ (c .before .before .before .before .before .before .before .before .before .loop .inv .0) _ (c .before .before .before .before .before .before .before .may-meet .ensures) (not-false _ (c .before .before .before .before .before .before .if2 .left)) (c .before .before .before .before .before .key-of .result) (c .before .before .before .before .before .key-of .ensures) (c .before .before .before .key-of2 .result) (c .before .before .before .key-of2 .ensures) _ (c .before .before .key-follows .ensures) (not-true _ (c .before .if3 .taken)), λ y. absurd (false≢true (sym (ap (λ (u : Used). u .ended) (c .stopped3 .ensures)) ∙ y)))
+returns-3 c = (ap walkedOf (c .stopped3 .ensures) ∙ using-no (c .before .before .before .before .before .before .before .before .before .before .before .before .before .before .before .before .before .before .before .args .b .now) (c .before .before .before .before .before .before .before .before .before .before .before .before .before .before .before .before .before .before .before .pre .0) _ _ (c .before .before .before .before .before .before .before .before .before .loop .found) (c .before .before .before .before .before .before .before .before .before .loop .left) (c .before .before .before .before .before .before .before .before .before .loop .last) (c .before .before .before .before .before .before .before .before .before .loop .at) (c .before .before .before .before .before .before .before .before .before .loop .free) (c .before .before .before .before .before .before .before .before .before .loop .inv .1) (c .before .before .before .before .before .before .before .before .loop-test .taken) _ (c .before .before .before .before .before .before .before .before .before .loop .inv .0) _ (c .before .before .before .before .before .before .before .may-meet .ensures) (not-false _ (c .before .before .before .before .before .before .if2 .left)) (c .before .before .before .before .before .key-of .result) (c .before .before .before .before .before .key-of .ensures) (c .before .before .before .key-of2 .result) (c .before .before .before .key-of2 .ensures) _ (c .before .before .key-follows .ensures) (not-true _ (c .before .if3 .taken)), (λ y. absurd (false≢true (sym (ap (λ (u : Used). u .ended) (c .stopped3 .ensures)) ∙ y)), run-no (c .before .before .before .before .before .before .before .before .before .before .before .before .before .before .before .before .before .before .before .args .b .now) (c .before .before .before .before .before .before .before .before .before .loop .left) (c .before .before .before .before .before .before .before .before .before .loop .at) (c .before .before .before .before .before .before .before .before .before .loop .last) (c .before .before .before .before .before .before .before .before .before .loop .found) (c .before .before .before .before .before .before .before .before .before .loop .free) (c .before .before .before .before .before .before .before .before .before .loop .marks) (c .before .before .before .before .before .before .before .before .before .loop .list) (c .before .before .before .before .before .before .before .before .loop-test .taken) _ (c .before .before .before .before .before .before .before .before .before .loop .inv .0) _ (c .before .before .before .before .before .before .before .may-meet .ensures) (not-false _ (c .before .before .before .before .before .before .if2 .left)) (c .before .before .before .before .before .key-of .result) (c .before .before .before .before .before .key-of .ensures) (c .before .before .before .key-of2 .result) (c .before .before .before .key-of2 .ensures) _ (c .before .before .key-follows .ensures) (not-true _ (c .before .if3 .taken)) _ (c .stopped3 .ensures) ∙ c .before .before .before .before .before .before .before .before .before .loop .inv .2))
 
 take-requires : tie.Need-take-requires Inv-loop μ-loop
 take-requires c κs = (c .before .before .before .before .before .before .before .before .before .before .before .before .before .before .before .before .before .before .before .before .pre .0, c .before .before .before .before .before .before .before .before .before .before .loop .inv .1 .fit, c .before .before .before .before .before .before .before .before .before .before .loop .inv .1 .listed .size, using-room (c .before .before .before .before .before .before .before .before .before .before .before .before .before .before .before .before .before .before .before .before .args .b .now) (c .before .before .before .before .before .before .before .before .before .before .before .before .before .before .before .before .before .before .before .before .pre .0) _ _ (c .before .before .before .before .before .before .before .before .before .before .loop .found) (c .before .before .before .before .before .before .before .before .before .before .loop .left) (c .before .before .before .before .before .before .before .before .before .before .loop .last) (c .before .before .before .before .before .before .before .before .before .before .loop .at) (c .before .before .before .before .before .before .before .before .before .before .loop .free) (c .before .before .before .before .before .before .before .before .before .before .loop .inv .1) (c .before .before .before .before .before .before .before .before .before .loop-test .taken) _ (c .before .before .before .before .before .before .before .before .before .before .loop .inv .0) _ (c .before .before .before .before .before .before .before .before .may-meet .ensures) (not-false _ (c .before .before .before .before .before .before .before .if2 .left)), using-good (c .before .before .before .before .before .before .before .before .before .before .before .before .before .before .before .before .before .before .before .before .args .b .now) (c .before .before .before .before .before .before .before .before .before .before .before .before .before .before .before .before .before .before .before .before .pre .0) _ _ (c .before .before .before .before .before .before .before .before .before .before .loop .found) (c .before .before .before .before .before .before .before .before .before .before .loop .left) (c .before .before .before .before .before .before .before .before .before .before .loop .last) (c .before .before .before .before .before .before .before .before .before .before .loop .at) (c .before .before .before .before .before .before .before .before .before .before .loop .free) (c .before .before .before .before .before .before .before .before .before .before .loop .inv .1) (c .before .before .before .before .before .before .before .before .before .loop-test .taken) _ (c .before .before .before .before .before .before .before .before .before .before .loop .inv .0) _ (c .before .before .before .before .before .before .before .before .may-meet .ensures) (not-false _ (c .before .before .before .before .before .before .before .if2 .left)) (c .before .before .before .before .before .before .key-of .result) (c .before .before .before .before .before .before .key-of .ensures) (c .before .before .before .before .key-of2 .result) (c .before .before .before .before .key-of2 .ensures) _ (c .before .before .before .key-follows .ensures) (not-false _ (c .before .before .if3 .left)), using-low (c .before .before .before .before .before .before .before .before .before .before .before .before .before .before .before .before .before .before .before .before .args .b .now) (c .before .before .before .before .before .before .before .before .before .before .before .before .before .before .before .before .before .before .before .before .pre .0) _ _ (c .before .before .before .before .before .before .before .before .before .before .loop .found) (c .before .before .before .before .before .before .before .before .before .before .loop .left) (c .before .before .before .before .before .before .before .before .before .before .loop .last) (c .before .before .before .before .before .before .before .before .before .before .loop .at) (c .before .before .before .before .before .before .before .before .before .before .loop .free) (c .before .before .before .before .before .before .before .before .before .before .loop .inv .1) (c .before .before .before .before .before .before .before .before .before .loop-test .taken) _ (c .before .before .before .before .before .before .before .before .before .before .loop .inv .0) _ (c .before .before .before .before .before .before .before .before .may-meet .ensures) (not-false _ (c .before .before .before .before .before .before .before .if2 .left)))
@@ -112,7 +113,7 @@ loop-less : tie.Need-loop-less Inv-loop μ-loop
 loop-less c = let n : c .before .before .before .before .before .before .before .before .before .before .before .before .before .before .before .before .loop .left ≢ 0 = using-left (c .before .before .before .before .before .before .before .before .before .before .before .before .before .before .before .before .before .before .before .before .before .before .before .before .before .before .args .b .now) (c .before .before .before .before .before .before .before .before .before .before .before .before .before .before .before .before .before .before .before .before .before .before .before .before .before .before .pre .0) _ _ (c .before .before .before .before .before .before .before .before .before .before .before .before .before .before .before .before .loop .found) (c .before .before .before .before .before .before .before .before .before .before .before .before .before .before .before .before .loop .left) (c .before .before .before .before .before .before .before .before .before .before .before .before .before .before .before .before .loop .last) (c .before .before .before .before .before .before .before .before .before .before .before .before .before .before .before .before .loop .at) (c .before .before .before .before .before .before .before .before .before .before .before .before .before .before .before .before .loop .free) (c .before .before .before .before .before .before .before .before .before .before .before .before .before .before .before .before .loop .inv .1) (c .before .before .before .before .before .before .before .before .before .before .before .before .before .before .before .loop-test .taken) _ (c .before .before .before .before .before .before .before .before .before .before .before .before .before .before .before .before .loop .inv .0) _ (c .before .before .before .before .before .before .before .before .before .before .before .before .before .before .may-meet .ensures) (not-false _ (c .before .before .before .before .before .before .before .before .before .before .before .before .before .if2 .left)) in omega arith
 
 loop-again : tie.Need-loop-again Inv-loop μ-loop
-loop-again c = (c .before .before .before .before .before .before .before .before .before .before .before .before .before .before .before .before .loop .inv .0, using-next (c .before .before .before .before .before .before .before .before .before .before .before .before .before .before .before .before .before .before .before .before .before .before .before .before .before .before .args .b .now) (c .before .before .before .before .before .before .before .before .before .before .before .before .before .before .before .before .before .before .before .before .before .before .before .before .before .before .pre .0) _ _ (c .before .before .before .before .before .before .before .before .before .before .before .before .before .before .before .before .loop .found) (c .before .before .before .before .before .before .before .before .before .before .before .before .before .before .before .before .loop .left) (c .before .before .before .before .before .before .before .before .before .before .before .before .before .before .before .before .loop .last) (c .before .before .before .before .before .before .before .before .before .before .before .before .before .before .before .before .loop .at) (c .before .before .before .before .before .before .before .before .before .before .before .before .before .before .before .before .loop .free) (c .before .before .before .before .before .before .before .before .before .before .before .before .before .before .before .before .loop .inv .1) (c .before .before .before .before .before .before .before .before .before .before .before .before .before .before .before .loop-test .taken) _ (c .before .before .before .before .before .before .before .before .before .before .before .before .before .before .before .before .loop .inv .0) _ (c .before .before .before .before .before .before .before .before .before .before .before .before .before .before .may-meet .ensures) (not-false _ (c .before .before .before .before .before .before .before .before .before .before .before .before .before .if2 .left)) (c .before .before .before .before .before .before .before .before .before .before .before .before .key-of .result) (c .before .before .before .before .before .before .before .before .before .before .before .before .key-of .ensures) (c .before .before .before .before .before .before .before .before .before .before .key-of2 .result) (c .before .before .before .before .before .before .before .before .before .before .key-of2 .ensures) _ (c .before .before .before .before .before .before .before .before .before .key-follows .ensures) (not-false _ (c .before .before .before .before .before .before .before .before .if3 .left)) _ (c .before .before .before .before .before .take .ensures .0) _ (c .before .before .before .before .before .take .ensures .1 .0) _ (c .before .before .before .before .before .take .ensures .1 .1) _ (c .before .before .before .before .before .before .before .before .before .before .before .next-of2 .ensures) _ (c .step .ensures))
+loop-again c = (c .before .before .before .before .before .before .before .before .before .before .before .before .before .before .before .before .loop .inv .0, using-next (c .before .before .before .before .before .before .before .before .before .before .before .before .before .before .before .before .before .before .before .before .before .before .before .before .before .before .args .b .now) (c .before .before .before .before .before .before .before .before .before .before .before .before .before .before .before .before .before .before .before .before .before .before .before .before .before .before .pre .0) _ _ (c .before .before .before .before .before .before .before .before .before .before .before .before .before .before .before .before .loop .found) (c .before .before .before .before .before .before .before .before .before .before .before .before .before .before .before .before .loop .left) (c .before .before .before .before .before .before .before .before .before .before .before .before .before .before .before .before .loop .last) (c .before .before .before .before .before .before .before .before .before .before .before .before .before .before .before .before .loop .at) (c .before .before .before .before .before .before .before .before .before .before .before .before .before .before .before .before .loop .free) (c .before .before .before .before .before .before .before .before .before .before .before .before .before .before .before .before .loop .inv .1) (c .before .before .before .before .before .before .before .before .before .before .before .before .before .before .before .loop-test .taken) _ (c .before .before .before .before .before .before .before .before .before .before .before .before .before .before .before .before .loop .inv .0) _ (c .before .before .before .before .before .before .before .before .before .before .before .before .before .before .may-meet .ensures) (not-false _ (c .before .before .before .before .before .before .before .before .before .before .before .before .before .if2 .left)) (c .before .before .before .before .before .before .before .before .before .before .before .before .key-of .result) (c .before .before .before .before .before .before .before .before .before .before .before .before .key-of .ensures) (c .before .before .before .before .before .before .before .before .before .before .key-of2 .result) (c .before .before .before .before .before .before .before .before .before .before .key-of2 .ensures) _ (c .before .before .before .before .before .before .before .before .before .key-follows .ensures) (not-false _ (c .before .before .before .before .before .before .before .before .if3 .left)) _ (c .before .before .before .before .before .take .ensures .0) _ (c .before .before .before .before .before .take .ensures .1 .0) _ (c .before .before .before .before .before .take .ensures .1 .1) _ (c .before .before .before .before .before .before .before .before .before .before .before .next-of2 .ensures) _ (c .step .ensures), run-on (c .before .before .before .before .before .before .before .before .before .before .before .before .before .before .before .before .before .before .before .before .before .before .before .before .before .before .args .b .now) (c .before .before .before .before .before .before .before .before .before .before .before .before .before .before .before .before .loop .left) (c .before .before .before .before .before .before .before .before .before .before .before .before .before .before .before .before .loop .at) (c .before .before .before .before .before .before .before .before .before .before .before .before .before .before .before .before .loop .last) (c .before .before .before .before .before .before .before .before .before .before .before .before .before .before .before .before .loop .found) (c .before .before .before .before .before .before .before .before .before .before .before .before .before .before .before .before .loop .free) (c .before .before .before .before .before .before .before .before .before .before .before .before .before .before .before .before .loop .marks) (c .before .before .before .before .before .before .before .before .before .before .before .before .before .before .before .before .loop .list) (c .before .before .before .before .before .before .before .before .before .before .before .before .before .before .before .loop-test .taken) _ (c .before .before .before .before .before .before .before .before .before .before .before .before .before .before .before .before .loop .inv .0) _ (c .before .before .before .before .before .before .before .before .before .before .before .before .before .before .may-meet .ensures) (not-false _ (c .before .before .before .before .before .before .before .before .before .before .before .before .before .if2 .left)) (c .before .before .before .before .before .before .before .before .before .before .before .before .key-of .result) (c .before .before .before .before .before .before .before .before .before .before .before .before .key-of .ensures) (c .before .before .before .before .before .before .before .before .before .before .key-of2 .result) (c .before .before .before .before .before .before .before .before .before .before .key-of2 .ensures) _ (c .before .before .before .before .before .before .before .before .before .key-follows .ensures) (not-false _ (c .before .before .before .before .before .before .before .before .if3 .left)) (using-left (c .before .before .before .before .before .before .before .before .before .before .before .before .before .before .before .before .before .before .before .before .before .before .before .before .before .before .args .b .now) (c .before .before .before .before .before .before .before .before .before .before .before .before .before .before .before .before .before .before .before .before .before .before .before .before .before .before .pre .0) _ _ (c .before .before .before .before .before .before .before .before .before .before .before .before .before .before .before .before .loop .found) (c .before .before .before .before .before .before .before .before .before .before .before .before .before .before .before .before .loop .left) (c .before .before .before .before .before .before .before .before .before .before .before .before .before .before .before .before .loop .last) (c .before .before .before .before .before .before .before .before .before .before .before .before .before .before .before .before .loop .at) (c .before .before .before .before .before .before .before .before .before .before .before .before .before .before .before .before .loop .free) (c .before .before .before .before .before .before .before .before .before .before .before .before .before .before .before .before .loop .inv .1) (c .before .before .before .before .before .before .before .before .before .before .before .before .before .before .before .loop-test .taken) _ (c .before .before .before .before .before .before .before .before .before .before .before .before .before .before .before .before .loop .inv .0) _ (c .before .before .before .before .before .before .before .before .before .before .before .before .before .before .may-meet .ensures) (not-false _ (c .before .before .before .before .before .before .before .before .before .before .before .before .before .if2 .left))) _ (c .before .before .before .before .before .take .ensures .0) _ (c .before .before .before .before .before .take .ensures .1 .0) _ (c .before .before .before .before .before .take .ensures .1 .1) _ (c .before .before .before .before .before .before .before .before .before .before .before .next-of2 .ensures) _ (c .step .ensures) ∙ c .before .before .before .before .before .before .before .before .before .before .before .before .before .before .before .before .loop .inv .2)
 
 sub-ended : tie.Need-sub-ended Inv-loop μ-loop
 sub-ended c = omega (arith, c .before .loop .inv .0, c .before .loop .inv .1 .few)
@@ -127,7 +128,7 @@ same-length-6 : tie.Need-same-length-6 Inv-loop μ-loop
 same-length-6 c = c .before .before .loop .inv .1 .listed .size ∙ sym (c .before .before .before .before .before .before .before .before .before .before .before .before .pre .2)
 
 returns-4 : tie.Need-returns-4 Inv-loop μ-loop
-returns-4 c = (ap walkedOf (c .ended .ensures) ∙ ap (λ (n : ℕ). record { ended = true; count = n - c .before .before .loop .left; last = c .before .before .loop .last }) (c .before .before .loop .inv .0) ∙ using-end (c .before .before .before .before .before .before .before .before .before .before .before .before .args .b .now) (c .before .before .before .before .before .before .before .before .before .before .before .before .pre .0) _ _ (c .before .before .loop .found) (c .before .before .loop .left) (c .before .before .loop .last) (c .before .before .loop .at) (c .before .before .loop .free) (c .before .before .loop .inv .1) (c .before .loop-test .left), λ y. subst (λ (u : Used). UsedFound (c .before .before .before .before .before .before .before .before .before .before .before .before .args .b .now) (c .before .before .loop .marks) (c .before .before .loop .list) (u .found) (u .free)) (sym (c .ended .ensures)) (using-found (c .before .before .before .before .before .before .before .before .before .before .before .before .args .b .now) (c .before .before .before .before .before .before .before .before .before .before .before .before .pre .0) _ _ (c .before .before .loop .found) (c .before .before .loop .left) (c .before .before .loop .last) (c .before .before .loop .at) (c .before .before .loop .free) (c .before .before .loop .inv .1) (c .before .loop-test .left)))
+returns-4 c = (ap walkedOf (c .ended .ensures) ∙ ap (λ (n : ℕ). record { ended = true; count = n - c .before .before .loop .left; last = c .before .before .loop .last }) (c .before .before .loop .inv .0) ∙ using-end (c .before .before .before .before .before .before .before .before .before .before .before .before .args .b .now) (c .before .before .before .before .before .before .before .before .before .before .before .before .pre .0) _ _ (c .before .before .loop .found) (c .before .before .loop .left) (c .before .before .loop .last) (c .before .before .loop .at) (c .before .before .loop .free) (c .before .before .loop .inv .1) (c .before .loop-test .left), (λ y. subst (λ (u : Used). UsedFound (c .before .before .before .before .before .before .before .before .before .before .before .before .args .b .now) (c .before .before .loop .marks) (c .before .before .loop .list) (u .found) (u .free)) (sym (c .ended .ensures)) (using-found (c .before .before .before .before .before .before .before .before .before .before .before .before .args .b .now) (c .before .before .before .before .before .before .before .before .before .before .before .before .pre .0) _ _ (c .before .before .loop .found) (c .before .before .loop .left) (c .before .before .loop .last) (c .before .before .loop .at) (c .before .before .loop .free) (c .before .before .loop .inv .1) (c .before .loop-test .left)), run-end (c .before .before .before .before .before .before .before .before .before .before .before .before .args .b .now) (c .before .before .loop .left) (c .before .before .loop .at) (c .before .before .loop .last) (c .before .before .loop .found) (c .before .before .loop .free) (c .before .before .loop .marks) (c .before .before .loop .list) (c .before .loop-test .left) _ (c .before .before .loop .inv .0) _ (c .ended .ensures) ∙ c .before .before .loop .inv .2))
 
 pub walk-used-spec : {M : Type 1} → statement M
 walk-used-spec =
