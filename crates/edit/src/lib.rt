@@ -13,7 +13,7 @@ ghost use Rattle.chain.specs.Links.{Linked, Hint, KeepsHints, placeIn, Edited, 
 ghost use Rattle.select.specs.Selections.{takenBy};
 ghost use Rattle.edit.specs.Edits.{Adding, Turned, sweepStart};
 
-// Is a key present, by the record at its place.
+// Is a key present, by the record at its place. Public for the crates above, which have sought the place.
 pub fn held_at(b: &[u32], k: Key, at: usize) -> bool
     requires { ⌜ Linked (now b) × (at ≡ placeIn (keyAt (now b)) k 0 (usedOf (now b)) .at) ⌝ }
     ensures { λ r. ⌜ r ≡ present k (tuplesOf (now (b .entry))) ⌝ }
