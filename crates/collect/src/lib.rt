@@ -26,7 +26,7 @@ fn remove_each(b: &mut [u32], s: u32, nodes: &[u32], count: usize)
 {
     let mut i = 0;
     while i < count {
-        operate::remove_node(b, 0, NodeOf { s, n: nodes[i] });
+        removals::remove_node(b, 0, NodeOf { s, n: nodes[i] });
         i += 1;
     }
 }

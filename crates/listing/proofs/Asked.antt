@@ -33,7 +33,7 @@ use Rattle.operate.specs.declared.Near.{Near}
 use Rattle.operate.specs.Operate.{NearIn, fieldsOf}
 use Rattle.chain.specs.Links.{Hint}
 use Rattle.chain.proofs.Hints.{no-hint}
-use Rattle.operate.proofs.Removals.{passes-any, passes-edge, passes-node}
+use Rattle.select.proofs.Passes.{passes-any, passes-edge, passes-node}
 use Rattle.listing.specs.Lists.{pairsHint, listHint, pairQuery, queryOf, NamesAsked}
 
 -- ---- sorting again

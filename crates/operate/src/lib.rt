@@ -1,30 +1,24 @@
-// What each operator does to a store.
+// What V, X, B and C do to a store.
 // Each function is pub for the crate above, which has proved what it requires.
 use model::Call;
 use model::Direction;
 use model::Key;
 use model::Object;
 use model::Space;
-use select::EdgesOf;
-use select::NodeOf;
-use select::Selection;
 ghost use mathlib.Core.Logic.{_≢_};
 ghost use mathlib.Core.Path.{_≡_};
 ghost use mathlib.Core.Bool.{true, _&&_};
 ghost use lib.Dec.{eqb};
 ghost use lib.ListN.{length};
 ghost use mathlib.Core.List.{[], _∷_};
-ghost use Rattle.model.specs.Pairs.{edgeOf, nodeOf};
 ghost use Rattle.model.specs.Keys.{mostName, edgeKey};
 ghost use Rattle.model.specs.Machine.{FieldsFit};
 ghost use Prim.Native.Nat.{_≤_};
-ghost use Rattle.model.specs.Tuples.{anyPresent, addAll, missing, assignAll, remove};
+ghost use Rattle.model.specs.Tuples.{anyPresent, addAll, missing, assignAll};
 ghost use Rattle.model.specs.Buffer.{tuplesOf};
-ghost use Rattle.model.specs.Steps.{spaceNumber, nOf, gOf, mOf, vOf, sOf, objectKeys, created, firstValue, edgesTaken, nodeTaken, spaceTaken, destroyed};
+ghost use Rattle.model.specs.Steps.{spaceNumber, nOf, gOf, mOf, vOf, sOf, objectKeys, created, firstValue};
 ghost use Rattle.chain.specs.Links.{Linked, Hint, KeepsHints, Edited};
-ghost use Rattle.select.specs.Selections.{passes};
-ghost use Rattle.model.specs.declared.Removal.{Removal};
-ghost use Rattle.operate.specs.Operate.{NearIn, pairHint, mainHint, edgesOf, fieldsOf, pairKey, mainKey, bothWays, isAdjacent, keysIn, isSpace, Room};
+ghost use Rattle.operate.specs.Operate.{NearIn, pairHint, mainHint, fieldsOf, pairKey, mainKey, bothWays, isAdjacent, keysIn, isSpace, Room};
 
 // The fields of a call as words; UNIVERSE is 0.
 pub struct Fields {
@@ -291,95 +285,4 @@ pub fn create(b: &mut [u32], near: Near, universe: Near, o: Object, c: Call)
         return;
     }
     add_in(b, universe, o, 0, f);
-}
-
-// Removes the edges of the pairs of node n in space s with edge g and node m (0: any).
-fn remove_edges(b: &mut [u32], hint: usize, e: EdgesOf)
-    requires { ⌜ Linked (now b) × Hint (now b) hint ⌝ }
-    ensures { λ _. ⌜ Edited (now (b .entry)) (now (b .exit)) (remove (edgesTaken (e .d) (e .s) (e .n) (passes (e .g) (e .m))) (tuplesOf (now (b .entry)))) ⌝ }
-{
-    edit::sweep(b, hint, Selection::Edges(e));
-}
-
-// Removes node n from space s (0: from all spaces), with its edges.
-pub fn remove_node(b: &mut [u32], hint: usize, x: NodeOf)
-    requires { ⌜ Linked (now b) × Hint (now b) hint × (x .n ≢ 0) ⌝ }
-    ensures { λ _. ⌜ Edited (now (b .entry)) (now (b .exit)) (remove (nodeTaken (x .s) (x .n)) (tuplesOf (now (b .entry)))) ⌝ }
-{
-    edit::sweep(b, hint, Selection::Node(x));
-}
-
-// Removes a numbered space and all in it.
-fn remove_space(b: &mut [u32], hint: usize, s: u32)
-    requires { ⌜ Linked (now b) × Hint (now b) hint × (s ≢ 0) ⌝ }
-    ensures { λ _. ⌜ Edited (now (b .entry)) (now (b .exit)) (remove (spaceTaken s) (tuplesOf (now (b .entry)))) ⌝ }
-{
-    edit::sweep(b, hint, Selection::Space(s));
-}
-
-// The edges of the pairs of node n in the call's space with edge g and node m (0: any).
-fn edges_of(d: Direction, f: Fields, g: u32, m: u32) -> EdgesOf
-    ensures { λ r. ⌜ r ≡ edgesOf d f g m ⌝ }
-{
-    EdgesOf {
-        d,
-        s: f.s,
-        n: f.n,
-        g,
-        m,
-    }
-}
-
-// D 12–14: removes the edges of the call's pair.
-pub fn destroy_pair(b: &mut [u32], near: Near, d: Direction, c: Call)
-    requires { ⌜ Linked (now b) × NearIn (now b) near × (gOf c ≢ 0) × (mOf c ≢ 0) ⌝ }
-    ensures { λ _. ⌜ Edited (now (b .entry)) (now (b .exit)) (destroyed (Removal.P d) c (tuplesOf (now (b .entry)))) ⌝ }
-{
-    let f = fields_of(c);
-    remove_edges(b, near.space, edges_of(d, f, f.g, f.m));
-}
-
-// D 15–17: removes the edges of the pairs of node n.
-pub fn destroy_edges(b: &mut [u32], near: Near, d: Direction, c: Call)
-    requires { ⌜ Linked (now b) × NearIn (now b) near ⌝ }
-    ensures { λ _. ⌜ Edited (now (b .entry)) (now (b .exit)) (destroyed (Removal.G d) c (tuplesOf (now (b .entry)))) ⌝ }
-{
-    let f = fields_of(c);
-    remove_edges(b, near.space, edges_of(d, f, 0, 0));
-}
-
-// D 18–20: removes the edges of the pairs of node n with edge g.
-pub fn destroy_edges_named(b: &mut [u32], near: Near, d: Direction, c: Call)
-    requires { ⌜ Linked (now b) × NearIn (now b) near × (gOf c ≢ 0) ⌝ }
-    ensures { λ _. ⌜ Edited (now (b .entry)) (now (b .exit)) (destroyed (Removal.GG d) c (tuplesOf (now (b .entry)))) ⌝ }
-{
-    let f = fields_of(c);
-    remove_edges(b, near.space, edges_of(d, f, f.g, 0));
-}
-
-// D 21–23: removes the edges of the pairs of node n with node m.
-pub fn destroy_edges_between(b: &mut [u32], near: Near, d: Direction, c: Call)
-    requires { ⌜ Linked (now b) × NearIn (now b) near × (mOf c ≢ 0) ⌝ }
-    ensures { λ _. ⌜ Edited (now (b .entry)) (now (b .exit)) (destroyed (Removal.GN d) c (tuplesOf (now (b .entry)))) ⌝ }
-{
-    let f = fields_of(c);
-    remove_edges(b, near.space, edges_of(d, f, 0, f.m));
-}
-
-// D 49: removes node n, with its edges.
-pub fn destroy_node(b: &mut [u32], near: Near, c: Call)
-    requires { ⌜ Linked (now b) × NearIn (now b) near × (nOf c ≢ 0) ⌝ }
-    ensures { λ _. ⌜ Edited (now (b .entry)) (now (b .exit)) (destroyed Removal.UN c (tuplesOf (now (b .entry)))) ⌝ }
-{
-    let f = fields_of(c);
-    remove_node(b, near.space, NodeOf { s: f.s, n: f.n });
-}
-
-// D 55: removes a space and all in it.
-pub fn destroy_space(b: &mut [u32], near: Near, c: Call)
-    requires { ⌜ Linked (now b) × NearIn (now b) near × (sOf c ≢ 0) ⌝ }
-    ensures { λ _. ⌜ Edited (now (b .entry)) (now (b .exit)) (destroyed Removal.US c (tuplesOf (now (b .entry)))) ⌝ }
-{
-    let f = fields_of(c);
-    remove_space(b, near.space, f.s);
 }

@@ -57,14 +57,14 @@ fn destroy(b: &mut [u32], near: Near, r: Removal, c: Call)
     ensures { λ _. ⌜ Edited (now (b .entry)) (now (b .exit)) (destroyed r c (tuplesOf (now (b .entry)))) ⌝ }
 {
     match r {
-        Removal::P(d) => operate::destroy_pair(b, near, d, c),
-        Removal::G(d) => operate::destroy_edges(b, near, d, c),
-        Removal::GG(d) => operate::destroy_edges_named(b, near, d, c),
-        Removal::GN(d) => operate::destroy_edges_between(b, near, d, c),
+        Removal::P(d) => removals::destroy_pair(b, near, d, c),
+        Removal::G(d) => removals::destroy_edges(b, near, d, c),
+        Removal::GG(d) => removals::destroy_edges_named(b, near, d, c),
+        Removal::GN(d) => removals::destroy_edges_between(b, near, d, c),
         Removal::N(d) => collect::destroy_nodes(b, near, d, c),
         Removal::NG(d) => collect::destroy_nodes_by_edge(b, near, d, c),
-        Removal::UN => operate::destroy_node(b, near, c),
-        Removal::US => operate::destroy_space(b, near, c),
+        Removal::UN => removals::destroy_node(b, near, c),
+        Removal::US => removals::destroy_space(b, near, c),
     }
 }
 

@@ -7,7 +7,7 @@ use Rattle.collect.proofs.remove_each.Statement.{statement}
 use Rattle.collect.proofs.remove_each.Tie as tie
 use Rattle.collect.proofs.remove_each.Reads as reads
 use Rattle.collect.proofs.remove_each.Lts as lts
-use Rattle.operate.proofs.remove_node.Reads as remove-node-reads
+use Rattle.removals.proofs.remove_node.Reads as remove-node-reads
 
 abbrev Inv-loop : tie.InvT-loop
 Inv-loop b₀ s nodes count i₀ b i = Removing b₀ s nodes count b i

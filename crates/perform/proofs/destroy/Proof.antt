@@ -7,12 +7,12 @@ use Rattle.perform.proofs.destroy.Reads as reads
 use Rattle.perform.proofs.destroy.Lts as lts
 use Rattle.collect.proofs.destroy_nodes.Reads as destroy-nodes-reads
 use Rattle.collect.proofs.destroy_nodes_by_edge.Reads as destroy-nodes-by-edge-reads
-use Rattle.operate.proofs.destroy_edges.Reads as destroy-edges-reads
-use Rattle.operate.proofs.destroy_edges_between.Reads as destroy-edges-between-reads
-use Rattle.operate.proofs.destroy_edges_named.Reads as destroy-edges-named-reads
-use Rattle.operate.proofs.destroy_node.Reads as destroy-node-reads
-use Rattle.operate.proofs.destroy_pair.Reads as destroy-pair-reads
-use Rattle.operate.proofs.destroy_space.Reads as destroy-space-reads
+use Rattle.removals.proofs.destroy_edges.Reads as destroy-edges-reads
+use Rattle.removals.proofs.destroy_edges_between.Reads as destroy-edges-between-reads
+use Rattle.removals.proofs.destroy_edges_named.Reads as destroy-edges-named-reads
+use Rattle.removals.proofs.destroy_node.Reads as destroy-node-reads
+use Rattle.removals.proofs.destroy_pair.Reads as destroy-pair-reads
+use Rattle.removals.proofs.destroy_space.Reads as destroy-space-reads
 
 -- src/lib.rt:58:20
 enum-known-r : tie.Need-enum-known-r

@@ -1,41 +1,19 @@
 -- One removal with 0 for "any" is what each D operator takes (`destroyed`).
-use mathlib.Core.Bool.{Bool, true, _&&_, _||_, and-true}
+use mathlib.Core.Bool.{Bool}
 use mathlib.Core.Logic.{_≢_}
-use mathlib.Core.Path.{_≡_, refl, ap, ap₂, _∙_}
+use mathlib.Core.Path.{_≡_, ap, _∙_}
 use Prim.Native.Nat.{ℕ}
-use lib.Dec.{eqb}
-use borrow.Author.Tests.{ne-eqb}
 use Rattle.model.specs.declared.Call.{Call}
 use Rattle.model.specs.declared.Direction.{Direction}
 use Rattle.model.specs.declared.Pair.{Pair}
 use Rattle.model.specs.declared.Removal.{Removal}
-use Rattle.model.specs.Pairs.{edgeOf, nodeOf}
 use Rattle.model.specs.Tuples.{Tuples, remove}
 use Rattle.model.specs.Steps.{nOf, gOf, mOf, sOf, edgesTaken, nodeTaken, spaceTaken, destroyed}
 use Rattle.select.specs.Selections.{passes}
+use Rattle.select.proofs.Passes.{passes-any, passes-edge, passes-node, passes-both}
 use Rattle.operate.specs.declared.Fields.{Fields}
 use Rattle.select.specs.declared.EdgesOf.{EdgesOf}
 use Rattle.operate.specs.Operate.{fieldsOf, edgesOf}
-
--- a name that is not 0 is asked for
-asked-name : (want name : ℕ) → want ≢ 0 → (eqb want 0 || eqb name want) ≡ eqb name want
-asked-name want name h = ap (λ (b : Bool). b || eqb name want) (ne-eqb want 0 h)
-
-pub passes-any : (p : Pair) → passes 0 0 p ≡ true
-unfolding passes
-passes-any p = refl
-
-pub passes-edge : (g : ℕ) → g ≢ 0 → (p : Pair) → passes g 0 p ≡ eqb (edgeOf p) g
-unfolding passes
-passes-edge g h p = and-true (eqb g 0 || eqb (edgeOf p) g) ∙ asked-name g (edgeOf p) h
-
-pub passes-node : (m : ℕ) → m ≢ 0 → (p : Pair) → passes 0 m p ≡ eqb (nodeOf p) m
-unfolding passes
-passes-node m h p = asked-name m (nodeOf p) h
-
-passes-both : (g m : ℕ) → g ≢ 0 → m ≢ 0 → (p : Pair) → passes g m p ≡ (eqb (edgeOf p) g && eqb (nodeOf p) m)
-unfolding passes
-passes-both g m h k p = ap₂ _&&_ (asked-name g (edgeOf p) h) (asked-name m (nodeOf p) k)
 
 -- the same test of pairs, the same tuples left
 same-test : (d : Direction) (s n : ℕ) (p q : Pair → Bool) (ts : Tuples) → ((x : Pair) → p x ≡ q x)

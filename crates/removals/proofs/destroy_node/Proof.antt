@@ -1,14 +1,14 @@
-use Rattle.operate.proofs.Removals.{node-removed}
+use Rattle.removals.proofs.Removed.{node-removed}
 use Rattle.operate.specs.declared.Fields.{Fields}
 use Rattle.chain.specs.Links.{Edited}
 use mathlib.Core.Path.{sym, ap, _∙_, subst}
 use borrow.Author.Needs.{needs}
-use Rattle.operate.proofs.destroy_node.Statement.{statement}
-use Rattle.operate.proofs.destroy_node.Tie as tie
-use Rattle.operate.proofs.destroy_node.Reads as reads
-use Rattle.operate.proofs.destroy_node.Lts as lts
+use Rattle.removals.proofs.destroy_node.Statement.{statement}
+use Rattle.removals.proofs.destroy_node.Tie as tie
+use Rattle.removals.proofs.destroy_node.Reads as reads
+use Rattle.removals.proofs.destroy_node.Lts as lts
 use Rattle.operate.proofs.fields_of.Reads as fields-of-reads
-use Rattle.operate.proofs.remove_node.Reads as remove-node-reads
+use Rattle.removals.proofs.remove_node.Reads as remove-node-reads
 
 -- src/lib.rt:374:9
 fields-of-requires : tie.Need-fields-of-requires

@@ -1,10 +1,10 @@
 use Rattle.select.specs.Selections.{takenBy}
 use Rattle.model.proofs.Taken.{edges-fair}
 use borrow.Author.Needs.{needs}
-use Rattle.operate.proofs.remove_edges.Statement.{statement}
-use Rattle.operate.proofs.remove_edges.Tie as tie
-use Rattle.operate.proofs.remove_edges.Reads as reads
-use Rattle.operate.proofs.remove_edges.Lts as lts
+use Rattle.removals.proofs.remove_edges.Statement.{statement}
+use Rattle.removals.proofs.remove_edges.Tie as tie
+use Rattle.removals.proofs.remove_edges.Reads as reads
+use Rattle.removals.proofs.remove_edges.Lts as lts
 use Rattle.edit.proofs.sweep.Reads as sweep-reads
 
 -- src/lib.rt:301:5

@@ -1,14 +1,14 @@
-use Rattle.operate.proofs.Removals.{space-removed}
+use Rattle.removals.proofs.Removed.{space-removed}
 use Rattle.operate.specs.declared.Fields.{Fields}
 use Rattle.chain.specs.Links.{Edited}
 use mathlib.Core.Path.{sym, ap, _∙_, subst}
 use borrow.Author.Needs.{needs}
-use Rattle.operate.proofs.destroy_space.Statement.{statement}
-use Rattle.operate.proofs.destroy_space.Tie as tie
-use Rattle.operate.proofs.destroy_space.Reads as reads
-use Rattle.operate.proofs.destroy_space.Lts as lts
+use Rattle.removals.proofs.destroy_space.Statement.{statement}
+use Rattle.removals.proofs.destroy_space.Tie as tie
+use Rattle.removals.proofs.destroy_space.Reads as reads
+use Rattle.removals.proofs.destroy_space.Lts as lts
 use Rattle.operate.proofs.fields_of.Reads as fields-of-reads
-use Rattle.operate.proofs.remove_space.Reads as remove-space-reads
+use Rattle.removals.proofs.remove_space.Reads as remove-space-reads
 
 -- src/lib.rt:383:9
 fields-of-requires : tie.Need-fields-of-requires

@@ -1,14 +1,14 @@
-use Rattle.operate.proofs.Removals.{between-removed}
+use Rattle.removals.proofs.Removed.{between-removed}
 use Rattle.chain.specs.Links.{Edited}
 use mathlib.Core.Path.{subst}
 use borrow.Author.Needs.{needs}
-use Rattle.operate.proofs.destroy_edges_between.Statement.{statement}
-use Rattle.operate.proofs.destroy_edges_between.Tie as tie
-use Rattle.operate.proofs.destroy_edges_between.Reads as reads
-use Rattle.operate.proofs.destroy_edges_between.Lts as lts
-use Rattle.operate.proofs.edges_of.Reads as edges-of-reads
+use Rattle.removals.proofs.destroy_edges_between.Statement.{statement}
+use Rattle.removals.proofs.destroy_edges_between.Tie as tie
+use Rattle.removals.proofs.destroy_edges_between.Reads as reads
+use Rattle.removals.proofs.destroy_edges_between.Lts as lts
+use Rattle.removals.proofs.edges_of.Reads as edges-of-reads
 use Rattle.operate.proofs.fields_of.Reads as fields-of-reads
-use Rattle.operate.proofs.remove_edges.Reads as remove-edges-reads
+use Rattle.removals.proofs.remove_edges.Reads as remove-edges-reads
 
 -- src/lib.rt:365:9
 fields-of-requires : tie.Need-fields-of-requires

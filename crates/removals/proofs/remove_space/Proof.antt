@@ -1,10 +1,10 @@
 use Rattle.select.specs.Selections.{takenBy}
 use Rattle.model.proofs.Taken.{space-fair}
 use borrow.Author.Needs.{needs}
-use Rattle.operate.proofs.remove_space.Statement.{statement}
-use Rattle.operate.proofs.remove_space.Tie as tie
-use Rattle.operate.proofs.remove_space.Reads as reads
-use Rattle.operate.proofs.remove_space.Lts as lts
+use Rattle.removals.proofs.remove_space.Statement.{statement}
+use Rattle.removals.proofs.remove_space.Tie as tie
+use Rattle.removals.proofs.remove_space.Reads as reads
+use Rattle.removals.proofs.remove_space.Lts as lts
 use Rattle.edit.proofs.sweep.Reads as sweep-reads
 
 -- src/lib.rt:317:5

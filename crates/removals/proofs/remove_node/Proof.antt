@@ -1,10 +1,10 @@
 use Rattle.select.specs.Selections.{takenBy}
 use Rattle.model.proofs.Taken.{node-fair}
 use borrow.Author.Needs.{needs}
-use Rattle.operate.proofs.remove_node.Statement.{statement}
-use Rattle.operate.proofs.remove_node.Tie as tie
-use Rattle.operate.proofs.remove_node.Reads as reads
-use Rattle.operate.proofs.remove_node.Lts as lts
+use Rattle.removals.proofs.remove_node.Statement.{statement}
+use Rattle.removals.proofs.remove_node.Tie as tie
+use Rattle.removals.proofs.remove_node.Reads as reads
+use Rattle.removals.proofs.remove_node.Lts as lts
 use Rattle.edit.proofs.sweep.Reads as sweep-reads
 
 -- src/lib.rt:309:5
