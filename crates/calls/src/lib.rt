@@ -11,22 +11,16 @@ pub fn execute_known(store: &mut [u32], call: Call, list: &mut [u32]) -> Answer
     requires { ⌜ isStore (now store) ≡ true ⌝ }
     ensures { λ r. ⌜ OnStore (now (store .entry)) (now (list .entry)) call r (now (store .exit)) (now (list .exit)) ⌝ }
 {
+    let op = decode::operator_of(call.operator);
     let above = conditions::locate_universe(store, call);
     let located = conditions::locate(store, above, call);
     let near = located.near;
     let universe = conditions::also_in_universe(near, above, call);
-    let stop = refusals::refusal_of(store, located, universe, call, list.len());
+    let stop = refusals::refusal_of(store, located, universe, op, call, list.len());
     if stop != 0 {
         return Answer::Refusal(stop);
     }
-    perform::perform(
-        store,
-        near,
-        universe,
-        decode::operator_of(call.operator),
-        call,
-        list,
-    )
+    perform::perform(store, near, universe, op, call, list)
 }
 
 // One call on any buffer, with any numbers as operator and names and any answer list.

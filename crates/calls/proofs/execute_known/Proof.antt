@@ -14,43 +14,43 @@ use Rattle.perform.proofs.perform.Reads as perform-reads
 use Rattle.refusals.proofs.refusal_of.Reads as refusal-of-reads
 
 -- src/lib.rt:14:9
-locate-universe-requires : tie.Need-locate-universe-requires
-locate-universe-requires c κs = store-linked _ (c .before .before .before .pre)
-
--- src/lib.rt:15:9
-locate-requires : tie.Need-locate-requires
-locate-requires c κs = (store-linked _ (c .before .before .before .before .before .pre), universe-near _ (store-linked _ (c .before .before .before .before .before .pre)) _ _ (c .before .locate-universe .ensures))
-
--- src/lib.rt:16:9
-also-in-universe-requires : tie.Need-also-in-universe-requires
-also-in-universe-requires c κs = search needs
-
--- src/lib.rt:17:9
-refusal-of-requires : tie.Need-refusal-of-requires
-refusal-of-requires c κs = let L = store-linked _ (c .before .before .before .before .before .before .before .before .before .pre) in
-    let T = located-told _ L _ _ (c .before .before .before .locate .ensures .0) in
-    (c .before .before .before .before .before .before .before .before .before .pre, T, also-near _ L _ _ _ _ (T .near) (universe-near _ L _ _ (c .before .before .before .before .before .locate-universe .ensures)) (c .before .also-in-universe .ensures))
-
--- src/lib.rt:19:9
-same-length : tie.Need-same-length
-same-length c = search needs
-
--- src/lib.rt:19:9
-returns : tie.Need-returns
-returns c = refused-known _ _ _ _ (c .before .before .before .before .before .before .before .before .before .before .before .pre) (c .before .refusal-of .ensures) (c .if1 .taken)
-
--- src/lib.rt:25:9
 operator-of-requires : tie.Need-operator-of-requires
 operator-of-requires c κs = search needs
 
--- src/lib.rt:21:5
+-- src/lib.rt:15:9
+locate-universe-requires : tie.Need-locate-universe-requires
+locate-universe-requires c κs = store-linked _ (c .before .before .before .before .pre)
+
+-- src/lib.rt:16:9
+locate-requires : tie.Need-locate-requires
+locate-requires c κs = (store-linked _ (c .before .before .before .before .before .before .pre), universe-near _ (store-linked _ (c .before .before .before .before .before .before .pre)) _ _ (c .before .locate-universe .ensures))
+
+-- src/lib.rt:18:9
+also-in-universe-requires : tie.Need-also-in-universe-requires
+also-in-universe-requires c κs = search needs
+
+-- src/lib.rt:19:9
+refusal-of-requires : tie.Need-refusal-of-requires
+refusal-of-requires c κs = let L = store-linked _ (c .before .before .before .before .before .before .before .before .before .before .pre) in
+    let T = located-told _ L _ _ (c .before .before .before .locate .ensures .0) in
+    (c .before .before .before .before .before .before .before .before .before .before .pre, T, also-near _ L _ _ _ _ (T .near) (universe-near _ L _ _ (c .before .before .before .before .before .locate-universe .ensures)) (c .before .also-in-universe .ensures), c .before .before .before .before .before .before .before .operator-of .ensures)
+
+-- src/lib.rt:21:9
+same-length : tie.Need-same-length
+same-length c = search needs
+
+-- src/lib.rt:21:9
+returns : tie.Need-returns
+returns c = refused-known _ _ _ _ (c .before .before .before .before .before .before .before .before .before .before .before .before .pre) (c .before .refusal-of .ensures) (c .if1 .taken)
+
+-- src/lib.rt:23:5
 perform-requires : tie.Need-perform-requires
 perform-requires c κs = let L = store-linked _ (c .before .before .before .before .before .before .before .before .before .before .before .before .before .before .pre) in
-    let T = located-told _ L _ _ (c .before .before .before .before .before .before .before .before .locate .ensures .0) in (
+    let T = located-told _ L _ _ (c .before .before .before .before .before .before .before .locate .ensures .0) in (
       c .before .before .before .before .before .before .before .before .before .before .before .before .before .before .pre,
       T .near,
-      also-near _ L _ _ _ _ (T .near) (universe-near _ L _ _ (c .before .before .before .before .before .before .before .before .before .before .locate-universe .ensures)) (c .before .before .before .before .before .before .also-in-universe .ensures),
-      let-pass _ (c .before .before .before .before .before .before .before .before .before .before .before .before .before .before .args .call) _ _ _ (c .before .before .before .before .refusal-of .ensures) (c .before .before .before .if1 .left) (c .before .operator-of .ensures),
+      also-near _ L _ _ _ _ (T .near) (universe-near _ L _ _ (c .before .before .before .before .before .before .before .before .before .locate-universe .ensures)) (c .before .before .before .before .before .also-in-universe .ensures),
+      let-pass _ (c .before .before .before .before .before .before .before .before .before .before .before .before .before .before .args .call) _ _ _ (c .before .before .before .refusal-of .ensures) (c .before .before .if1 .left) (c .before .before .before .before .before .before .before .before .before .before .before .operator-of .ensures),
     )
 
 -- src/lib.rt:10:1
@@ -63,19 +63,19 @@ same-length-3 c = search needs
 
 -- src/lib.rt:10:1
 returns-2 : tie.Need-returns-2
-returns-2 c = performed-known _ _ _ _ (c .before .before .before .before .before .before .before .before .before .before .before .before .before .before .before .before .before .before .before .args .call) _ _ _ (c .before .before .before .before .before .before .before .before .before .before .before .before .before .before .before .before .before .before .before .pre) (c .before .before .before .before .before .before .before .before .before .before .before .before .before .locate .ensures .1) (c .before .before .before .before .before .before .before .before .before .refusal-of .ensures) (c .before .before .before .before .before .before .before .before .if1 .left) (c .before .before .before .before .before .before .operator-of .ensures) (c .before .before .before .before .perform .ensures)
+returns-2 c = performed-known _ _ _ _ (c .before .before .before .before .before .before .before .before .before .before .before .before .before .before .before .before .before .before .before .args .call) _ _ _ (c .before .before .before .before .before .before .before .before .before .before .before .before .before .before .before .before .before .before .before .pre) (c .before .before .before .before .before .before .before .before .before .before .before .before .locate .ensures .1) (c .before .before .before .before .before .before .before .before .refusal-of .ensures) (c .before .before .before .before .before .before .before .if1 .left) (c .before .before .before .before .before .before .before .before .before .before .before .before .before .before .before .before .operator-of .ensures) (c .before .before .before .before .perform .ensures)
 
 pub execute-known-spec : {M : Type 1} → statement M
 execute-known-spec =
     tie.close
     (tie.spec
+    operator-of-requires
     locate-universe-requires
     locate-requires
     also-in-universe-requires
     refusal-of-requires
     same-length
     returns
-    operator-of-requires
     perform-requires
     same-length-2
     same-length-3
