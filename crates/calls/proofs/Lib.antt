@@ -1,3 +1,4 @@
 pub mod Known
+pub mod AtOnce
 pub mod Counts
 pub mod Lists

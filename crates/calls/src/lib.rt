@@ -1,32 +1,61 @@
 // The entry: one call of the operators 1 to 57 on a buffer.
 use model::Answer;
 use model::Call;
+use model::Direction;
+use model::Listing;
+use operate::Near;
 ghost use mathlib.Core.Bool.{true};
 ghost use mathlib.Core.Path.{_≡_};
-ghost use Rattle.model.specs.Buffer.{isStore};
+ghost use lib.ListN.{length};
+ghost use Rattle.model.specs.Buffer.{tuplesOf, isStore};
 ghost use Rattle.model.specs.OneCall.{OnStore, OneCall};
+ghost use Rattle.list.specs.Queries.{written};
+ghost use Rattle.calls.specs.AtOnce.{listedAtOnce};
+
+// The entries of a SIN (40), written to the list without a search for n, and their number: an entry shows that n is there.
+// 0 for other calls, and where a name is 0 or the list might be too short.
+fn list_at_once(b: &[u32], c: Call, list: &mut [u32]) -> usize
+    requires { ⌜ isStore (now b) ≡ true ⌝ }
+    ensures { λ r. ⌜ r ≡ length (listedAtOnce c (tuplesOf (now (b .entry))) (length (now (list .entry)))) ⌝ }
+    ensures list { λ _. ⌜ now (list .exit) ≡ written (listedAtOnce c (tuplesOf (now (b .entry))) (length (now (list .entry)))) (now (list .entry)) ⌝ }
+{
+    if c.operator != 40 {
+        return 0;
+    }
+    if decode::zero_name(c, decode::reads_of(c.operator)) {
+        return 0;
+    }
+    let sin = Listing::N(Direction::Inpointing);
+    if !listing::surely_fits(b, sin, c, list.len()) {
+        return 0;
+    }
+    let nowhere = Near {
+        space: 0,
+        node: 0,
+        second: 0,
+    };
+    listing::write_listed(b, nowhere, sin, c, list)
+}
 
 // One call on a buffer that the caller has proved to be a store: no check is paid.
 pub fn execute_known(store: &mut [u32], call: Call, list: &mut [u32]) -> Answer
     requires { ⌜ isStore (now store) ≡ true ⌝ }
     ensures { λ r. ⌜ OnStore (now (store .entry)) (now (list .entry)) call r (now (store .exit)) (now (list .exit)) ⌝ }
 {
+    let k = list_at_once(store, call, list);
+    if k != 0 {
+        return Answer::List(k);
+    }
+    let op = decode::operator_of(call.operator);
     let above = conditions::locate_universe(store, call);
     let located = conditions::locate(store, above, call);
     let near = located.near;
     let universe = conditions::also_in_universe(near, above, call);
-    let stop = refusals::refusal_of(store, located, universe, call, list.len());
+    let stop = refusals::refusal_of(store, located, universe, op, call, list.len());
     if stop != 0 {
         return Answer::Refusal(stop);
     }
-    perform::perform(
-        store,
-        near,
-        universe,
-        decode::operator_of(call.operator),
-        call,
-        list,
-    )
+    perform::perform(store, near, universe, op, call, list)
 }
 
 // One call on any buffer, with any numbers as operator and names and any answer list.

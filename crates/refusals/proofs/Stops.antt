@@ -92,7 +92,7 @@ pub would-add : (op known : Operator) (c : Call) (ts : Tuples) (x : ℕ) → op 
 would-add op known c ts x O K X = X ∙ ap (λ (o : Operator). length (missing (wouldAdd o c) ts)) (sym K ∙ O)
 
 -- there are at most C tuples
-tuples-most : (b : List ℕ) → Linked b → length (tuplesOf b) ≤ capacityOf b
+pub tuples-most : (b : List ℕ) → Linked b → length (tuplesOf b) ≤ capacityOf b
 tuples-most b L = omega (arith, length-tuples b, chains-count b _ _ (L .chains))
 
 pub used-fits : (b : List ℕ) (x y : ℕ) → Linked b → x ≡ word b 0 → y ≡ word b 3 → y ≤ x

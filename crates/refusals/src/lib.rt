@@ -32,11 +32,10 @@ fn list_short(b: &[u32], near: Near, l: Listing, c: Call, room: usize) -> bool
 }
 
 // Condition 9: the answer list is shorter than what the call would list; that is nothing but for S.
-fn is_short(b: &[u32], near: Near, c: Call, room: usize) -> bool
-    requires { ⌜ (isStore (now b) ≡ true) × NearIn (now b) near × (noOperator c ≡ false) × (zeroName c ≡ false) ⌝ }
+fn is_short(b: &[u32], near: Near, op: Operator, c: Call, room: usize) -> bool
+    requires { ⌜ (isStore (now b) ≡ true) × NearIn (now b) near × (noOperator c ≡ false) × (zeroName c ≡ false) × (op ≡ operatorOf (c .operator)) ⌝ }
     ensures { λ r. ⌜ r ≡ listShort c (tuplesOf (now (b .entry))) room ⌝ }
 {
-    let op = decode::operator_of(c.operator);
     match op {
         Operator::Create(o) => false,
         Operator::Bind(o) => false,
@@ -48,11 +47,10 @@ fn is_short(b: &[u32], near: Near, c: Call, room: usize) -> bool
 }
 
 // How many tuples the call would add; none but for C.
-fn count_added(b: &[u32], near: Near, universe: Near, c: Call) -> usize
-    requires { ⌜ Linked (now b) × NearIn (now b) near × NearIn (now b) universe ⌝ }
+fn count_added(b: &[u32], near: Near, universe: Near, op: Operator, c: Call) -> usize
+    requires { ⌜ Linked (now b) × NearIn (now b) near × NearIn (now b) universe × (op ≡ operatorOf (c .operator)) ⌝ }
     ensures { λ r. ⌜ r ≡ length (missing (wouldAdd (operatorOf (c .operator)) c) (tuplesOf (now (b .entry)))) ⌝ }
 {
-    let op = decode::operator_of(c.operator);
     match op {
         Operator::Create(o) => operate::count_created(b, near, universe, o, c),
         Operator::Bind(o) => 0,
@@ -72,18 +70,18 @@ fn free_records(b: &[u32]) -> usize
 }
 
 // Condition 10: fewer records are free than the call would add tuples.
-fn is_full(b: &[u32], near: Near, universe: Near, c: Call) -> bool
-    requires { ⌜ Linked (now b) × NearIn (now b) near × NearIn (now b) universe ⌝ }
+fn is_full(b: &[u32], near: Near, universe: Near, op: Operator, c: Call) -> bool
+    requires { ⌜ Linked (now b) × NearIn (now b) near × NearIn (now b) universe × (op ≡ operatorOf (c .operator)) ⌝ }
     ensures { λ r. ⌜ r ≡ full (capacityOf (now (b .entry))) c (tuplesOf (now (b .entry))) ⌝ }
 {
-    free_records(b) < count_added(b, near, universe, c)
+    free_records(b) < count_added(b, near, universe, op, c)
 }
 
 // The number of the first of the conditions 2 to 10 that stops a call on a store; 0 for none. `room` is the length of the call's answer list.
 // pub for the crate above, which has proved that the buffer is a store.
-// `l` tells what the call names in its space; `universe` has hints in UNIVERSE.
-pub fn refusal_of(b: &[u32], l: Located, universe: Near, c: Call, room: usize) -> u32
-    requires { ⌜ (isStore (now b) ≡ true) × Told (now b) c l × NearIn (now b) universe ⌝ }
+// `l` tells what the call names in its space; `universe` has hints in UNIVERSE; `op` is the call's operator.
+pub fn refusal_of(b: &[u32], l: Located, universe: Near, op: Operator, c: Call, room: usize) -> u32
+    requires { ⌜ (isStore (now b) ≡ true) × Told (now b) c l × NearIn (now b) universe × (op ≡ operatorOf (c .operator)) ⌝ }
     ensures { λ r. ⌜ r ≡ stopNumber (refusalOf (capacityOf (now (b .entry))) (tuplesOf (now (b .entry))) c room) ⌝ }
 {
     let near = l.near;
@@ -109,10 +107,10 @@ pub fn refusal_of(b: &[u32], l: Located, universe: Near, c: Call, room: usize) -
     if conditions::edge_absent(b, near, c) {
         return 8;
     }
-    if is_short(b, near, c, room) {
+    if is_short(b, near, op, c, room) {
         return 9;
     }
-    if is_full(b, near, universe, c) {
+    if is_full(b, near, universe, op, c) {
         return 10;
     }
     0

@@ -7,76 +7,70 @@ use Rattle.refusals.proofs.count_added.Statement.{statement}
 use Rattle.refusals.proofs.count_added.Tie as tie
 use Rattle.refusals.proofs.count_added.Reads as reads
 use Rattle.refusals.proofs.count_added.Lts as lts
-use Rattle.decode.proofs.operator_of.Reads as operator-of-reads
 use Rattle.operate.proofs.count_created.Reads as count-created-reads
 
--- src/lib.rt:45:9
-operator-of-requires : tie.Need-operator-of-requires
-operator-of-requires c κs = search needs
-
--- src/lib.rt:47:26
+-- src/lib.rt:55:26
 enum-known-op : tie.Need-enum-known-op
 enum-known-op c = search needs
 
--- src/lib.rt:47:32
+-- src/lib.rt:55:32
 count-created-requires : tie.Need-count-created-requires
 count-created-requires c κs = search needs
 
--- src/lib.rt:48:24
+-- src/lib.rt:56:24
 enum-known-op-2 : tie.Need-enum-known-op-2
 enum-known-op-2 c = search needs
 
--- src/lib.rt:49:25
+-- src/lib.rt:57:25
 enum-known-op-3 : tie.Need-enum-known-op-3
 enum-known-op-3 c = search needs
 
--- src/lib.rt:50:26
+-- src/lib.rt:58:26
 enum-known-op-4 : tie.Need-enum-known-op-4
 enum-known-op-4 c = search needs
 
--- src/lib.rt:51:27
+-- src/lib.rt:59:27
 enum-known-op-5 : tie.Need-enum-known-op-5
 enum-known-op-5 c = search needs
 
--- src/lib.rt:52:24
+-- src/lib.rt:60:24
 enum-known-op-6 : tie.Need-enum-known-op-6
 enum-known-op-6 c = search needs
 
--- src/lib.rt:41:1
+-- src/lib.rt:50:1
 returns : tie.Need-returns
 unfolding wouldAdd missing
-returns c = would-add _ _ (c .before .before .before .before .before .before .args .c) _ _ (c .before .before .before .before .operator-of .ensures) (c .before .before .op .given .1) (c .count-created .ensures)
+returns c = would-add _ _ (c .before .before .before .before .before .args .c) _ _ (c .before .before .before .before .before .pre .3) (c .before .before .op .given .1) (c .count-created .ensures)
 
--- src/lib.rt:41:1
+-- src/lib.rt:50:1
 returns-2 : tie.Need-returns-2
 unfolding wouldAdd missing
-returns-2 c = would-add _ _ (c .before .before .before .before .before .args .c) _ _ (c .before .before .before .operator-of .ensures) (c .before .op2 .given .1) refl
+returns-2 c = would-add _ _ (c .before .before .before .before .args .c) _ _ (c .before .before .before .before .pre .3) (c .before .op2 .given .1) refl
 
--- src/lib.rt:41:1
+-- src/lib.rt:50:1
 returns-3 : tie.Need-returns-3
 unfolding wouldAdd missing
-returns-3 c = would-add _ _ (c .before .before .before .before .before .args .c) _ _ (c .before .before .before .operator-of .ensures) (c .before .op3 .given .1) refl
+returns-3 c = would-add _ _ (c .before .before .before .before .args .c) _ _ (c .before .before .before .before .pre .3) (c .before .op3 .given .1) refl
 
--- src/lib.rt:41:1
+-- src/lib.rt:50:1
 returns-4 : tie.Need-returns-4
 unfolding wouldAdd missing
-returns-4 c = would-add _ _ (c .before .before .before .before .before .args .c) _ _ (c .before .before .before .operator-of .ensures) (c .before .op4 .given .1) refl
+returns-4 c = would-add _ _ (c .before .before .before .before .args .c) _ _ (c .before .before .before .before .pre .3) (c .before .op4 .given .1) refl
 
--- src/lib.rt:41:1
+-- src/lib.rt:50:1
 returns-5 : tie.Need-returns-5
 unfolding wouldAdd missing
-returns-5 c = would-add _ _ (c .before .before .before .before .before .args .c) _ _ (c .before .before .before .operator-of .ensures) (c .before .op5 .given .1) refl
+returns-5 c = would-add _ _ (c .before .before .before .before .args .c) _ _ (c .before .before .before .before .pre .3) (c .before .op5 .given .1) refl
 
--- src/lib.rt:41:1
+-- src/lib.rt:50:1
 returns-6 : tie.Need-returns-6
 unfolding wouldAdd missing
-returns-6 c = would-add _ _ (c .before .before .before .before .before .args .c) _ _ (c .before .before .before .operator-of .ensures) (c .before .op6 .given .1) refl
+returns-6 c = would-add _ _ (c .before .before .before .before .args .c) _ _ (c .before .before .before .before .pre .3) (c .before .op6 .given .1) refl
 
 pub count-added-spec : {M : Type 1} → statement M
 count-added-spec =
     tie.close
     (tie.spec
-    operator-of-requires
     enum-known-op
     count-created-requires
     enum-known-op-2

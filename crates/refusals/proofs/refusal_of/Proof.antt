@@ -82,7 +82,7 @@ returns-7 c = passes _ _ _ _ _ (c .before .before .before .before .before .befor
 
 -- src/lib.rt:99:8
 is-short-requires : tie.Need-is-short-requires
-is-short-requires c κs = (c .before .before .before .before .before .before .before .before .before .before .before .before .before .before .before .before .before .pre .0, c .before .before .before .before .before .before .before .before .before .before .before .before .before .before .before .before .before .pre .1 .near, sym (c .before .before .before .before .before .before .before .before .before .before .before .before .before .no-operator .ensures) ∙ c .before .before .before .before .before .before .before .before .before .before .before .before .if1 .left, sym (c .before .before .before .before .before .before .before .before .before .before .before .zero-name .ensures) ∙ c .before .before .before .before .before .before .before .before .before .before .if2 .left)
+is-short-requires c κs = (c .before .before .before .before .before .before .before .before .before .before .before .before .before .before .before .before .before .pre .0, c .before .before .before .before .before .before .before .before .before .before .before .before .before .before .before .before .before .pre .1 .near, sym (c .before .before .before .before .before .before .before .before .before .before .before .before .before .no-operator .ensures) ∙ c .before .before .before .before .before .before .before .before .before .before .before .before .if1 .left, sym (c .before .before .before .before .before .before .before .before .before .before .before .zero-name .ensures) ∙ c .before .before .before .before .before .before .before .before .before .before .if2 .left, c .before .before .before .before .before .before .before .before .before .before .before .before .before .before .before .before .before .pre .3)
 
 -- src/lib.rt:100:9
 returns-8 : tie.Need-returns-8
@@ -91,7 +91,7 @@ returns-8 c = passes _ _ _ _ _ (c .before .before .before .before .before .befor
 
 -- src/lib.rt:102:8
 is-full-requires : tie.Need-is-full-requires
-is-full-requires c κs = (store-linked _ (c .before .before .before .before .before .before .before .before .before .before .before .before .before .before .before .before .before .before .before .pre .0), c .before .before .before .before .before .before .before .before .before .before .before .before .before .before .before .before .before .before .before .pre .1 .near, c .before .before .before .before .before .before .before .before .before .before .before .before .before .before .before .before .before .before .before .pre .2)
+is-full-requires c κs = (store-linked _ (c .before .before .before .before .before .before .before .before .before .before .before .before .before .before .before .before .before .before .before .pre .0), c .before .before .before .before .before .before .before .before .before .before .before .before .before .before .before .before .before .before .before .pre .1 .near, c .before .before .before .before .before .before .before .before .before .before .before .before .before .before .before .before .before .before .before .pre .2, c .before .before .before .before .before .before .before .before .before .before .before .before .before .before .before .before .before .before .before .pre .3)
 
 -- src/lib.rt:103:9
 returns-9 : tie.Need-returns-9
