@@ -46,15 +46,15 @@ pub fn execute_known(store: &mut [u32], call: Call, list: &mut [u32]) -> Answer
     if k != 0 {
         return Answer::List(k);
     }
-    let op = decode::operator_of(call.operator);
     let above = conditions::locate_universe(store, call);
     let located = conditions::locate(store, above, call);
     let near = located.near;
     let universe = conditions::also_in_universe(near, above, call);
-    let stop = refusals::refusal_of(store, located, universe, op, call, list.len());
+    let stop = refusals::refusal_of(store, located, universe, call, list.len());
     if stop != 0 {
         return Answer::Refusal(stop);
     }
+    let op = decode::operator_of(call.operator);
     perform::perform(store, near, universe, op, call, list)
 }
 

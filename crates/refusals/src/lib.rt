@@ -79,9 +79,9 @@ fn is_full(b: &[u32], near: Near, universe: Near, op: Operator, c: Call) -> bool
 
 // The number of the first of the conditions 2 to 10 that stops a call on a store; 0 for none. `room` is the length of the call's answer list.
 // pub for the crate above, which has proved that the buffer is a store.
-// `l` tells what the call names in its space; `universe` has hints in UNIVERSE; `op` is the call's operator.
-pub fn refusal_of(b: &[u32], l: Located, universe: Near, op: Operator, c: Call, room: usize) -> u32
-    requires { ⌜ (isStore (now b) ≡ true) × Told (now b) c l × NearIn (now b) universe × (op ≡ operatorOf (c .operator)) ⌝ }
+// `l` tells what the call names in its space; `universe` has hints in UNIVERSE. The operator is decoded where no condition on names stops the call.
+pub fn refusal_of(b: &[u32], l: Located, universe: Near, c: Call, room: usize) -> u32
+    requires { ⌜ (isStore (now b) ≡ true) × Told (now b) c l × NearIn (now b) universe ⌝ }
     ensures { λ r. ⌜ r ≡ stopNumber (refusalOf (capacityOf (now (b .entry))) (tuplesOf (now (b .entry))) c room) ⌝ }
 {
     let near = l.near;
@@ -107,6 +107,7 @@ pub fn refusal_of(b: &[u32], l: Located, universe: Near, op: Operator, c: Call, 
     if conditions::edge_absent(b, near, c) {
         return 8;
     }
+    let op = decode::operator_of(c.operator);
     if is_short(b, near, op, c, room) {
         return 9;
     }

@@ -32,17 +32,13 @@ same-length-2 c = search needs
 returns : tie.Need-returns
 returns c = at-once-known _ _ _ (c .before .before .before .before .before .before .before .before .args .call) _ (c .before .before .before .before .before .before .before .before .pre) (c .before .before .before .list-at-once .ensures .0) (c .if1 .taken) (c .before .before .before .list-at-once .ensures .1)
 
--- src/lib.rt:49:9
-operator-of-requires : tie.Need-operator-of-requires
-operator-of-requires c κs = search needs
-
 -- src/lib.rt:50:9
 locate-universe-requires : tie.Need-locate-universe-requires
-locate-universe-requires c κs = store-linked _ (c .before .before .before .before .before .before .before .before .before .before .pre)
+locate-universe-requires c κs = store-linked _ (c .before .before .before .before .before .before .before .before .before .pre)
 
 -- src/lib.rt:51:9
 locate-requires : tie.Need-locate-requires
-locate-requires c κs = (store-linked _ (c .before .before .before .before .before .before .before .before .before .before .before .before .pre), universe-near _ (store-linked _ (c .before .before .before .before .before .before .before .before .before .before .before .before .pre)) _ _ (c .before .locate-universe .ensures))
+locate-requires c κs = (store-linked _ (c .before .before .before .before .before .before .before .before .before .before .before .pre), universe-near _ (store-linked _ (c .before .before .before .before .before .before .before .before .before .before .before .pre)) _ _ (c .before .locate-universe .ensures))
 
 -- src/lib.rt:53:9
 also-in-universe-requires : tie.Need-also-in-universe-requires
@@ -50,9 +46,9 @@ also-in-universe-requires c κs = search needs
 
 -- src/lib.rt:54:9
 refusal-of-requires : tie.Need-refusal-of-requires
-refusal-of-requires c κs = let L = store-linked _ (c .before .before .before .before .before .before .before .before .before .before .before .before .before .before .before .before .pre) in
+refusal-of-requires c κs = let L = store-linked _ (c .before .before .before .before .before .before .before .before .before .before .before .before .before .before .before .pre) in
     let T = located-told _ L _ _ (c .before .before .before .locate .ensures .0) in
-    (c .before .before .before .before .before .before .before .before .before .before .before .before .before .before .before .before .pre, T, also-near _ L _ _ _ _ (T .near) (universe-near _ L _ _ (c .before .before .before .before .before .locate-universe .ensures)) (c .before .also-in-universe .ensures), c .before .before .before .before .before .before .before .operator-of .ensures)
+    (c .before .before .before .before .before .before .before .before .before .before .before .before .before .before .before .pre, T, also-near _ L _ _ _ _ (T .near) (universe-near _ L _ _ (c .before .before .before .before .before .locate-universe .ensures)) (c .before .also-in-universe .ensures))
 
 -- src/lib.rt:56:9
 same-length-3 : tie.Need-same-length-3
@@ -64,17 +60,21 @@ same-length-4 c = search needs
 
 -- src/lib.rt:56:9
 returns-2 : tie.Need-returns-2
-returns-2 c = as-it-was _ _ _ _ _ (c .before .before .before .before .before .before .before .before .before .before .before .before .before .before .before .before .before .before .args .call) _ (none-listed _ _ _ _ (c .before .before .before .before .before .before .before .before .before .before .before .before .before .list-at-once .ensures .0) (c .before .before .before .before .before .before .before .before .before .before .if1 .left) (c .before .before .before .before .before .before .before .before .before .before .before .before .before .list-at-once .ensures .1))
-    (refused-known _ _ _ _ (c .before .before .before .before .before .before .before .before .before .before .before .before .before .before .before .before .before .before .pre) (c .before .refusal-of .ensures) (c .if2 .taken))
+returns-2 c = as-it-was _ _ _ _ _ (c .before .before .before .before .before .before .before .before .before .before .before .before .before .before .before .before .before .args .call) _ (none-listed _ _ _ _ (c .before .before .before .before .before .before .before .before .before .before .before .before .list-at-once .ensures .0) (c .before .before .before .before .before .before .before .before .before .if1 .left) (c .before .before .before .before .before .before .before .before .before .before .before .before .list-at-once .ensures .1))
+    (refused-known _ _ _ _ (c .before .before .before .before .before .before .before .before .before .before .before .before .before .before .before .before .before .pre) (c .before .refusal-of .ensures) (c .if2 .taken))
+
+-- src/lib.rt:49:9
+operator-of-requires : tie.Need-operator-of-requires
+operator-of-requires c κs = search needs
 
 -- src/lib.rt:58:5
 perform-requires : tie.Need-perform-requires
 perform-requires c κs = let L = store-linked _ (c .before .before .before .before .before .before .before .before .before .before .before .before .before .before .before .before .before .before .before .before .pre) in
-    let T = located-told _ L _ _ (c .before .before .before .before .before .before .before .locate .ensures .0) in (
+    let T = located-told _ L _ _ (c .before .before .before .before .before .before .before .before .locate .ensures .0) in (
       c .before .before .before .before .before .before .before .before .before .before .before .before .before .before .before .before .before .before .before .before .pre,
       T .near,
-      also-near _ L _ _ _ _ (T .near) (universe-near _ L _ _ (c .before .before .before .before .before .before .before .before .before .locate-universe .ensures)) (c .before .before .before .before .before .also-in-universe .ensures),
-      let-pass _ (c .before .before .before .before .before .before .before .before .before .before .before .before .before .before .before .before .before .before .before .before .args .call) _ _ _ (c .before .before .before .refusal-of .ensures) (c .before .before .if2 .left) (c .before .before .before .before .before .before .before .before .before .before .before .operator-of .ensures),
+      also-near _ L _ _ _ _ (T .near) (universe-near _ L _ _ (c .before .before .before .before .before .before .before .before .before .before .locate-universe .ensures)) (c .before .before .before .before .before .before .also-in-universe .ensures),
+      let-pass _ (c .before .before .before .before .before .before .before .before .before .before .before .before .before .before .before .before .before .before .before .before .args .call) _ _ _ (c .before .before .before .before .refusal-of .ensures) (c .before .before .before .if2 .left) (c .before .before .operator-of .ensures),
     )
 
 -- src/lib.rt:41:1
@@ -88,7 +88,7 @@ same-length-6 c = c .before .list2 .given ∙ c .before .before .before .before 
 -- src/lib.rt:41:1
 returns-3 : tie.Need-returns-3
 returns-3 c = as-it-was _ _ _ _ _ (c .before .before .before .before .before .before .before .before .before .before .before .before .before .before .before .before .before .before .before .before .before .before .before .before .before .args .call) _ (none-listed _ _ _ _ (c .before .before .before .before .before .before .before .before .before .before .before .before .before .before .before .before .before .before .before .before .list-at-once .ensures .0) (c .before .before .before .before .before .before .before .before .before .before .before .before .before .before .before .before .before .if1 .left) (c .before .before .before .before .before .before .before .before .before .before .before .before .before .before .before .before .before .before .before .before .list-at-once .ensures .1))
-    (performed-known _ _ _ _ (c .before .before .before .before .before .before .before .before .before .before .before .before .before .before .before .before .before .before .before .before .before .before .before .before .before .args .call) _ _ _ (c .before .before .before .before .before .before .before .before .before .before .before .before .before .before .before .before .before .before .before .before .before .before .before .before .before .pre) (c .before .before .before .before .before .before .before .before .before .before .before .before .locate .ensures .1) (c .before .before .before .before .before .before .before .before .refusal-of .ensures) (c .before .before .before .before .before .before .before .if2 .left) (c .before .before .before .before .before .before .before .before .before .before .before .before .before .before .before .before .operator-of .ensures) (c .before .before .before .before .perform .ensures))
+    (performed-known _ _ _ _ (c .before .before .before .before .before .before .before .before .before .before .before .before .before .before .before .before .before .before .before .before .before .before .before .before .before .args .call) _ _ _ (c .before .before .before .before .before .before .before .before .before .before .before .before .before .before .before .before .before .before .before .before .before .before .before .before .before .pre) (c .before .before .before .before .before .before .before .before .before .before .before .before .before .locate .ensures .1) (c .before .before .before .before .before .before .before .before .before .refusal-of .ensures) (c .before .before .before .before .before .before .before .before .if2 .left) (c .before .before .before .before .before .before .before .operator-of .ensures) (c .before .before .before .before .perform .ensures))
 
 pub execute-known-spec : {M : Type 1} → statement M
 execute-known-spec =
@@ -98,7 +98,6 @@ execute-known-spec =
     same-length
     same-length-2
     returns
-    operator-of-requires
     locate-universe-requires
     locate-requires
     also-in-universe-requires
@@ -106,6 +105,7 @@ execute-known-spec =
     same-length-3
     same-length-4
     returns-2
+    operator-of-requires
     perform-requires
     same-length-5
     same-length-6

@@ -13,6 +13,7 @@ use Rattle.conditions.proofs.second_absent.Reads as second-absent-reads
 use Rattle.conditions.proofs.space_absent.Reads as space-absent-reads
 use Rattle.decode.proofs.destroys_universe.Reads as destroys-universe-reads
 use Rattle.decode.proofs.no_operator.Reads as no-operator-reads
+use Rattle.decode.proofs.operator_of.Reads as operator-of-reads
 use Rattle.decode.proofs.zero_name.Reads as zero-name-reads
 use Rattle.refusals.proofs.is_full.Reads as is-full-reads
 use Rattle.refusals.proofs.is_short.Reads as is-short-reads
@@ -81,27 +82,30 @@ unfolding ofCall ofTuples earlier refusalOf
 returns-7 c = passes _ _ _ _ _ (c .before .before .before .before .before .before .before .before .before .before .before .before .before .no-operator .ensures) (c .before .before .before .before .before .before .before .before .before .before .before .before .if1 .left) (passes _ _ _ _ _ (c .before .before .before .before .before .before .before .before .before .before .before .zero-name .ensures) (c .before .before .before .before .before .before .before .before .before .before .if2 .left) (passes _ _ _ _ _ (c .before .before .before .before .before .before .before .before .before .destroys-universe .ensures) (c .before .before .before .before .before .before .before .before .if3 .left) (passes _ _ _ _ _ (c .before .before .before .before .before .before .before .space-absent .ensures) (c .before .before .before .before .before .before .if4 .left) (passes _ _ _ _ _ (c .before .before .before .before .before .node-absent .ensures) (c .before .before .before .before .if5 .left) (passes _ _ _ _ _ (c .before .before .before .second-absent .ensures) (c .before .before .if6 .left) (stops _ _ _ _ (c .before .edge-absent .ensures) (c .if7 .taken)))))))
 
 -- src/lib.rt:99:8
+operator-of-requires : tie.Need-operator-of-requires
+operator-of-requires c κs = search needs
+
 is-short-requires : tie.Need-is-short-requires
-is-short-requires c κs = (c .before .before .before .before .before .before .before .before .before .before .before .before .before .before .before .before .before .pre .0, c .before .before .before .before .before .before .before .before .before .before .before .before .before .before .before .before .before .pre .1 .near, sym (c .before .before .before .before .before .before .before .before .before .before .before .before .before .no-operator .ensures) ∙ c .before .before .before .before .before .before .before .before .before .before .before .before .if1 .left, sym (c .before .before .before .before .before .before .before .before .before .before .before .zero-name .ensures) ∙ c .before .before .before .before .before .before .before .before .before .before .if2 .left, c .before .before .before .before .before .before .before .before .before .before .before .before .before .before .before .before .before .pre .3)
+is-short-requires c κs = (c .before .before .before .before .before .before .before .before .before .before .before .before .before .before .before .before .before .before .pre .0, c .before .before .before .before .before .before .before .before .before .before .before .before .before .before .before .before .before .before .pre .1 .near, sym (c .before .before .before .before .before .before .before .before .before .before .before .before .before .before .no-operator .ensures) ∙ c .before .before .before .before .before .before .before .before .before .before .before .before .before .if1 .left, sym (c .before .before .before .before .before .before .before .before .before .before .before .before .zero-name .ensures) ∙ c .before .before .before .before .before .before .before .before .before .before .before .if2 .left, c .operator-of .ensures)
 
 -- src/lib.rt:100:9
 returns-8 : tie.Need-returns-8
 unfolding ofCall ofTuples earlier refusalOf
-returns-8 c = passes _ _ _ _ _ (c .before .before .before .before .before .before .before .before .before .before .before .before .before .before .before .no-operator .ensures) (c .before .before .before .before .before .before .before .before .before .before .before .before .before .before .if1 .left) (passes _ _ _ _ _ (c .before .before .before .before .before .before .before .before .before .before .before .before .before .zero-name .ensures) (c .before .before .before .before .before .before .before .before .before .before .before .before .if2 .left) (passes _ _ _ _ _ (c .before .before .before .before .before .before .before .before .before .before .before .destroys-universe .ensures) (c .before .before .before .before .before .before .before .before .before .before .if3 .left) (passes _ _ _ _ _ (c .before .before .before .before .before .before .before .before .before .space-absent .ensures) (c .before .before .before .before .before .before .before .before .if4 .left) (passes _ _ _ _ _ (c .before .before .before .before .before .before .before .node-absent .ensures) (c .before .before .before .before .before .before .if5 .left) (passes _ _ _ _ _ (c .before .before .before .before .before .second-absent .ensures) (c .before .before .before .before .if6 .left) (passes _ _ _ _ _ (c .before .before .before .edge-absent .ensures) (c .before .before .if7 .left) (stops _ _ _ _ (c .before .is-short .ensures) (c .if8 .taken))))))))
+returns-8 c = passes _ _ _ _ _ (c .before .before .before .before .before .before .before .before .before .before .before .before .before .before .before .before .no-operator .ensures) (c .before .before .before .before .before .before .before .before .before .before .before .before .before .before .before .if1 .left) (passes _ _ _ _ _ (c .before .before .before .before .before .before .before .before .before .before .before .before .before .before .zero-name .ensures) (c .before .before .before .before .before .before .before .before .before .before .before .before .before .if2 .left) (passes _ _ _ _ _ (c .before .before .before .before .before .before .before .before .before .before .before .before .destroys-universe .ensures) (c .before .before .before .before .before .before .before .before .before .before .before .if3 .left) (passes _ _ _ _ _ (c .before .before .before .before .before .before .before .before .before .before .space-absent .ensures) (c .before .before .before .before .before .before .before .before .before .if4 .left) (passes _ _ _ _ _ (c .before .before .before .before .before .before .before .before .node-absent .ensures) (c .before .before .before .before .before .before .before .if5 .left) (passes _ _ _ _ _ (c .before .before .before .before .before .before .second-absent .ensures) (c .before .before .before .before .before .if6 .left) (passes _ _ _ _ _ (c .before .before .before .before .edge-absent .ensures) (c .before .before .before .if7 .left) (stops _ _ _ _ (c .before .is-short .ensures) (c .if8 .taken))))))))
 
 -- src/lib.rt:102:8
 is-full-requires : tie.Need-is-full-requires
-is-full-requires c κs = (store-linked _ (c .before .before .before .before .before .before .before .before .before .before .before .before .before .before .before .before .before .before .before .pre .0), c .before .before .before .before .before .before .before .before .before .before .before .before .before .before .before .before .before .before .before .pre .1 .near, c .before .before .before .before .before .before .before .before .before .before .before .before .before .before .before .before .before .before .before .pre .2, c .before .before .before .before .before .before .before .before .before .before .before .before .before .before .before .before .before .before .before .pre .3)
+is-full-requires c κs = (store-linked _ (c .before .before .before .before .before .before .before .before .before .before .before .before .before .before .before .before .before .before .before .before .pre .0), c .before .before .before .before .before .before .before .before .before .before .before .before .before .before .before .before .before .before .before .before .pre .1 .near, c .before .before .before .before .before .before .before .before .before .before .before .before .before .before .before .before .before .before .before .before .pre .2, c .before .before .operator-of .ensures)
 
 -- src/lib.rt:103:9
 returns-9 : tie.Need-returns-9
 unfolding ofCall ofTuples earlier refusalOf
-returns-9 c = passes _ _ _ _ _ (c .before .before .before .before .before .before .before .before .before .before .before .before .before .before .before .before .before .no-operator .ensures) (c .before .before .before .before .before .before .before .before .before .before .before .before .before .before .before .before .if1 .left) (passes _ _ _ _ _ (c .before .before .before .before .before .before .before .before .before .before .before .before .before .before .before .zero-name .ensures) (c .before .before .before .before .before .before .before .before .before .before .before .before .before .before .if2 .left) (passes _ _ _ _ _ (c .before .before .before .before .before .before .before .before .before .before .before .before .before .destroys-universe .ensures) (c .before .before .before .before .before .before .before .before .before .before .before .before .if3 .left) (passes _ _ _ _ _ (c .before .before .before .before .before .before .before .before .before .before .before .space-absent .ensures) (c .before .before .before .before .before .before .before .before .before .before .if4 .left) (passes _ _ _ _ _ (c .before .before .before .before .before .before .before .before .before .node-absent .ensures) (c .before .before .before .before .before .before .before .before .if5 .left) (passes _ _ _ _ _ (c .before .before .before .before .before .before .before .second-absent .ensures) (c .before .before .before .before .before .before .if6 .left) (passes _ _ _ _ _ (c .before .before .before .before .before .edge-absent .ensures) (c .before .before .before .before .if7 .left) (passes _ _ _ _ _ (c .before .before .before .is-short .ensures) (c .before .before .if8 .left) (stops _ _ _ _ (c .before .is-full .ensures) (c .if9 .taken)))))))))
+returns-9 c = passes _ _ _ _ _ (c .before .before .before .before .before .before .before .before .before .before .before .before .before .before .before .before .before .before .no-operator .ensures) (c .before .before .before .before .before .before .before .before .before .before .before .before .before .before .before .before .before .if1 .left) (passes _ _ _ _ _ (c .before .before .before .before .before .before .before .before .before .before .before .before .before .before .before .before .zero-name .ensures) (c .before .before .before .before .before .before .before .before .before .before .before .before .before .before .before .if2 .left) (passes _ _ _ _ _ (c .before .before .before .before .before .before .before .before .before .before .before .before .before .before .destroys-universe .ensures) (c .before .before .before .before .before .before .before .before .before .before .before .before .before .if3 .left) (passes _ _ _ _ _ (c .before .before .before .before .before .before .before .before .before .before .before .before .space-absent .ensures) (c .before .before .before .before .before .before .before .before .before .before .before .if4 .left) (passes _ _ _ _ _ (c .before .before .before .before .before .before .before .before .before .before .node-absent .ensures) (c .before .before .before .before .before .before .before .before .before .if5 .left) (passes _ _ _ _ _ (c .before .before .before .before .before .before .before .before .second-absent .ensures) (c .before .before .before .before .before .before .before .if6 .left) (passes _ _ _ _ _ (c .before .before .before .before .before .before .edge-absent .ensures) (c .before .before .before .before .before .if7 .left) (passes _ _ _ _ _ (c .before .before .before .is-short .ensures) (c .before .before .if8 .left) (stops _ _ _ _ (c .before .is-full .ensures) (c .if9 .taken)))))))))
 
 -- src/lib.rt:74:1
 returns-10 : tie.Need-returns-10
 unfolding ofCall ofTuples earlier refusalOf
-returns-10 c = passes _ _ _ _ _ (c .before .before .before .before .before .before .before .before .before .before .before .before .before .before .before .before .before .no-operator .ensures) (c .before .before .before .before .before .before .before .before .before .before .before .before .before .before .before .before .if1 .left) (passes _ _ _ _ _ (c .before .before .before .before .before .before .before .before .before .before .before .before .before .before .before .zero-name .ensures) (c .before .before .before .before .before .before .before .before .before .before .before .before .before .before .if2 .left) (passes _ _ _ _ _ (c .before .before .before .before .before .before .before .before .before .before .before .before .before .destroys-universe .ensures) (c .before .before .before .before .before .before .before .before .before .before .before .before .if3 .left) (passes _ _ _ _ _ (c .before .before .before .before .before .before .before .before .before .before .before .space-absent .ensures) (c .before .before .before .before .before .before .before .before .before .before .if4 .left) (passes _ _ _ _ _ (c .before .before .before .before .before .before .before .before .before .node-absent .ensures) (c .before .before .before .before .before .before .before .before .if5 .left) (passes _ _ _ _ _ (c .before .before .before .before .before .before .before .second-absent .ensures) (c .before .before .before .before .before .before .if6 .left) (passes _ _ _ _ _ (c .before .before .before .before .before .edge-absent .ensures) (c .before .before .before .before .if7 .left) (passes _ _ _ _ _ (c .before .before .before .is-short .ensures) (c .before .before .if8 .left) (passes _ _ _ _ _ (c .before .is-full .ensures) (c .if9 .left) nothing-left))))))))
+returns-10 c = passes _ _ _ _ _ (c .before .before .before .before .before .before .before .before .before .before .before .before .before .before .before .before .before .before .no-operator .ensures) (c .before .before .before .before .before .before .before .before .before .before .before .before .before .before .before .before .before .if1 .left) (passes _ _ _ _ _ (c .before .before .before .before .before .before .before .before .before .before .before .before .before .before .before .before .zero-name .ensures) (c .before .before .before .before .before .before .before .before .before .before .before .before .before .before .before .if2 .left) (passes _ _ _ _ _ (c .before .before .before .before .before .before .before .before .before .before .before .before .before .before .destroys-universe .ensures) (c .before .before .before .before .before .before .before .before .before .before .before .before .before .if3 .left) (passes _ _ _ _ _ (c .before .before .before .before .before .before .before .before .before .before .before .before .space-absent .ensures) (c .before .before .before .before .before .before .before .before .before .before .before .if4 .left) (passes _ _ _ _ _ (c .before .before .before .before .before .before .before .before .before .before .node-absent .ensures) (c .before .before .before .before .before .before .before .before .before .if5 .left) (passes _ _ _ _ _ (c .before .before .before .before .before .before .before .before .second-absent .ensures) (c .before .before .before .before .before .before .before .if6 .left) (passes _ _ _ _ _ (c .before .before .before .before .before .before .edge-absent .ensures) (c .before .before .before .before .before .if7 .left) (passes _ _ _ _ _ (c .before .before .before .is-short .ensures) (c .before .before .if8 .left) (passes _ _ _ _ _ (c .before .is-full .ensures) (c .if9 .left) nothing-left))))))))
 
 pub refusal-of-spec : {M : Type 1} → statement M
 refusal-of-spec =
@@ -121,6 +125,7 @@ refusal-of-spec =
     returns-6
     edge-absent-requires
     returns-7
+    operator-of-requires
     is-short-requires
     returns-8
     is-full-requires
