@@ -1,3 +1,4 @@
 pub mod Outcomes
 pub mod Apart
 pub mod Lists
+pub mod PairLists

@@ -66,8 +66,12 @@ prepared-c raw b C r P e = go (fitsLength raw) refl
     go true same = (omega (arith, numbered true same), P .preparing .inside same .1)
     go false same = absurd (omega (arith, numbered false same))
 
+-- where `gaffdamson_prepare` answers the number of C, the same
+pub c-prepared : (raw b : List ℕ) (C : ℕ) → PreparedFromC raw (packedPreparation (Capacity C)) b → (capacityOf raw ≡ C) × Prepared raw b
+c-prepared raw b C P = prepared-c raw b C _ (prepared-from-c P) refl
+
 -- demand 3: for every C that preparing answers, the buffer that it leaves and every list of calls
 pub c-demand-3 : (raw b b′ : List ℕ) (C : ℕ) (xs : List CallMade) → PreparedFromC raw (packedPreparation (Capacity C)) b → CalledFromC b xs b′ → WholeList C fresh xs b′
 c-demand-3 raw b b′ C xs P calls =
-    let Q = prepared-c raw b C _ (prepared-from-c P) refl in
+    let Q = c-prepared raw b C P in
     prepared-demand-3 raw b b′ C xs (Q .0) (Q .1) (called-trace calls)

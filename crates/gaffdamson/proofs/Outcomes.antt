@@ -1,22 +1,24 @@
 -- What the C functions answer and leave, from what the functions below them say.
 use mathlib.Core.Bool.{Bool, true, false, cond}
-use mathlib.Core.List.{List}
+use mathlib.Core.List.{List, map}
 use mathlib.Core.Path.{_≡_, refl, sym, ap, _∙_, subst}
 use Prim.Native.Nat.{ℕ, _≤_}
 use native.Mathlib.Omega.{arith}
-use lib.ListN.{length}
+use lib.ListN.{length, length-map}
 use Rattle.model.specs.declared.Answer.{Answer}
 use Rattle.model.specs.declared.Answer.the-variants.{Refusal}
 use Rattle.model.specs.declared.Call.{Call}
+use Rattle.model.specs.declared.Pair.{Pair}
 use Rattle.model.specs.declared.Preparation.{Preparation}
 use Rattle.model.specs.declared.Preparation.the-variants.{Refused, Capacity}
 use Rattle.model.specs.Machine.{machine}
 use Rattle.model.specs.Buffer.{fitsLength, capacityOf, tuplesOf, isStore, Preparing}
-use Rattle.model.specs.OneCall.{answerOf, listCount, OneCall}
+use Rattle.model.specs.OneCall.{answerOf, listCount, pack, OneCall}
 use Rattle.calls.proofs.Counts.{answer-most}
 use Rattle.fresh.specs.Prepare.{afterPreparing}
+use Rattle.pairs.specs.InPairs.{CallInPairs}
 use Rattle.gaffdamson.specs.Numbers.{PackedAs, packedPreparation}
-use Rattle.gaffdamson.specs.Calls.{answerOn, Called, preparationOf, PreparedAs}
+use Rattle.gaffdamson.specs.Calls.{answerOn, Called, CalledInPairs, preparationOf, PreparedAs}
 
 module _ (b l b′ l′ : List ℕ) (c : Call) (a : Answer) (O : OneCall b l c a b′ l′) where
   -- how many pairs an answer lists fits in a word
@@ -46,6 +48,22 @@ module _ (b l b′ l′ : List ℕ) (c : Call) (a : Answer) (O : OneCall b l c a
       (record {
         answer = subst (λ (x : Answer). PackedAs x r) answer-on e;
         call = subst (λ (x : Answer). OneCall b l c x b′ l′) answer-on O;
+      })
+
+module _ (b : List ℕ) (l : List Pair) (b′ : List ℕ) (l′ : List Pair) (c : Call) (a : Answer) (P : CallInPairs b l c a b′ l′) where
+  -- the same of a call with a list of pairs
+  pub pairs-counted : listCount a ≤ 4294967295
+  pairs-counted = answer-counted b (map pack l) b′ (map pack l′) c a (P .call)
+
+  answer-on-pairs : a ≡ answerOn b c (length l)
+  answer-on-pairs = answer-on b (map pack l) b′ (map pack l′) c a (P .call) ∙ ap (answerOn b c) (length-map l pack)
+
+  pub called-in-pairs : (c′ : Call) (r : ℕ) → c ≡ c′ → PackedAs a r → CalledInPairs b l c′ r b′ l′
+  called-in-pairs c′ r same e =
+      subst (λ (x : Call). CalledInPairs b l x r b′ l′) same
+      (record {
+        answer = subst (λ (x : Answer). PackedAs x r) answer-on-pairs e;
+        call = subst (λ (x : Answer). CallInPairs b l c x b′ l′) answer-on-pairs P;
       })
 
 preparation-of : (b b′ : List ℕ) (p : Preparation) → Preparing b p b′ → p ≡ preparationOf b

@@ -1,5 +1,5 @@
 -- What the C functions take and do: the fields of a call as numbers; preparing and one call, with their answers as numbers.
-use mathlib.Core.Bool.{Bool, true, false, cond}
+use mathlib.Core.Bool.{cond}
 use mathlib.Core.List.{List}
 use mathlib.Core.Path.{_≡_}
 use Prim.Native.Nat.{ℕ}
@@ -7,12 +7,14 @@ use lib.ListN.{length}
 use Rattle.model.specs.declared.Answer.{Answer}
 use Rattle.model.specs.declared.Answer.the-variants.{Refusal}
 use Rattle.model.specs.declared.Call.{Call}
+use Rattle.model.specs.declared.Pair.{Pair}
 use Rattle.model.specs.declared.Preparation.{Preparation}
 use Rattle.model.specs.declared.Preparation.the-variants.{Refused, Capacity}
 use Rattle.model.specs.Machine.{machine}
 use Rattle.model.specs.Buffer.{fitsLength, capacityOf, tuplesOf, isStore, Preparing}
 use Rattle.model.specs.OneCall.{answerOf, OneCall}
 use Rattle.fresh.specs.Prepare.{afterPreparing}
+use Rattle.pairs.specs.InPairs.{CallInPairs}
 use Rattle.run.specs.Words.{spaceOf}
 use Rattle.gaffdamson.specs.Numbers.{PackedAs, packedPreparation}
 
@@ -38,6 +40,11 @@ answerOn b c room = cond (isStore b) (answerOf (machine (capacityOf b) (tuplesOf
 pub record Called (b l : List ℕ) (c : Call) (r : ℕ) (b′ l′ : List ℕ) : Type 0 where
   pub answer : PackedAs (answerOn b c (length l)) r
   pub call : OneCall b l c (answerOn b c (length l)) b′ l′
+
+-- the same with a list of pairs
+pub record CalledInPairs (b : List ℕ) (l : List Pair) (c : Call) (r : ℕ) (b′ : List ℕ) (l′ : List Pair) : Type 0 where
+  pub answer : PackedAs (answerOn b c (length l)) r
+  pub call : CallInPairs b l c (answerOn b c (length l)) b′ l′
 
 -- ---- preparing
 

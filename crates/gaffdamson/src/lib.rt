@@ -3,6 +3,7 @@ use model::Answer;
 use model::Call;
 use model::EdgeName;
 use model::NodeName;
+use model::Pair;
 use model::Preparation;
 ghost use mathlib.Core.Path.{_≡_};
 ghost use Prim.Native.Nat.{_≤_};
@@ -11,7 +12,7 @@ ghost use Rattle.model.specs.OneCall.{listCount};
 ghost use Rattle.run.specs.Words.{bitOf};
 ghost use Rattle.run.specs.Runs.{Ran};
 ghost use Rattle.gaffdamson.specs.Numbers.{packed, PackedAs, packedPreparation};
-ghost use Rattle.gaffdamson.specs.Calls.{callOf, Called, PreparedAs};
+ghost use Rattle.gaffdamson.specs.Calls.{callOf, Called, CalledInPairs, PreparedAs};
 
 // A kind and what it carries, in one number.
 fn pack(kind: u32, number: u32) -> u64
@@ -89,6 +90,26 @@ pub extern "C" fn gaffdamson_call(
 {
     let call = call_of(operator, n, g, m, v, form, s);
     let answer = calls::execute(store, call, list);
+    pack_answer(answer)
+}
+
+// One call on any buffer; pairs stand in the answer list as structs.
+#[no_mangle]
+pub extern "C" fn gaffdamson_call_pairs(
+    store: &mut [u32],
+    operator: u32,
+    n: u16,
+    g: u16,
+    m: u16,
+    v: u32,
+    form: u32,
+    s: u16,
+    list: &mut [Pair],
+) -> u64
+    ensures { λ r. ⌜ CalledInPairs (now (store .entry)) (now (list .entry)) (callOf operator n g m v form s) r (now (store .exit)) (now (list .exit)) ⌝ }
+{
+    let call = call_of(operator, n, g, m, v, form, s);
+    let answer = pairs::execute_pairs(store, call, list);
     pack_answer(answer)
 }
 

@@ -3,7 +3,7 @@
 use mathlib.Core.Bool.{true}
 use mathlib.Core.List.{List, [], _∷_, map}
 use mathlib.Core.Option.{Option, none, some}
-use mathlib.Core.Path.{_≡_, refl, ap, ap₂, _∙_, subst}
+use mathlib.Core.Path.{_≡_, refl, ap, ap₂, _∙_}
 use Prim.Native.Nat.{ℕ, _-_, _/_}
 use lib.ListN.{length, drop, length-map}
 use lib.Seq.{take-at}
@@ -23,13 +23,12 @@ use Rattle.model.specs.Operators.{operatorOf}
 use Rattle.model.specs.Steps.{pairs, listed, reply}
 use Rattle.model.specs.Refusals.{refusalOf}
 use Rattle.model.specs.Machine.{State, outcomeOf, machine, answers}
-use Rattle.model.specs.Buffer.{capacityOf, tuplesOf, isStore}
+use Rattle.model.specs.Buffer.{capacityOf, tuplesOf, isStore, Prepared}
 use Rattle.model.specs.OneCall.{answerOf, pack}
 use Rattle.model.specs.CallLists.{Trace, end, then}
-use Rattle.model.proofs.CallLists.{any-store}
 use Rattle.model.proofs.Prepared.{prepared-capacity, prepared-store, prepared-tuples}
-use Rattle.calls.proofs.Lists.{PreparedBy, prepared-by}
-use Rattle.pairs.specs.InPairs.{pairsAfter, observedInPairs, CallInPairs, PairsMade, packed, requestsInPairs, repliesInPairs, WholeInPairs}
+use Rattle.calls.proofs.Lists.{PreparedBy, prepared-by, prepared-demand-3}
+use Rattle.pairs.specs.InPairs.{pairsAfter, observedInPairs, CallInPairs, PairsMade, TraceInPairs, pairs-end, pairs-then, packed, requestsInPairs, repliesInPairs, WholeInPairs}
 use Rattle.pairs.proofs.execute_pairs as execute-pairs
 
 -- ---- what a caller learns
@@ -48,17 +47,21 @@ learnt-call : (κs : Lfts 2) (a : ArgsD execute-pairs.signature κs) (r : ResD e
     → Learnt κs a r e → CallInPairs (a .0 .now) (a .1 .1 .0 .now) (a .1 .0) r (e .0 .now) (e .1 .1 .0 .now)
 learnt-call κs a r e L = L
 
--- "Each later call gets the buffer as the call before left it, answered or refused": calls of `execute_pairs`, from a buffer to a buffer
+-- calls of `execute_pairs`, one after the other, from a buffer to a buffer
 pub data ExecutedInPairs : List ℕ → List PairsMade → List ℕ → Type 0 where
   no-call : {b : List ℕ} → ExecutedInPairs b [] b
   call-then : {b″ : List ℕ} {xs : List PairsMade} (κs : Lfts 2) (a : ArgsD execute-pairs.signature κs) (r : ResD execute-pairs.signature κs) (e : AtExit execute-pairs.ended κs)
       → Learnt κs a r e → ExecutedInPairs (e .0 .now) xs b″
       → ExecutedInPairs (a .0 .now) (record { call = a .1 .0; lent = a .1 .1 .0 .now; answer = r; left = e .1 .1 .0 .now } ∷ xs) b″
 
--- each of them is one call as document 01 has it
-in-pairs-trace : {b b′ : List ℕ} {xs : List PairsMade} → ExecutedInPairs b xs b′ → Trace b (map packed xs) b′
-in-pairs-trace no-call = end
-in-pairs-trace (call-then κs a r e L rest) = then (learnt-call κs a r e L .call) (in-pairs-trace rest)
+executed-trace : {b b′ : List ℕ} {xs : List PairsMade} → ExecutedInPairs b xs b′ → TraceInPairs b xs b′
+executed-trace no-call = pairs-end
+executed-trace (call-then κs a r e L rest) = pairs-then (learnt-call κs a r e L) (executed-trace rest)
+
+-- with its list packed, each of them is one call as document 01 has it
+packed-trace : {b b′ : List ℕ} {xs : List PairsMade} → TraceInPairs b xs b′ → Trace b (map packed xs) b′
+packed-trace pairs-end = end
+packed-trace (pairs-then one rest) = then (one .call) (packed-trace rest)
 
 -- ---- an answer in pairs is read as the machine gave it
 
@@ -100,21 +103,28 @@ one-left b b′ x e P =
     (ap (λ (l : ℕ). (l - 4) / 6) (O .size), O .tuples ∙ ap (λ (n : ℕ). machine (capacityOf b) (tuplesOf b) (x .call) n .state) (length-map (x .lent) pack))
 
 -- .. and by the callers of a list of calls from any store
-all-observed : {b b′ : List ℕ} {xs : List PairsMade} → ExecutedInPairs b xs b′ → isStore b ≡ true → repliesInPairs xs ≡ answers (capacityOf b) (tuplesOf b) (requestsInPairs xs)
+all-observed : {b b′ : List ℕ} {xs : List PairsMade} → TraceInPairs b xs b′ → isStore b ≡ true → repliesInPairs xs ≡ answers (capacityOf b) (tuplesOf b) (requestsInPairs xs)
 unfolding answers
-all-observed no-call e = refl
-all-observed (call-then {xs = xs} κs a r f L rest) e =
-    let one = learnt-call κs a r f L in
+all-observed pairs-end e = refl
+all-observed (pairs-then {xs = xs} one rest) e =
     let left = one-left _ _ _ e one in
     ap₂ _∷_ (one-observed _ _ _ e one)
     (all-observed rest (one .call .onStore e .store) ∙ ap₂ (λ (D : ℕ) (ts : State). answers D ts (requestsInPairs xs)) (left .0) (left .1))
 
--- demand 3: for every C that `prepare` answers, the buffer that it leaves and every list of calls of `execute_pairs`
+-- ---- demand 3
 
+-- of calls in pairs on a buffer that is prepared
+pub prepared-in-pairs : (raw b b′ : List ℕ) (C : ℕ) (xs : List PairsMade) → capacityOf raw ≡ C → Prepared raw b → TraceInPairs b xs b′ → WholeInPairs C fresh xs b′
+prepared-in-pairs raw b b′ C xs size P calls =
+    record {
+      whole = prepared-demand-3 raw b b′ C (map packed xs) size P (packed-trace calls);
+      answered =
+          all-observed calls (prepared-store raw b P)
+          ∙ ap₂ (λ (D : ℕ) (ts : State). answers D ts (requestsInPairs xs)) (prepared-capacity raw b P ∙ size) (prepared-tuples raw b P);
+    }
+
+-- for every C that `prepare` answers, the buffer that it leaves and every list of calls of `execute_pairs`
 pub pairs-demand-3 : (raw b b′ : List ℕ) (C : ℕ) (xs : List PairsMade) → PreparedBy raw (Capacity C) b → ExecutedInPairs b xs b′ → WholeInPairs C fresh xs b′
 pairs-demand-3 raw b b′ C xs P calls =
     let Q = prepared-by raw b C P in
-    let store : isStore b ≡ true = prepared-store raw b (Q .1) in
-    subst (λ (D : ℕ). WholeInPairs D fresh xs b′) (prepared-capacity raw b (Q .1) ∙ Q .0)
-    (subst (λ (ts : State). WholeInPairs (capacityOf b) ts xs b′) (prepared-tuples raw b (Q .1))
-    (record { whole = any-store (in-pairs-trace calls) store; answered = all-observed calls store }))
+    prepared-in-pairs raw b b′ C xs (Q .0) (Q .1) (executed-trace calls)

@@ -1,6 +1,6 @@
 -- All that one call does whose answer list is a lent list of pairs: the contract of execute_pairs.
 use mathlib.Core.Bool.{true, false}
-use mathlib.Core.List.{List, _++_, map}
+use mathlib.Core.List.{List, [], _∷_, _++_, map}
 use mathlib.Core.Path.{_≡_}
 use Prim.Native.Nat.{ℕ}
 use lib.ListN.{length, take, drop}
@@ -50,7 +50,12 @@ pub record PairsMade : Type 0 where
   pub answer : Answer
   pub left : List Pair
 
--- the same with the list packed
+-- "Each later call gets the buffer as the call before left it, answered or refused": calls made one after the other, from a buffer to a buffer
+pub data TraceInPairs : List ℕ → List PairsMade → List ℕ → Type 0 where
+  pairs-end : {b : List ℕ} → TraceInPairs b [] b
+  pairs-then : {b b′ b″ : List ℕ} {x : PairsMade} {xs : List PairsMade} → CallInPairs b (x .lent) (x .call) (x .answer) b′ (x .left) → TraceInPairs b′ xs b″ → TraceInPairs b (x ∷ xs) b″
+
+-- a call with its list packed
 abbrev pub packed : PairsMade → CallMade
 packed x = record { call = x .call; lent = map pack (x .lent); answer = x .answer; left = map pack (x .left) }
 
