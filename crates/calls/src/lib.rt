@@ -13,7 +13,7 @@ ghost use Rattle.list.specs.Queries.{written};
 ghost use Rattle.calls.specs.AtOnce.{listedAtOnce};
 
 // The entries of a SIN (40), written to the list without a search for n, and their number: an entry shows that n is there.
-// 0 for other calls, and where a name is 0 or the list might be too short.
+// 0 for other calls, and where a name is 0 or the list might be too short. The call is copied only where entries are sought.
 fn list_at_once(b: &[u32], c: Call, list: &mut [u32]) -> usize
     requires { ⌜ isStore (now b) ≡ true ⌝ }
     ensures { λ r. ⌜ r ≡ length (listedAtOnce c (tuplesOf (now (b .entry))) (length (now (list .entry)))) ⌝ }
@@ -34,7 +34,19 @@ fn list_at_once(b: &[u32], c: Call, list: &mut [u32]) -> usize
         node: 0,
         second: 0,
     };
-    listing::write_listed(b, nowhere, sin, c, list)
+    let n = c.n;
+    let g = c.g;
+    let m = c.m;
+    let s = c.s;
+    let copy = Call {
+        operator: c.operator,
+        n,
+        g,
+        m,
+        v: c.v,
+        s,
+    };
+    listing::write_listed(b, nowhere, sin, copy, list)
 }
 
 // One call on a buffer that the caller has proved to be a store: no check is paid.

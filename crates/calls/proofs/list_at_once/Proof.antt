@@ -38,7 +38,7 @@ returns-3 c = no-room _ _ (c .before .before .before .before .before .before .be
 
 -- src/lib.rt:37:5
 write-listed-requires : tie.Need-write-listed-requires
-write-listed-requires c κs = (store-readable _ (c .before .before .before .before .before .before .before .before .before .before .pre), nowhere-near _, tt, room-enough (c .before .before .before .before .before .before .before .before .before .before .args .c) _ _ _ (c .before .before .surely-fits .ensures) (not-no _ (c .before .if3 .left)))
+write-listed-requires c κs = (store-readable _ (c .before .before .before .before .before .before .before .before .before .before .before .before .before .pre), nowhere-near _, tt, room-enough (c .before .before .before .before .before .before .before .before .before .before .before .before .before .args .c) _ _ _ (c .before .before .before .before .before .surely-fits .ensures) (not-no _ (c .before .before .before .before .if3 .left)))
 
 -- src/lib.rt:17:1
 same-length : tie.Need-same-length
@@ -46,7 +46,7 @@ same-length c = search needs
 
 -- src/lib.rt:17:1
 returns-4 : tie.Need-returns-4
-returns-4 c = all-listed _ _ _ (c .before .before .before .before .before .before .before .before .before .before .before .before .before .args .c) _ _ _ (c .before .before .before .before .before .before .before .before .before .if1 .left) (c .before .before .before .before .before .before .before .zero-name .ensures) (c .before .before .before .before .before .before .if2 .left) (c .before .before .before .before .before .surely-fits .ensures) (not-no _ (c .before .before .before .before .if3 .left)) (c .before .before .write-listed .ensures .0) (c .before .before .write-listed .ensures .1)
+returns-4 c = all-listed _ _ _ (c .before .before .before .before .before .before .before .before .before .before .before .before .before .before .before .before .args .c) _ _ _ (c .before .before .before .before .before .before .before .before .before .before .before .before .if1 .left) (c .before .before .before .before .before .before .before .before .before .before .zero-name .ensures) (c .before .before .before .before .before .before .before .before .before .if2 .left) (c .before .before .before .before .before .before .before .before .surely-fits .ensures) (not-no _ (c .before .before .before .before .before .before .before .if3 .left)) (c .before .before .write-listed .ensures .0) (c .before .before .write-listed .ensures .1)
 
 pub list-at-once-spec : {M : Type 1} → statement M
 list-at-once-spec =
