@@ -12,11 +12,11 @@ use Rattle.model.specs.declared.Preparation.the-variants.{Capacity}
 use Rattle.model.specs.Tuples.{fresh}
 use Rattle.model.specs.Machine.{State}
 use Rattle.model.specs.Buffer.{capacityOf, isStore, Prepared}
-use Rattle.model.specs.CallLists.{WholeList}
+use Rattle.model.specs.CallLists.{requests, WholeList}
 use Rattle.model.proofs.Prepared.{prepared-capacity, prepared-store, prepared-tuples}
 use Rattle.calls.proofs.Lists.{PreparedBy, prepared-by}
 use Rattle.run.specs.Words.{callsIn}
-use Rattle.run.specs.Runs.{callsMade, hasRoom, Ran}
+use Rattle.run.specs.Runs.{callsMade, answersAfter, listsAfter, hasRoom, Ran}
 use Rattle.run.proofs.run_calls.Kinds as kinds
 use Rattle.run.proofs.run_calls.Reads as reads
 
@@ -29,9 +29,17 @@ pub data RunBy : List ℕ → List ℕ → List ℕ → List ℕ → ℕ → Lis
 ran : {b calls answers lists b′ answers′ lists′ : List ℕ} {r : ℕ} → RunBy b calls answers lists r b′ answers′ lists′ → Ran b calls answers lists r b′ answers′ lists′
 ran (run-by κs a r e R) = R
 
+-- what is claimed of a run on a store of C records that holds the tuples ts: the calls that stand in the words were made, one after the other,
+-- with all that demand 3 claims of them, and the slices hold their answers and their lists
+pub record WholeRun (C : ℕ) (ts : State) (calls answers lists b′ answers′ lists′ : List ℕ) : Type 0 where
+  pub whole : WholeList C ts (callsMade C ts (callsIn calls) lists) b′
+  pub asked : requests (callsMade C ts (callsIn calls) lists) ≡ callsIn calls
+  pub answered : answers′ ≡ answersAfter (callsMade C ts (callsIn calls) lists) answers
+  pub listed : lists′ ≡ listsAfter (callsMade C ts (callsIn calls) lists) lists
+
 -- for every C that `prepare` answers, and every run that answers 0 on the buffer that it leaves
 pub run-demand-3 : (raw b calls answers lists b′ answers′ lists′ : List ℕ) (C : ℕ) → PreparedBy raw (Capacity C) b
-    → RunBy b calls answers lists 0 b′ answers′ lists′ → WholeList C fresh (callsMade C fresh (callsIn calls) lists) b′
+    → RunBy b calls answers lists 0 b′ answers′ lists′ → WholeRun C fresh calls answers lists b′ answers′ lists′
 run-demand-3 raw b calls answers lists b′ answers′ lists′ C P made = go (hasRoom (callsIn calls) answers lists) refl
   where
     Q : (capacityOf raw ≡ C) × Prepared raw b
@@ -43,9 +51,10 @@ run-demand-3 raw b calls answers lists b′ answers′ lists′ C P made = go (h
     store : isStore b ≡ true
     store = prepared-store raw b (Q .1)
 
-    go : (r : Bool) → hasRoom (callsIn calls) answers lists ≡ r → WholeList C fresh (callsMade C fresh (callsIn calls) lists) b′
+    go : (r : Bool) → hasRoom (callsIn calls) answers lists ≡ r → WholeRun C fresh calls answers lists b′ answers′ lists′
     go true e =
-        subst (λ (D : ℕ). WholeList D fresh (callsMade D fresh (callsIn calls) lists) b′) (prepared-capacity raw b (Q .1) ∙ Q .0)
-        (subst (λ (ts : State). WholeList (capacityOf b) ts (callsMade (capacityOf b) ts (callsIn calls) lists) b′) (prepared-tuples raw b (Q .1))
-        (R .run store e .left .whole))
+        let all = R .run store e in
+        subst (λ (D : ℕ). WholeRun D fresh calls answers lists b′ answers′ lists′) (prepared-capacity raw b (Q .1) ∙ Q .0)
+        (subst (λ (ts : State). WholeRun (capacityOf b) ts calls answers lists b′ answers′ lists′) (prepared-tuples raw b (Q .1))
+        (record { whole = all .left .whole; asked = all .asked; answered = all .left .answered; listed = all .left .listed }))
     go false e = let z : _≡_ {A = ℕ} 0 9 = R .noRoom store e .result in absurd (omega arith)
