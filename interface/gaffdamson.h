@@ -11,6 +11,7 @@
  * - Each pointer is valid for as many elements as the length beside it says
  *   (elements, not bytes), aligned for its type and not null. For a length of
  *   0 too the pointer must not be null: the address of any object will do.
+ * - Each element has been written before: set a new buffer or list to 0 first.
  * - What is lent to one call does not overlap, and nobody else reads or writes
  *   it until the call has returned.
  *
@@ -194,7 +195,7 @@ enum {
     GAFFDAMSON_DUS = 55,
     /* Lists all spaces, UNIVERSE as 0. */
     GAFFDAMSON_SUS = 56,
-    /* n: lists the spaces that hold n. */
+    /* n: lists the spaces that hold n, UNIVERSE as 0. */
     GAFFDAMSON_SUS_OF_NODE = 57
 };
 

@@ -65,7 +65,7 @@ static uint32_t entries_of(const call *c, uint32_t list[PLACES]) {
 
 /* The yarn that leaves a loop, with its length in the same space. */
 static void print_yarn(uint16_t loop, uint32_t form, uint16_t s) {
-    uint32_t pairs[PLACES], none[PLACES];
+    uint32_t pairs[PLACES] = {0}, none[PLACES] = {0};
     const call leaving = {.op = GAFFDAMSON_SOP, .n = loop, .form = form, .s = s};
     uint32_t count = entries_of(&leaving, pairs);
     for (uint32_t i = 0; i < count; i++) {
@@ -83,7 +83,7 @@ static void print_yarn(uint16_t loop, uint32_t form, uint16_t s) {
 }
 
 static void print_space(const char *title, uint32_t form, uint16_t s) {
-    uint32_t loops[PLACES];
+    uint32_t loops[PLACES] = {0};
     const call nodes = {.op = GAFFDAMSON_SUN, .form = form, .s = s};
     uint32_t count = entries_of(&nodes, loops);
     printf(count == 0 ? "%s: no loops" : "%s: loops", title);
@@ -97,7 +97,7 @@ static void print_space(const char *title, uint32_t form, uint16_t s) {
 }
 
 int main(void) {
-    uint32_t list[PLACES];
+    uint32_t list[PLACES] = {0};
     printf("prepare: ");
     print_answer(gaffdamson_prepare(store, sizeof store / sizeof store[0]));
     for (size_t i = 0; i < sizeof building / sizeof building[0]; i++) {

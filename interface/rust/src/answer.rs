@@ -83,7 +83,7 @@ impl Refusal {
     pub const DESTROYS_UNIVERSE: Refusal = Refusal(4);
     /// The space is absent.
     pub const NO_SPACE: Refusal = Refusal(5);
-    /// The first node is absent from the space.
+    /// The first node is absent from the space; of SUS of a node, from UNIVERSE.
     pub const NO_FIRST_NODE: Refusal = Refusal(6);
     /// The second node is absent from the space.
     pub const NO_SECOND_NODE: Refusal = Refusal(7);

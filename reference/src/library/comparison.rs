@@ -120,13 +120,14 @@ impl Comparison<'_> {
         self.calls_on(&words, &model, calls);
     }
 
-    /// The longest list, in lists around its length, and any calls, on a store
-    /// whose 2,048 records are used.
+    /// The longest list, in lists around its length and in longer ones, and any
+    /// calls, on a store whose 2,048 records are used.
     fn full_store(&mut self) {
         let mut draws = self.draws(FULL, 0);
         let words = buffers::after(&mut draws, 2_048, load::full_bed());
         let model = Model::of(&words);
-        let longest = (2_046..=2_048).map(|list_length| Call {
+        let lengths = (2_046..=2_048).chain([4_095, 4_096, 4_097, 70_000]);
+        let longest = lengths.map(|list_length| Call {
             list_length,
             ..load::lists_of_nodes(1)[0]
         });
