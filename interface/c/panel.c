@@ -1,6 +1,7 @@
 /*
  * Builds a small panel with two needle selections, the second of them empty,
- * prints the answer to each call and then what the selections hold.
+ * prints the answer to each call and then what the selections hold, and a row
+ * without one.
  */
 #include "gaffdamson.h"
 
@@ -107,6 +108,7 @@ int main(void) {
     printf("\n");
     print_space("selection 1", GAFFDAMSON_NUMBERED, 1);
     print_space("selection 2", GAFFDAMSON_NUMBERED, 2);
+    print_space("a row with no selection", GAFFDAMSON_NOTHING, 0);
     print_space("the whole panel", GAFFDAMSON_UNIVERSE, 0);
     return 0;
 }

@@ -1,5 +1,6 @@
 //! Builds a small panel with two needle selections, the second of them empty,
-//! prints the answer to each call and then what the selections hold.
+//! prints the answer to each call and then what the selections hold, and a row
+//! without one.
 
 use gaffdamson::{operator, Call, Edge, Node, Pair, Refusal, Reply, Space, SpaceName, Store};
 
@@ -80,6 +81,7 @@ fn main() -> Result<(), Refusal> {
     println!();
     print_space(&mut store, "selection 1", FIRST)?;
     print_space(&mut store, "selection 2", SECOND)?;
+    print_space(&mut store, "a row with no selection", Space::Nothing)?;
     print_space(&mut store, "the whole panel", Space::Universe)
 }
 

@@ -94,6 +94,9 @@ impl Refusal {
     pub const LIST_TOO_SHORT: Refusal = Refusal(9);
     /// The tuples present and those to add exceed the capacity.
     pub const FULL: Refusal = Refusal(10);
+    /// The operator has no answer where the space is nothing; tested after
+    /// [`NAME_ZERO`](Refusal::NAME_ZERO).
+    pub const NEEDS_SPACE: Refusal = Refusal(12);
 }
 
 impl fmt::Display for Refusal {
@@ -109,6 +112,7 @@ impl fmt::Display for Refusal {
             Refusal::NO_EDGE => "the edge is absent",
             Refusal::LIST_TOO_SHORT => "the list is too short",
             Refusal::FULL => "the store is full",
+            Refusal::NEEDS_SPACE => "the operator needs a space",
             Refusal(_) => "unknown",
         };
         write!(f, "refused, {}: {condition}", self.0)

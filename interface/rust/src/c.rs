@@ -12,6 +12,7 @@ use crate::{Call, Pair, Space};
 /// The forms of a call's space.
 const UNIVERSE: u32 = 0;
 const NUMBERED: u32 = 1;
+const NOTHING: u32 = 2;
 
 mod library {
     use crate::Pair;
@@ -67,6 +68,7 @@ pub fn form_and_number(space: Space) -> (u32, u16) {
     match space {
         Space::Universe => (UNIVERSE, 0),
         Space::Numbered(s) => (NUMBERED, s.0),
+        Space::Nothing => (NOTHING, 0),
     }
 }
 

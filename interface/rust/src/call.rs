@@ -21,6 +21,11 @@ pub enum Space {
     Universe,
     /// The space of this name.
     Numbered(SpaceName),
+    /// No space: nothing is looked up in the graph, and no word is changed. C,
+    /// B and D operators answer the first node, X operators say no, S operators
+    /// list nothing; V operators and CUS to DUS are refused, 12. Both SUS do
+    /// not read the space.
+    Nothing,
 }
 
 /// How many words a call takes in a list for [`run`](crate::run).
@@ -99,5 +104,10 @@ mod tests {
         let words = [4, 0x2_0001, 0xffff_0003, u32::MAX, 1, 9];
         assert_eq!(call.words(9), words);
         assert_eq!(Call::new(56).words(0), [56, 0, 0, 0, 0, 0]);
+        let nothing = Call {
+            space: Space::Nothing,
+            ..Call::new(50)
+        };
+        assert_eq!(nothing.words(3), [50, 0, 0, 0, 2, 3]);
     }
 }

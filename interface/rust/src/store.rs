@@ -105,6 +105,36 @@ mod tests {
     }
 
     #[test]
+    fn nothing_is_looked_up_in_nothing() {
+        let mut store = Store::new(1).expect("a length of stores");
+        let before = store.clone();
+        let on_nothing = |operator| Call {
+            n: Node(1),
+            g: Edge(7),
+            m: Node(1),
+            space: Space::Nothing,
+            ..Call::new(operator)
+        };
+        let name = Ok(Reply::Name(1));
+        assert_eq!(store.call(&on_nothing(operator::CUN)), name);
+        assert_eq!(store.call(&on_nothing(operator::BOP)), name);
+        assert_eq!(store.call(&on_nothing(operator::DUN)), name);
+        assert_eq!(
+            store.call(&on_nothing(operator::XOP)),
+            Ok(Reply::YesNo(false))
+        );
+        assert_eq!(
+            store.call(&on_nothing(operator::SUN)),
+            Ok(Reply::List(vec![]))
+        );
+        for operator in [operator::VUN, operator::CUS, operator::DUS] {
+            let answer = store.call(&on_nothing(operator));
+            assert_eq!(answer, Err(Refusal::NEEDS_SPACE));
+        }
+        assert_eq!(store, before);
+    }
+
+    #[test]
     fn the_words_of_a_store_are_one() {
         let mut store = Store::new(3).expect("a length of stores");
         let create = Call {
