@@ -68,19 +68,23 @@ impl Key {
     }
 }
 
-/// "The space of a call is either UNIVERSE or a number."
+/// "The space of a call is either UNIVERSE or a number", or, by request 1,
+/// nothing.
 #[derive(Clone, Copy, PartialEq, Eq, Debug)]
 pub enum Space {
     Universe,
     Numbered(SpaceName),
+    Nothing,
 }
 
 impl Space {
-    /// The space as keys and answers have it.
+    /// The space as keys and answers have it. Nothing stands in no key and in
+    /// no answer: where it is read, `step_on_nothing` has answered.
     fn written(self) -> SpaceName {
         match self {
             Space::Universe => UNIVERSE,
             Space::Numbered(name) => name,
+            Space::Nothing => panic!("nothing is not written"),
         }
     }
 }
@@ -149,6 +153,9 @@ impl Machine {
         let Some(kind) = operators::kind(call.operator) else {
             return Answer::Refusal(2);
         };
+        if call.space == Space::Nothing && operators::reads(call.operator, Argument::Space) {
+            return step_on_nothing(kind, call);
+        }
         if let Some(number) = self.first_refusal(call) {
             return Answer::Refusal(number);
         }
@@ -163,12 +170,45 @@ impl Machine {
     }
 }
 
-/// Where a call is stopped: conditions 3 to 10 (2 is judged in `step`).
+/// Request 1: the step where the space is nothing. "Nothing is looked up in the
+/// graph, so conditions 5 to 10 are not tested. C, B and D change nothing and
+/// return the first argument; X says no; S, SUN included, answers an empty
+/// list." 12, after 3: "a V operator, or any of 51–55".
+fn step_on_nothing(kind: Kind, call: &Call) -> Answer {
+    if reads_name_zero(call) {
+        return Answer::Refusal(3);
+    }
+    match (call.operator, kind) {
+        (51..=55, _) | (_, Kind::Value) => Answer::Refusal(12),
+        (_, Kind::Create | Kind::Bind | Kind::Destroy) => Answer::Name(call.n.0),
+        (_, Kind::Exists) => Answer::YesNo(false),
+        (_, Kind::SetOf) => Answer::List(Vec::new()),
+    }
+}
+
+/// 3: "a name that is read is 0". Nothing is no name.
+fn reads_name_zero(call: &Call) -> bool {
+    operators::arguments(call.operator)
+        .iter()
+        .any(|argument| match argument {
+            Argument::FirstNode => call.n == Node(0),
+            Argument::Edge => call.g == Edge(0),
+            Argument::SecondNode => call.m == Node(0),
+            Argument::Space => call.space == Space::Numbered(SpaceName(0)),
+            Argument::Value => false,
+        })
+}
+
+/// Where a call on UNIVERSE or a number is stopped: conditions 3 to 10 (2 is
+/// judged in `step`).
 impl Machine {
     /// "The first that applies wins."
     fn first_refusal(&self, call: &Call) -> Option<u32> {
         let conditions = [
-            (3, Machine::reads_name_zero as fn(&Machine, &Call) -> bool),
+            (
+                3,
+                (|_, call| reads_name_zero(call)) as fn(&Machine, &Call) -> bool,
+            ),
             (4, Machine::destroys_universe),
             (5, Machine::lacks_space),
             (6, Machine::lacks_first_node),
@@ -181,19 +221,6 @@ impl Machine {
             .into_iter()
             .find(|(_, applies)| applies(self, call))
             .map(|(number, _)| number)
-    }
-
-    /// 3: "a name that is read is 0"
-    fn reads_name_zero(&self, call: &Call) -> bool {
-        operators::arguments(call.operator)
-            .iter()
-            .any(|argument| match argument {
-                Argument::FirstNode => call.n == Node(0),
-                Argument::Edge => call.g == Edge(0),
-                Argument::SecondNode => call.m == Node(0),
-                Argument::Space => call.space == Space::Numbered(SpaceName(0)),
-                Argument::Value => false,
-            })
     }
 
     /// 4: "55 on UNIVERSE"
@@ -354,15 +381,15 @@ impl Machine {
 
 /// The keys that are present after a C operator: in s and in 0.
 fn created_keys(call: &Call) -> BTreeSet<Key> {
-    let s = call.space.written();
+    let s = || call.space.written();
     match (call.operator, operators::direction(call.operator)) {
         (1..=3, Some(direction)) => {
-            let mut keys = edge_keys(s, call.n, (call.g, call.m), direction);
+            let mut keys = edge_keys(s(), call.n, (call.g, call.m), direction);
             keys.extend(edge_keys(UNIVERSE, call.n, (call.g, call.m), direction));
             keys
         }
-        (45, _) => BTreeSet::from([Key::node(s, call.n), Key::node(UNIVERSE, call.n)]),
-        (51, _) => BTreeSet::from([Key::space(s)]),
+        (45, _) => BTreeSet::from([Key::node(s(), call.n), Key::node(UNIVERSE, call.n)]),
+        (51, _) => BTreeSet::from([Key::space(s())]),
         _ => BTreeSet::new(),
     }
 }
@@ -628,20 +655,19 @@ mod tests {
             ..odd
         };
         assert_eq!(machine.step(&space_9), Answer::Name(9));
-        let absent_space = Call {
-            space: Space::Numbered(SpaceName(0)),
-            ..odd
-        };
-        let sus = Call {
-            operator: 56,
-            ..absent_space
-        };
-        assert_eq!(machine.step(&sus), Answer::List(vec![(0, 0), (0, 9)]));
-        let sus_of_node = Call {
-            operator: 57,
-            n: Node(1),
-            ..absent_space
-        };
-        assert_eq!(machine.step(&sus_of_node), Answer::List(vec![(0, 0)]));
+        for space in [Space::Numbered(SpaceName(0)), Space::Nothing] {
+            let sus = Call {
+                operator: 56,
+                space,
+                ..odd
+            };
+            assert_eq!(machine.step(&sus), Answer::List(vec![(0, 0), (0, 9)]));
+            let sus_of_node = Call {
+                operator: 57,
+                n: Node(1),
+                ..sus
+            };
+            assert_eq!(machine.step(&sus_of_node), Answer::List(vec![(0, 0)]));
+        }
     }
 }

@@ -4,9 +4,15 @@
 use crate::chained;
 use crate::machine::{Answer, Call, Edge, Node, Space, SpaceName};
 
-/// operator, n + 65,536 × g, m + 65,536 × s, v, the form of the space (0 is
-/// UNIVERSE), the length of the answer list.
+/// operator, n + 65,536 × g, m + 65,536 × s, v, the form of the space, the
+/// length of the answer list.
 pub const WORDS_IN_A_CALL: usize = 6;
+
+/// The forms of a space: UNIVERSE and nothing, where s is not read. Any other
+/// number is the form of the space s.
+const UNIVERSE: u32 = 0;
+const NUMBERED: u32 = 1;
+const NOTHING: u32 = 2;
 
 /// The kind of the answer and its number.
 pub const WORDS_IN_AN_ANSWER: usize = 2;
@@ -20,8 +26,9 @@ pub const LIST: u32 = 4;
 /// A call, with its own list length.
 pub fn call(call: &Call) -> [u32; WORDS_IN_A_CALL] {
     let (form, s) = match call.space {
-        Space::Universe => (0, 0),
-        Space::Numbered(s) => (1, s.0),
+        Space::Universe => (UNIVERSE, 0),
+        Space::Numbered(s) => (NUMBERED, s.0),
+        Space::Nothing => (NOTHING, 0),
     };
     let two = |low: u16, high: u16| u32::from(low) | u32::from(high) << 16;
     [
@@ -46,7 +53,8 @@ pub fn call_of(words: &[u32; WORDS_IN_A_CALL]) -> Call {
         m: Node(low(node_and_space)),
         v,
         space: match form {
-            0 => Space::Universe,
+            UNIVERSE => Space::Universe,
+            NOTHING => Space::Nothing,
             _ => Space::Numbered(SpaceName(high(node_and_space))),
         },
         list_length: list_length as usize,
@@ -106,8 +114,23 @@ mod tests {
     fn a_call_comes_back_from_its_words() {
         for (k, count) in [(20, 2_000), (1_000, 2_000)] {
             for drawn in crate::load::Drawn::new(7, k).take(count) {
+                let nothing = Call {
+                    space: Space::Nothing,
+                    ..drawn
+                };
                 assert_eq!(call_of(&call(&drawn)), drawn);
+                assert_eq!(call_of(&call(&nothing)), nothing);
             }
+        }
+    }
+
+    #[test]
+    fn the_form_says_whether_the_number_is_read() {
+        let space = |form| call_of(&[45, 1, 9 << 16, 0, form, 0]).space;
+        assert_eq!(space(0), Space::Universe);
+        assert_eq!(space(2), Space::Nothing);
+        for form in [1, 3, 4, 65_535, 65_536, 65_538, 0x8000_0002, u32::MAX] {
+            assert_eq!(space(form), Space::Numbered(SpaceName(9)), "{form}");
         }
     }
 }

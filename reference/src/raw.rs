@@ -2,8 +2,8 @@
 
 use crate::machine::{Call, Edge, Node, Space, SpaceName};
 
-/// The call on a line `operator n g m v s length`, where s is `U` or a
-/// number; none if the line isn't of this form.
+/// The call on a line `operator n g m v s length`, where s is `U`, `-`
+/// or a number; none if the line isn't of this form.
 pub fn read_call(line: &str) -> Option<Call> {
     let words: Vec<&str> = line.split_ascii_whitespace().collect();
     let [operator, n, g, m, v, s, length] = words[..] else {
@@ -23,6 +23,7 @@ pub fn read_call(line: &str) -> Option<Call> {
 fn read_space(word: &str) -> Option<Space> {
     match word {
         "U" => Some(Space::Universe),
+        "-" => Some(Space::Nothing),
         _ => Some(Space::Numbered(SpaceName(word.parse().ok()?))),
     }
 }
@@ -46,6 +47,8 @@ mod tests {
         assert_eq!(call, expected);
         let universe = read_call("50 0 0 0 0 U 0").expect("readable");
         assert_eq!(universe.space, Space::Universe);
+        let nothing = read_call("50 0 0 0 0 - 0").expect("readable");
+        assert_eq!(nothing.space, Space::Nothing);
     }
 
     #[test]
@@ -56,6 +59,8 @@ mod tests {
             "50 0 0 0 0 U",
             "50 0 0 0 0 U 0 0",
             "50 0 0 65536 0 U 0",
+            "50 - 0 0 0 U 0",
+            "50 0 0 0 0 -- 0",
         ] {
             assert_eq!(read_call(line), None, "{line}");
         }

@@ -118,12 +118,12 @@ fn read_argument(call: &mut Call, argument: Argument, word: &[u8]) -> Option<()>
     Some(())
 }
 
-/// "UNIVERSE is `U`."
+/// "UNIVERSE is `U`." Nothing is "written `-`" (request 1).
 fn read_space(word: &[u8]) -> Option<Space> {
-    if word == b"U" {
-        Some(Space::Universe)
-    } else {
-        Some(Space::Numbered(SpaceName(read_name(word)?)))
+    match word {
+        b"U" => Some(Space::Universe),
+        b"-" => Some(Space::Nothing),
+        _ => Some(Space::Numbered(SpaceName(read_name(word)?))),
     }
 }
 
@@ -245,5 +245,17 @@ mod tests {
         assert_eq!(operator(b"SUS 1"), Some(57));
         assert_eq!(operator(b"SUS 1 2"), None);
         assert_eq!(operator(b"SUS U"), None);
+        assert_eq!(operator(b"SUS -"), None);
+    }
+
+    #[test]
+    fn a_space_has_three_forms() {
+        let space = |line: &[u8]| read_call(line, 0).map(|call| call.space);
+        assert_eq!(space(b"SUN"), Some(Space::Universe));
+        assert_eq!(space(b"SUN U"), Some(Space::Universe));
+        assert_eq!(space(b"SUN -"), Some(Space::Nothing));
+        assert_eq!(space(b"SUN 9"), Some(Space::Numbered(SpaceName(9))));
+        assert_eq!(space(b"BUS - 9"), Some(Space::Nothing));
+        assert_eq!(space(b"SUN --"), None);
     }
 }

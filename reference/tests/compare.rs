@@ -68,7 +68,7 @@ fn a_program_that_drops_the_last_line_fails() {
 
 #[test]
 fn a_program_with_one_wrong_answer_fails() {
-    filtered_program_fails("one", "sed '30s/^.*$/R 12/'", 40);
+    filtered_program_fails("one", "sed '30s/^.*$/R 13/'", 40);
 }
 
 #[test]
@@ -101,7 +101,7 @@ fn everything_occurs_in_random_scripts() {
         tally.add(&input, &script::printed(&input));
     }
     let kinds = [
-        "=", "L", "NIL", "R 10", "R 11", "R 3", "R 4", "R 5", "R 6", "R 7", "R 8", "T", "V",
+        "=", "L", "NIL", "R 10", "R 11", "R 12", "R 3", "R 4", "R 5", "R 6", "R 7", "R 8", "T", "V",
     ];
     assert_eq!(tally.kinds(), kinds);
     assert_eq!(tally.operators(), (1..=57).collect::<Vec<u32>>());

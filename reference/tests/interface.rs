@@ -51,9 +51,21 @@ fn refusals_have_the_same_names_for_c_and_rust() {
     );
     let mut numbers: Vec<u32> = for_rust.values().copied().collect();
     numbers.sort_unstable();
-    assert!(numbers.into_iter().eq(1..=10));
+    assert!(numbers.into_iter().eq((1..=10).chain([12])));
     let for_c = names_for_c();
     for (name, number) in &for_rust {
         assert_eq!(for_c.get(name), Some(number), "{name}");
     }
+}
+
+#[test]
+fn spaces_have_the_same_forms_for_c_and_rust() {
+    let for_c = names_for_c();
+    let for_rust = names("rust/src/c.rs", "const ", ": u32 = ", &[';']);
+    let forms = [("UNIVERSE", 0), ("NUMBERED", 1), ("NOTHING", 2)];
+    for (name, form) in forms {
+        assert_eq!(for_c.get(name), Some(&form), "{name}");
+        assert_eq!(for_rust.get(name), Some(&form), "{name}");
+    }
+    assert_eq!(for_rust.len(), forms.len());
 }

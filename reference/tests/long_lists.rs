@@ -36,10 +36,10 @@ impl Draws {
     }
 
     fn call(&mut self) -> Call {
-        let space = if self.next(3) == 0 {
-            Space::Universe
-        } else {
-            Space::Numbered(SpaceName(self.name().min(2)))
+        let space = match self.next(12) {
+            0..=3 => Space::Universe,
+            4 => Space::Nothing,
+            _ => Space::Numbered(SpaceName(self.name().min(2))),
         };
         Call {
             operator: self.operator(),
@@ -128,7 +128,7 @@ fn the_lists_of_calls_reach_every_answer() {
             };
         }
     }
-    assert!(refusals.into_iter().eq(2..=10));
+    assert!(refusals.into_iter().eq((2..=10).chain([12])));
     assert!(answered.into_iter().eq(1..=57));
 }
 

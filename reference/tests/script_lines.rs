@@ -67,7 +67,6 @@ fn signs_and_other_marks_are_unreadable() {
         b"CUN '1",
         b"BUN 1 -5",
         b"BUN 1 NIL",
-        b"SUN -",
         b"CUN one",
         b"CUN 1_0",
     ]);
@@ -255,6 +254,86 @@ fn u_stands_only_for_a_space() {
         ("VUS U", "V 7"),
         ("XUS U", "T"),
         ("DUS U", "R 4"),
+    ]);
+}
+
+#[test]
+fn nothing_stands_only_for_a_space() {
+    unreadable(&[
+        b"-",
+        b"SUS -",
+        b"SUS 1 -",
+        b"CUN -",
+        b"CUN - -",
+        b"CUN - 9",
+        b"COP - 5 2",
+        b"COP 1 - 2",
+        b"COP 1 5 -",
+        b"COP - - - -",
+        b"BOP 1 5 2 -",
+        b"BOP 1 5 2 - -",
+        b"BUN 1 -",
+        b"BUN 1 - -",
+        b"BUS - -",
+        b"BUS 9 -",
+        b"DOGG 1 -",
+        b"DOGG 1 - -",
+        b"SOGN 1 -",
+        b"SOGN - 2 -",
+    ]);
+}
+
+#[test]
+fn nothing_is_one_byte_and_one_word() {
+    unreadable(&[
+        b"SUN --",
+        b"SUN - -",
+        b"SUN -1",
+        b"SUN 1-",
+        b"SUN -0",
+        b"SUN -U",
+        b"SUN U-",
+        b"SUN-",
+        b"SUN  -",
+        b"SUN - ",
+        b"SUN -\r",
+        b"SUN -\0",
+        b"SUN - U",
+        b"SUN U -",
+        b"SUN 9 -",
+        b"SUN - 9",
+        b"SUN +",
+        b"SUN _",
+        b"SUN \xe2\x88\x92",
+        b"SUN \xe2\x80\x93",
+        b"CUN 1-",
+        b"CUN 1 --",
+        b"COP 1 5 2-",
+        b"COP 1 5 2 -9",
+        b"CUS --",
+        b"CUS -9",
+        b"CUS",
+        b"BUS -",
+        b"BUS -7",
+        b"DUS - -",
+    ]);
+}
+
+#[test]
+fn nothing_is_read_where_a_space_stands() {
+    check(&[
+        ("SUN -", "L 0"),
+        ("CUN 1 -", "= 1"),
+        ("XUN 1 -", "NIL"),
+        ("VUN 1 -", "R 12"),
+        ("CUS -", "R 12"),
+        ("BUS - 7", "R 12"),
+        ("VUS -", "R 12"),
+        ("XUS -", "R 12"),
+        ("DUS -", "R 12"),
+        // Left out, it is still UNIVERSE.
+        ("CUN 1", "= 1"),
+        ("XUN 1", "T"),
     ]);
 }
 

@@ -94,8 +94,19 @@ pub fn execute_known(buffer: &mut [u32], call: &Call, list: &mut [u32]) -> Answe
         return Answer::Refusal(1);
     };
     match fields_of(call) {
+        Ok(fields) if call.space == Space::Nothing && call.operator <= 50 => on_nothing(&fields),
         Ok(fields) => step(&mut store, &fields, list),
         Err(number) => Answer::Refusal(number),
+    }
+}
+
+/// The answer of 1 to 50 where the space is nothing: the store is not looked
+/// at.
+fn on_nothing(call: &Fields) -> Answer {
+    match call.operator {
+        9..=11 | 48 => Answer::YesNo(false),
+        30..=44 | 50 => Answer::List(0),
+        _ => call.first_argument(),
     }
 }
 
@@ -143,11 +154,17 @@ fn names_read(operator: u32) -> Option<u8> {
     Some(names)
 }
 
-/// The fields of a call that conditions 2 to 4 let pass.
+/// The operators that have no answer where the space is nothing.
+fn needs_space(operator: u32) -> bool {
+    matches!(operator, 7 | 8 | 47 | 51..=55)
+}
+
+/// The fields of a call that conditions 2, 3, 12 and 4 let pass. Where the
+/// space is nothing, s has no meaning.
 fn fields_of(call: &Call) -> Result<Fields, u32> {
     let names = names_read(call.operator).ok_or(2u32)?;
     let (s, space_is_zero) = match call.space {
-        Space::Universe => (0, false),
+        Space::Universe | Space::Nothing => (0, false),
         Space::Numbered(s) => (s.0, s.0 == 0),
     };
     let mark = |name: u8, is_zero: bool| if is_zero { name } else { 0 };
@@ -157,6 +174,9 @@ fn fields_of(call: &Call) -> Result<Fields, u32> {
         | mark(READS_S, space_is_zero);
     if names & zeros != 0 {
         return Err(3);
+    }
+    if call.space == Space::Nothing && needs_space(call.operator) {
+        return Err(12);
     }
     if call.operator == 55 && s == 0 {
         return Err(4);

@@ -1,5 +1,6 @@
 //! Inputs of the greatest length, and of one byte more.
 
+use crate::random::lists::Forms;
 use crate::random::scripts::{description, lines, state_after};
 use crate::random::Draws;
 use crate::script::MOST_BYTES;
@@ -31,7 +32,8 @@ pub fn over() -> Vec<u8> {
 
 /// Calls as whole lines, of so many bytes at most.
 fn calls(length: usize) -> Vec<u8> {
-    let parts = (1..).flat_map(|part| lines(&mut Draws::new(1, 6, part), IN_A_PART));
+    let forms = Forms::WithoutNothing;
+    let parts = (1..).flat_map(|part| lines(&mut Draws::new(1, 6, part), IN_A_PART, forms));
     let mut script = Vec::new();
     for line in parts {
         if script.len() + line.len() >= length {

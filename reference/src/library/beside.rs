@@ -114,9 +114,12 @@ pub fn one_call(
     }
 }
 
-/// "Operators of V, X and S change no word", nor does a refusal.
+/// "Operators of V, X and S change no word", nor does a refusal or a call on
+/// nothing.
 fn may_change(call: &Call, answer: &Answer) -> bool {
-    operators::writes(call.operator) && !matches!(answer, Answer::Refusal(_))
+    operators::writes(call.operator)
+        && call.space != Space::Nothing
+        && !matches!(answer, Answer::Refusal(_))
 }
 
 /// The tuples, the number of free records, and the words past record C.
@@ -244,13 +247,17 @@ impl Room {
     }
 }
 
-/// A call in words, with any number as the name of UNIVERSE, and any form of a
-/// space that has a name.
+/// Forms of a space that has a name: all but 0 and 2. Cut to 16 bits, some are
+/// one of these.
+const NUMBERED: [u32; 8] = [1, 1, 3, 4, 65_536, 65_538, 0x8000_0002, u32::MAX];
+
+/// A call in words, with any number beside UNIVERSE and nothing, and any form
+/// of a space that has a name.
 fn words_of(draws: &mut Draws, call: &Call) -> [u32; WORDS_IN_A_CALL] {
     let mut words = packed::call(call);
     match call.space {
-        Space::Universe => words[2] |= draws.one_of(&[0, 1, 9, 65_535]) << 16,
-        Space::Numbered(_) => words[4] = draws.one_of(&[1, 1, 3, 65_536, 0x8000_0000, u32::MAX]),
+        Space::Universe | Space::Nothing => words[2] |= draws.one_of(&[0, 1, 9, 65_535]) << 16,
+        Space::Numbered(_) => words[4] = draws.one_of(&NUMBERED),
     }
     words
 }

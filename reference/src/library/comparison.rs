@@ -3,7 +3,7 @@
 use super::beside::{self, lendable, Checked, Model, LONGEST_LIST};
 use super::found::Found;
 use super::Library;
-use crate::machine::{Answer, Call, Machine, Space, SpaceName};
+use crate::machine::{Answer, Call, Edge, Machine, Node, Space, SpaceName};
 use crate::random::{buffers, lists, systematic, Draws};
 use crate::{buffer, load};
 
@@ -15,6 +15,7 @@ const LENGTHS: u64 = 24;
 const OPERATORS: u64 = 25;
 const SYSTEMATIC: u64 = 26;
 const FULL: u64 = 27;
+const NOTHING: u64 = 28;
 
 /// How many small stores are damaged in every place.
 const SYSTEMATIC_STORES: u64 = 100;
@@ -47,6 +48,7 @@ pub fn compare(library: &Library, calls: usize, buffers: usize, seed: u64) -> Fo
     let mut comparison = Comparison::new(library, seed);
     comparison.lengths();
     comparison.operators();
+    comparison.nothing();
     comparison.full_store();
     comparison.systematic();
     comparison.lists(calls);
@@ -104,20 +106,37 @@ impl Comparison<'_> {
         self.any_buffer(draws, &words)
     }
 
-    /// Operator numbers, in UNIVERSE and in a space, on a store that has tuples.
+    /// Operator numbers, in UNIVERSE, in a space and in nothing, on a store that
+    /// has tuples.
     fn operators(&mut self) {
         let mut draws = self.draws(OPERATORS, 0);
         let words = buffers::after(&mut draws, 100, load::dense(1, 3).take(200));
         let model = Model::of(&words);
         let aimed = lendable(&model.any_call(&mut draws));
         let calls = operators().flat_map(|operator| {
-            [Space::Universe, Space::Numbered(SpaceName(1))].map(|space| Call {
+            let numbered = Space::Numbered(SpaceName(1));
+            [Space::Universe, numbered, Space::Nothing].map(|space| Call {
                 operator,
                 space,
                 ..aimed
             })
         });
         self.calls_on(&words, &model, calls);
+    }
+
+    /// Nothing as the space of each operator, with names that are there, absent
+    /// or 0 and with lists of no place and of some, on a fresh store of one
+    /// record, on one that has tuples and on a full one.
+    fn nothing(&mut self) {
+        let mut draws = self.draws(NOTHING, 0);
+        let stores = [
+            buffers::after(&mut draws, 1, []),
+            buffers::after(&mut draws, 100, load::dense(1, 3).take(200)),
+            buffers::after(&mut draws, 40, load::full_bed().into_iter().take(39)),
+        ];
+        for words in stores {
+            self.calls_on(&words, &Model::of(&words), calls_on_nothing());
+        }
     }
 
     /// The longest list, in lists around its length and in longer ones, and any
@@ -259,6 +278,38 @@ impl Comparison<'_> {
     }
 }
 
+/// Calls of all operators, and of the numbers beside them, on nothing.
+fn calls_on_nothing() -> Vec<Call> {
+    let mut calls = Vec::new();
+    for operator in 0..=58 {
+        // 1 is there where there are tuples, 9,999 is nowhere.
+        for [n, g, m] in [
+            [1, 1, 1],
+            [1, 1, 2],
+            [2, 1, 1],
+            [1, 9_999, 2],
+            [9_999, 1, 1],
+            [1, 1, 9_999],
+            [9_999, 9_999, 9_999],
+            [0, 1, 1],
+            [1, 0, 1],
+            [1, 1, 0],
+            [0, 0, 0],
+        ] {
+            calls.extend([0, 3].map(|list_length| Call {
+                operator,
+                n: Node(n),
+                g: Edge(g),
+                m: Node(m),
+                v: 60,
+                space: Space::Nothing,
+                list_length,
+            }));
+        }
+    }
+    calls
+}
+
 fn any_words(draws: &mut Draws, length: usize) -> Vec<u32> {
     (0..length).map(|_| draws.below(1 << 20) as u32).collect()
 }
@@ -331,8 +382,9 @@ mod tests {
     /// Whether some case fails, of some calls and some buffers.
     fn fails(library: &Library) -> bool {
         let mut comparison = Comparison::new(library, 1);
-        let parts: [fn(&mut Comparison); 3] = [
+        let parts: [fn(&mut Comparison); 4] = [
             |comparison| comparison.operators(),
+            |comparison| comparison.nothing(),
             |comparison| comparison.lists(2_000),
             |comparison| comparison.buffers(300),
         ];
@@ -355,7 +407,7 @@ mod tests {
         let mut comparison = Comparison::new(&HAND_WRITTEN, 1);
         comparison.lists(12_000);
         let text = comparison.found.to_string();
-        let expected = "57 operators answered, refusals 2 3 4 5 6 7 8 9 10\n";
+        let expected = "57 operators answered, refusals 2 3 4 5 6 7 8 9 10 12\n";
         assert!(text.contains(expected), "{text}");
     }
 
@@ -459,6 +511,98 @@ mod tests {
             assert!(fails(&by_words), "call {place}");
             assert!(fails(&by_pairs), "call_pairs {place}");
         }
+    }
+
+    /// Calls that are wrong where the space is nothing: it is taken for
+    /// UNIVERSE, or for a space that is absent; BUN tests its node, as in an
+    /// empty space; a C, B or D operator changes a word; a place of the list is
+    /// written; VUN says NIL; CUS is answered; 12 comes before 3.
+    const WRONG_ON_NOTHING: [OneCall; 8] = [
+        |store, call, list| on(Space::Universe, store, call, list),
+        |store, call, list| on(Space::Numbered(SpaceName(65_000)), store, call, list),
+        |store, call, list| match (call.space, call.operator) {
+            (Space::Nothing, 46) => Answer::Refusal(6),
+            _ => chained::execute(store, call, list),
+        },
+        |store, call, list| {
+            let answer = chained::execute(store, call, list);
+            if let (Space::Nothing, Answer::Name(_), [.., last]) = (call.space, answer, store) {
+                *last ^= 1;
+            }
+            answer
+        },
+        |store, call, list| {
+            let answer = chained::execute(store, call, list);
+            if let (Space::Nothing, Answer::List(0), [first, ..]) = (call.space, answer, list) {
+                *first = 0;
+            }
+            answer
+        },
+        |store, call, list| match chained::execute(store, call, list) {
+            Answer::Refusal(12) if call.operator == 47 => Answer::Value(0),
+            answer => answer,
+        },
+        |store, call, list| match chained::execute(store, call, list) {
+            Answer::Refusal(12) if call.operator == 51 => Answer::Name(0),
+            answer => answer,
+        },
+        |store, call, list| match chained::execute(store, call, list) {
+            Answer::Refusal(3) if call.space == Space::Nothing && call.operator == 7 => {
+                Answer::Refusal(12)
+            }
+            answer => answer,
+        },
+    ];
+
+    /// The call with this space where its space is nothing.
+    fn on(other: Space, store: &mut [u32], call: &Call, list: &mut [u32]) -> Answer {
+        let space = match call.space {
+            Space::Nothing => other,
+            space => space,
+        };
+        chained::execute(store, &Call { space, ..*call }, list)
+    }
+
+    #[test]
+    fn each_wrong_call_on_nothing_fails() {
+        for (place, wrong) in WRONG_ON_NOTHING.into_iter().enumerate() {
+            let library = Library {
+                call: wrong,
+                ..HAND_WRITTEN
+            };
+            assert!(fails(&library), "call {place}");
+        }
+    }
+
+    /// Runs that take the form 2 for a number, and 3 for nothing.
+    #[test]
+    fn each_wrong_form_fails() {
+        let wrong: [WholeList; 2] = [
+            |store, calls, answers, lists| {
+                chained::run(store, &with_form(calls, 2, 3), answers, lists)
+            },
+            |store, calls, answers, lists| {
+                chained::run(store, &with_form(calls, 3, 2), answers, lists)
+            },
+        ];
+        for run in wrong {
+            let library = Library {
+                run,
+                ..HAND_WRITTEN
+            };
+            assert!(fails(&library));
+        }
+    }
+
+    /// The calls with another form of space in place of one.
+    fn with_form(calls: &[u32], form: u32, other: u32) -> Vec<u32> {
+        let mut calls = calls.to_vec();
+        for call in calls.chunks_exact_mut(WORDS_IN_A_CALL) {
+            if call[4] == form {
+                call[4] = other;
+            }
+        }
+        calls
     }
 
     #[test]

@@ -49,6 +49,7 @@ fn call_of(call: &Call) -> gaffdamson::Call {
         space: match call.space {
             Space::Universe => gaffdamson::Space::Universe,
             Space::Numbered(s) => gaffdamson::Space::Numbered(gaffdamson::SpaceName(s.0)),
+            Space::Nothing => gaffdamson::Space::Nothing,
         },
     }
 }

@@ -9,7 +9,7 @@ use super::Draws;
 type Damage = fn(&mut Draws, &Line) -> Option<Vec<u8>>;
 
 /// Each kind of damage, by name. All but the last make a line unreadable.
-pub const KINDS: [(&str, Damage); 23] = [
+pub const KINDS: [(&str, Damage); 26] = [
     ("empty line", empty_line),
     ("small letters", small_letters),
     ("other letters", other_letters),
@@ -32,6 +32,9 @@ pub const KINDS: [(&str, Damage); 23] = [
     ("other number", other_number),
     ("U where no space stands", misplaced_universe),
     ("other UNIVERSE", other_universe),
+    ("- where no space stands", misplaced_nothing),
+    ("other nothing", other_nothing),
+    ("- beside a number", glued_nothing),
     ("any byte", any_byte),
 ];
 
@@ -301,6 +304,43 @@ fn other_universe(draws: &mut Draws, line: &Line) -> Option<Vec<u8>> {
     Some(line.with_word(place, draws.one_of(&words).as_bytes()))
 }
 
+/// In the place of n, g, m or v, or after SUS.
+fn misplaced_nothing(draws: &mut Draws, line: &Line) -> Option<Vec<u8>> {
+    match line.place(draws, |argument| argument != Argument::Space) {
+        Some(place) => Some(line.with_word(place, b"-")),
+        None => (line.letters == b"SUS").then(|| line.with_words(&[b"-"])),
+    }
+}
+
+/// Words for nothing that are none, and `-` with another space, where a space
+/// stands.
+fn other_nothing(draws: &mut Draws, line: &Line) -> Option<Vec<u8>> {
+    let place = line.place(draws, |argument| argument == Argument::Space)?;
+    let words = [
+        "--", "---", "-0", "-U", "U-", "+", "_", "- -", "- U", "- 9", "9 -", "\u{2013}",
+    ];
+    Some(line.with_word(place, draws.one_of(&words).as_bytes()))
+}
+
+/// `-` before or after an argument, without a blank, or for the blank before
+/// it.
+fn glued_nothing(draws: &mut Draws, line: &Line) -> Option<Vec<u8>> {
+    let place = line.any_place(draws)?;
+    let word = line.words[place];
+    match draws.below(3) {
+        0 => Some(line.with_word(place, &[b"-", word].concat())),
+        1 => Some(line.with_word(place, &[word, b"-"].concat())),
+        _ => {
+            let mut text = line.with_words(&line.words[..place]);
+            for word in &line.words[place..] {
+                text.push(b'-');
+                text.extend_from_slice(word);
+            }
+            Some(text)
+        }
+    }
+}
+
 /// One byte replaced by another, which can leave the line readable.
 fn any_byte(draws: &mut Draws, line: &Line) -> Option<Vec<u8>> {
     let mut text = line.text();
@@ -314,7 +354,7 @@ mod tests {
     use super::*;
     use crate::script::read_call;
 
-    const READABLE: [&str; 12] = [
+    const READABLE: [&str; 16] = [
         "COP 1 5 2",
         "CAP 1 5 2 U",
         "BOP 1 5 2 60 9",
@@ -327,6 +367,10 @@ mod tests {
         "BUS U 4294967295",
         "SUS",
         "SUS 1",
+        "CAP 1 5 2 -",
+        "SUN -",
+        "BUN 1 0 -",
+        "BUS - 60",
     ];
 
     #[test]

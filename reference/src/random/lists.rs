@@ -13,6 +13,18 @@ pub struct Run {
     pub machine: Machine,
 }
 
+/// The forms that the spaces of drawn calls have.
+#[derive(Clone, Copy, PartialEq, Eq, Debug)]
+pub enum Forms {
+    /// UNIVERSE and numbers. Scripts that are measured have these two.
+    WithoutNothing,
+    /// All three.
+    WithNothing,
+}
+
+/// One call in so many has nothing as its space.
+const NOTHING_ONCE_IN: usize = 10;
+
 /// The names of a list: small ones, or some of several digits.
 pub(super) const NODES: [[u16; 4]; 2] = [[1, 2, 3, 4], [2, 10, 300, 65_535]];
 pub(super) const EDGES: [[u16; 3]; 2] = [[1, 2, 3], [5, 40, 65_535]];
@@ -60,6 +72,11 @@ pub fn draw(draws: &mut Draws) -> Run {
 
 /// A list of so many calls, on a fresh machine with this C.
 pub fn run(draws: &mut Draws, capacity: usize, length: usize) -> Run {
+    run_with(draws, capacity, length, Forms::WithNothing)
+}
+
+/// The same, with spaces of these forms.
+pub fn run_with(draws: &mut Draws, capacity: usize, length: usize, forms: Forms) -> Run {
     let pool = draws.below(4) / 3;
     let mut run = Run {
         capacity,
@@ -73,13 +90,21 @@ pub fn run(draws: &mut Draws, capacity: usize, length: usize) -> Run {
         length / 2
     };
     for place in 0..length {
-        let call = mostly_answered(draws, &run.machine, |draws| {
+        let draw = |draws: &mut Draws| {
             if place < building {
                 building_call(draws, pool, place)
             } else {
                 aimed_call(draws, pool, &run.machine)
             }
-        });
+        };
+        // The first space and its nodes are made in any case.
+        let may_be_nothing = forms == Forms::WithNothing && place >= building.min(4);
+        let call = if may_be_nothing && draws.once_in(NOTHING_ONCE_IN) {
+            let call = draw(draws);
+            with_nothing(draws, call)
+        } else {
+            mostly_answered(draws, &run.machine, draw)
+        };
         run.answers.push(run.machine.step(&call));
         run.calls.push(call);
     }
@@ -106,7 +131,7 @@ fn building_call(draws: &mut Draws, pool: usize, place: usize) -> Call {
 
 /// A call that would be refused is mostly drawn again with the same operator,
 /// a few times.
-pub(super) fn mostly_answered(
+fn mostly_answered(
     draws: &mut Draws,
     machine: &Machine,
     draw: impl Fn(&mut Draws) -> Call,
@@ -128,14 +153,45 @@ pub(super) fn mostly_answered(
     call
 }
 
-/// A call with any names of any list, or with those of a tuple that is present.
+/// The call with nothing as its space, and with any operator, as none removes
+/// anything there.
+fn with_nothing(draws: &mut Draws, call: Call) -> Call {
+    let operator = match kind(call.operator) {
+        Some(_) => 1 + draws.below(57) as u32,
+        None => call.operator,
+    };
+    Call {
+        operator,
+        space: Space::Nothing,
+        ..call
+    }
+}
+
+/// A call with any names of any list, or with those of a tuple that is present;
+/// its space has any form.
 pub fn any_call(draws: &mut Draws, machine: &Machine) -> Call {
     let pool = draws.below(NODES.len());
-    aimed_call(draws, pool, machine)
+    let call = aimed_call(draws, pool, machine);
+    if draws.once_in(NOTHING_ONCE_IN) {
+        with_nothing(draws, call)
+    } else {
+        call
+    }
+}
+
+/// A call with names of a pool or of a tuple that is present, most often one
+/// that is answered; its space has any form.
+pub(super) fn next_call(draws: &mut Draws, pool: usize, machine: &Machine) -> Call {
+    if draws.once_in(NOTHING_ONCE_IN) {
+        let call = aimed_call(draws, pool, machine);
+        with_nothing(draws, call)
+    } else {
+        mostly_answered(draws, machine, |draws| aimed_call(draws, pool, machine))
+    }
 }
 
 /// A call with names of a pool, or with those of a tuple that is present.
-pub(super) fn aimed_call(draws: &mut Draws, pool: usize, machine: &Machine) -> Call {
+fn aimed_call(draws: &mut Draws, pool: usize, machine: &Machine) -> Call {
     let mut call = draw_call(draws, pool);
     if !draws.once_in(4) {
         let mut keys: Vec<Key> = machine.tuples().map(|(key, _)| key).collect();

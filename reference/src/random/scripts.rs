@@ -7,7 +7,7 @@ use crate::operators::{self, Argument};
 use crate::script::{self, read_call, CAPACITY, LIST_LENGTH, MOST_BYTES};
 
 use super::damage::damaged;
-use super::lists::{self, EDGES, NODES, SPACES};
+use super::lists::{self, Forms, EDGES, NODES, SPACES};
 use super::Draws;
 
 /// Names at which the number of digits or of bytes changes, and others.
@@ -46,7 +46,7 @@ const LONG: [usize; 10] = [
 ];
 
 /// Short scripts that few draws would give.
-const TINY: [&[u8]; 14] = [
+const TINY: [&[u8]; 17] = [
     b"",
     b"",
     b"\n",
@@ -61,6 +61,9 @@ const TINY: [&[u8]; 14] = [
     b"\0",
     b"\xff\n",
     b"CUN 1\r\nSUN\r\n",
+    b"-",
+    b"SUN -",
+    b"SUS -\n",
 ];
 
 /// Distinguishes scripts from the lists and buffers of the same seed.
@@ -87,7 +90,7 @@ fn draw(draws: &mut Draws) -> Vec<u8> {
 /// Lines, one of them in so many damaged.
 fn mixed(draws: &mut Draws, damage_once_in: usize) -> Vec<u8> {
     let length = 15 + draws.below(70);
-    let lines = lines(draws, length);
+    let lines = lines(draws, length, Forms::WithNothing);
     let script = join(draws, &lines, damage_once_in);
     finished(draws, script)
 }
@@ -167,9 +170,9 @@ pub fn description(machine: &Machine, most: usize) -> Vec<u8> {
     lines.into_bytes()
 }
 
-/// So many calls as lines.
-pub fn lines(draws: &mut Draws, length: usize) -> Vec<Vec<u8>> {
-    let calls = lists::run(draws, CAPACITY, length).calls;
+/// So many calls as lines, with spaces of these forms.
+pub fn lines(draws: &mut Draws, length: usize, forms: Forms) -> Vec<Vec<u8>> {
+    let calls = lists::run_with(draws, CAPACITY, length, forms).calls;
     let names = Names::draw(draws);
     calls
         .iter()
@@ -218,6 +221,7 @@ fn space_word(draws: &mut Draws, call: &Call) -> Option<String> {
         Space::Numbered(s) => Some(s.0.to_string()),
         Space::Universe if call.operator <= 50 && draws.once_in(2) => None,
         Space::Universe => Some("U".to_string()),
+        Space::Nothing => Some("-".to_string()),
     }
 }
 
@@ -262,8 +266,8 @@ impl Names {
             g: Edge(other_name(&self.edges, call.g.0)),
             m: Node(other_name(&self.nodes, call.m.0)),
             space: match call.space {
-                Space::Universe => Space::Universe,
                 Space::Numbered(s) => Space::Numbered(SpaceName(other_name(&self.spaces, s.0))),
+                space => space,
             },
             ..*call
         }
@@ -306,7 +310,7 @@ fn tiny(draws: &mut Draws) -> Vec<u8> {
         0 => damaged(draws, b"BOP 1 5 2 60 9"),
         1 => {
             let length = draws.below(40);
-            let bytes = b"CUNSOPVXBDAIG 0123456789\n\n\r\t\0\xff";
+            let bytes = b"CUNSOPVXBDAIG 0123456789-\n\n\r\t\0\xff";
             (0..length).map(|_| draws.one_of(bytes)).collect()
         }
         _ => draws.one_of(&TINY).to_vec(),
@@ -318,11 +322,11 @@ fn tiny(draws: &mut Draws) -> Vec<u8> {
 fn long(draws: &mut Draws) -> Vec<u8> {
     let length = draws.one_of(&LONG);
     if draws.once_in(6) {
-        let byte = draws.one_of(b"\n1U ");
+        let byte = draws.one_of(b"\n1U- ");
         return [b"CUN ", &vec![byte; length - 4][..]].concat();
     }
     let count = 300 + draws.below(500);
-    let lines = lines(draws, count);
+    let lines = lines(draws, count, Forms::WithNothing);
     let damage_once_in = draws.one_of(&[8, 40, usize::MAX]);
     let mut script = Vec::new();
     while script.len() < length {
@@ -390,10 +394,7 @@ impl Written {
     /// Calls with names that are there or not.
     fn go_on(&mut self, draws: &mut Draws) {
         for _ in 0..20 + draws.below(60) {
-            let machine = &self.machine;
-            let call = lists::mostly_answered(draws, machine, |draws| {
-                lists::aimed_call(draws, 0, machine)
-            });
+            let call = lists::next_call(draws, 0, &self.machine);
             if let Some(line) = line_of(draws, &call) {
                 self.write(line);
             }

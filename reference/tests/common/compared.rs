@@ -1,6 +1,6 @@
 //! The hand-written store beside the tuple machine.
 
-use gaffdamson_reference::machine::{Answer, Call, Machine};
+use gaffdamson_reference::machine::{Answer, Call, Machine, Space};
 use gaffdamson_reference::{buffer, chained, operators, packed};
 
 use super::lent::{answer_of, LONGEST_LIST, UNWRITTEN};
@@ -31,7 +31,8 @@ impl Compared {
         let answer = run(chained::execute_known, &mut self.words, call);
         assert_eq!(answer, expected, "{call:?}");
         assert_eq!(checked, self.words);
-        if !operators::writes(call.operator) || matches!(answer, Answer::Refusal(_)) {
+        let may_change = operators::writes(call.operator) && call.space != Space::Nothing;
+        if !may_change || matches!(answer, Answer::Refusal(_)) {
             assert_eq!(self.words, before, "{call:?}");
         }
         answer

@@ -30,7 +30,7 @@ use mathlib.Core.Path.{_≡_, refl}
 use Prim.Native.Nat.{ℕ}
 use lib.ListN.{length, replicate}
 use Rattle.model.specs.declared.Space.{Space}
-use Rattle.model.specs.declared.Space.the-variants.{Universe, Numbered}
+use Rattle.model.specs.declared.Space.the-variants.{Universe, Numbered, Nothing}
 use Rattle.model.specs.Keys.{Tuple}
 use Rattle.model.specs.Tuples.{Tuples, fresh}
 use Rattle.model.specs.Pairs.{pair}
@@ -173,6 +173,7 @@ fn written_call(call: &Call) -> String {
     let space = match call.space {
         Space::Universe => "Universe".to_string(),
         Space::Numbered(name) => format!("(numbered {})", name.0),
+        Space::Nothing => "Nothing".to_string(),
     };
     format!(
         "call {} {} {} {} {} {space} {}",
