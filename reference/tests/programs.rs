@@ -9,13 +9,14 @@ use std::path::{Path, PathBuf};
 use common::printed;
 use gaffdamson_reference::inputs;
 
-const NAMES: [&str; 10] = [
+const NAMES: [&str; 11] = [
     "slips",
     "slips_blocks",
     "slips_empty",
     "slips_exact",
     "slips_full",
     "slips_manual",
+    "slips_nothing",
     "slips_over",
     "slips_panel",
     "slips_refusals",

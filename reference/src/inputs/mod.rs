@@ -5,6 +5,7 @@ mod blocks;
 mod full;
 pub mod long;
 mod manual;
+mod nothing;
 mod refusals;
 mod unreadable;
 
@@ -20,6 +21,7 @@ pub fn all(top: &Path) -> io::Result<Vec<(&'static str, Vec<u8>)>> {
         ("slips_manual", manual.script),
         ("slips_refusals", refusals::script()),
         ("slips_unreadable", unreadable::script()),
+        ("slips_nothing", nothing::script()),
         ("slips_exact", long::exact()),
         ("slips_over", long::over()),
         ("slips_full", full::script()),
