@@ -25,8 +25,8 @@ use Rattle.model.specs.Rules.{Has, TupleRules}
 use Rattle.model.specs.Entries.{PointsIn}
 use Rattle.model.specs.Buffer.{capacityOf, tuplesOf, isStore}
 use Rattle.model.specs.Steps.{Reply, pairs, nOf, mOf, sOf, listed, wouldList, wouldAdd, reply}
-use Rattle.model.specs.Refusals.{isUniverse, workedOn, noOperator, zeroName, destroysUniverse, spaceAbsent, nodeAbsent, secondAbsent, edgeAbsent, listShort, full, ofCall, ofTuples, earlier, refusalOf}
-use Rattle.model.specs.Machine.{outcomeOf, machine}
+use Rattle.model.specs.Refusals.{isUniverse, workedOn, noOperator, zeroName, destroysUniverse, spaceAbsent, nodeAbsent, secondAbsent, edgeAbsent, listShort, full, selectsNothing, refusalOf}
+use Rattle.model.specs.Machine.{step, idle, outcomeOf, machine}
 use Rattle.model.specs.OneCall.{answerOf, listAfter, writes, OnStore}
 use Rattle.model.proofs.Bools.{or-left, and-left, and-right, and-both, not-yes, no-not, neither, failed, clash}
 use Rattle.model.proofs.Entries.{Member, samePair, own-pair, listed-sound}
@@ -37,7 +37,7 @@ use Rattle.operate.specs.Operate.{NearIn}
 use Rattle.list.specs.Queries.{written, mostOf}
 use Rattle.listing.specs.Lists.{queryOf}
 use Rattle.listing.proofs.Asked.{surely-not-short}
-use Rattle.refusals.proofs.Stops.{passes, nothing-left, not-refused, tuples-most}
+use Rattle.refusals.proofs.Stops.{passes, nothing-left, as-asked, not-refused, tuples-most}
 use Rattle.calls.specs.AtOnce.{sin, atOnce, listedAtOnce}
 
 -- ---- an entry shows what the call names
@@ -122,11 +122,11 @@ module _ (C : ℕ) (ts : Tuples) (c : Call) (room : ℕ) (e : c .operator ≡ 40
       (not-absent (within 1 44 (c .operator) || within 46 47 (c .operator)) (present (nodeKey (sOf c) (nOf c)) ts) (T .node))
       (not-absent (eqb (c .operator) 57) (present (nodeKey 0 (nOf c)) ts) (T .also))
 
-  nothing-stops : zeroName c ≡ false → leb (mostOf (queryOf sin c) (length ts)) room ≡ true → length ts ≤ C → There (sOf c) (nOf c) ts
+  nothing-stops : selectsNothing c ≡ false → zeroName c ≡ false → leb (mostOf (queryOf sin c) (length ts)) room ≡ true → length ts ≤ C → There (sOf c) (nOf c) ts
       → refusalOf C ts c room ≡ none
-  unfolding refusalOf ofCall ofTuples earlier
-  nothing-stops names fits h T =
+  nothing-stops selects names fits h T =
       not-refused C ts c room (sym
+      (as-asked C ts c room 0 selects
       (passes _ _ false _ 0 (sym operator-known) refl
       (passes _ _ false _ 0 (sym names) refl
       (passes _ _ false _ 0 (sym universe-kept) refl
@@ -135,20 +135,22 @@ module _ (C : ℕ) (ts : Tuples) (c : Call) (room : ℕ) (e : c .operator ≡ 40
       (passes _ _ false _ 0 (sym second-unread) refl
       (passes _ _ false _ 0 (sym edge-unasked) refl
       (passes _ _ false _ 0 (sym (roomy fits)) refl
-      (passes _ _ false _ 0 (sym (nothing-added h)) refl nothing-left))))))))))
+      (passes _ _ false _ 0 (sym (nothing-added h)) refl nothing-left)))))))))))
 
 -- ---- the call
 
 -- a call that lists and that nothing stops
-listed-known : (b l l′ : List ℕ) (c : Call) (k : ℕ) → isStore b ≡ true → operatorOf (c .operator) ≡ Lists sin
+listed-known : (b l l′ : List ℕ) (c : Call) (k : ℕ) → isStore b ≡ true → selectsNothing c ≡ false → operatorOf (c .operator) ≡ Lists sin
     → refusalOf (capacityOf b) (tuplesOf b) c (length l) ≡ none → k ≡ length (listed sin c (tuplesOf b)) → l′ ≡ written (listed sin c (tuplesOf b)) l
     → OnStore b l c (Listed k) b l′
 unfolding machine outcomeOf reply answerOf listAfter writes written
-listed-known b l l′ c k store O pass K L =
+listed-known b l l′ c k store N O pass K L =
     let ts : Tuples = tuplesOf b in
     let ps : List Pair = listed sin c ts in
     let A : machine (capacityOf b) ts c (length l) .answer ≡ pairs (length ps) ps =
-    ap (λ (r : Option ℕ). outcomeOf r ts c .answer) pass ∙ ap (λ (op : Operator). reply op c ts) O in
+    ap (λ (r : Option ℕ). outcomeOf r ts c .answer) pass
+    ∙ ap (λ (t : Bool). cond t (idle c ts) (step c ts) .answer) N
+    ∙ ap (λ (op : Operator). reply op c ts) O in
     record {
       answer = ap Listed K ∙ sym (ap answerOf A);
       list = L ∙ sym (ap (λ (r : Reply). listAfter r l) A);
@@ -158,13 +160,14 @@ listed-known b l l′ c k store O pass K L =
       past = refl;
       refused = λ n f. refl;
       reading = λ w. refl;
+      unselected = λ w. refl;
     }
 
 -- entries that were listed at once are the call's
-pub at-once-known : (b l l′ : List ℕ) (c : Call) (k : ℕ) → isStore b ≡ true → k ≡ length (listedAtOnce c (tuplesOf b) (length l)) → k ≢ 0
+pub at-once-known : (b l l′ : List ℕ) (c : Call) (k : ℕ) → isStore b ≡ true → selectsNothing c ≡ false → k ≡ length (listedAtOnce c (tuplesOf b) (length l)) → k ≢ 0
     → l′ ≡ written (listedAtOnce c (tuplesOf b) (length l)) l → OnStore b l c (Listed k) b l′
 unfolding listedAtOnce atOnce
-at-once-known b l l′ c k store K h L = go (atOnce c (length (tuplesOf b)) (length l)) refl K L
+at-once-known b l l′ c k store N K h L = go (atOnce c (length (tuplesOf b)) (length l)) refl K L
   where
     go : (t : Bool) → atOnce c (length (tuplesOf b)) (length l) ≡ t → k ≡ length (cond t (listed sin c (tuplesOf b)) [])
         → l′ ≡ written (cond t (listed sin c (tuplesOf b)) []) l → OnStore b l c (Listed k) b l′
@@ -177,8 +180,8 @@ at-once-known b l l′ c k store K h L = go (atOnce c (length (tuplesOf b)) (len
         let rest = and-right (eqb (c .operator) 40) (not (zeroName c) && fits) e in
         let p = edge-in c ts R (λ z. h (K ∙ z)) in
         let T = ends-there (sOf c) (nOf c) ts (p .0) R (p .1) in
-        listed-known b l l′ c k store (sin-operator c E)
-        (nothing-stops (capacityOf b) ts c (length l) E (not-yes (zeroName c) (and-left (not (zeroName c)) fits rest))
+        listed-known b l l′ c k store N (sin-operator c E)
+        (nothing-stops (capacityOf b) ts c (length l) E N (not-yes (zeroName c) (and-left (not (zeroName c)) fits rest))
         (and-right (not (zeroName c)) fits rest) (tuples-most b (store-linked b store)) T)
         K L
 

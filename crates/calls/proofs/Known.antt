@@ -1,5 +1,5 @@
 -- One call on a store: refused, or performed (OnStore).
-use mathlib.Core.Bool.{Bool, true, false, false≢true}
+use mathlib.Core.Bool.{Bool, true, false, cond, false≢true, true≢false}
 use mathlib.Core.List.{List}
 use mathlib.Core.Logic.{_≢_}
 use mathlib.Core.Option.{Option, none, some}
@@ -19,8 +19,8 @@ use Rattle.model.specs.Operators.{operatorOf, readsOf}
 use Rattle.model.specs.Tuples.{Tuples, missing}
 use Rattle.model.specs.Buffer.{capacityOf, tuplesOf, isStore}
 use Rattle.model.specs.Steps.{wouldList, wouldAdd}
-use Rattle.model.specs.Refusals.{zeroName, destroysUniverse, listShort, full, refusalOf}
-use Rattle.model.specs.Machine.{FieldsFit, outcomeOf, machine}
+use Rattle.model.specs.Refusals.{selectsNothing, zeroName, destroysUniverse, listShort, full, refusalOf}
+use Rattle.model.specs.Machine.{FieldsFit, step, idle, outcomeOf, machine}
 use Rattle.model.specs.OneCall.{answerOf, listAfter, OnStore, OneCall}
 use Rattle.model.proofs.Bools.{and-left, and-right}
 use Rattle.model.proofs.Steps.{Passed, passed, agrees, agree, n-named, g-named, m-named, s-named, after-rules}
@@ -33,17 +33,17 @@ use Rattle.refusals.proofs.Stops.{some-exactly, not-refused}
 
 -- ---- a call that is not stopped is ready
 
-names-read : (r : Removal) (c : Call) → zeroName c ≡ false → destroysUniverse c ≡ false → agrees (Destroy r) (c .operator) ≡ true → NamesRead r c
-names-read (Removal.P d) c e f a =
+names-read : (r : Removal) (c : Call) → selectsNothing c ≡ false → zeroName c ≡ false → destroysUniverse c ≡ false → agrees (Destroy r) (c .operator) ≡ true → NamesRead r c
+names-read (Removal.P d) c h e f a =
     (g-named c e (and-left (readsOf (c .operator) .g) _ a), m-named c e (and-right (readsOf (c .operator) .g) _ a))
-names-read (Removal.G d) c e f a = tt
-names-read (Removal.GG d) c e f a = g-named c e a
-names-read (Removal.GN d) c e f a = m-named c e a
-names-read (Removal.N d) c e f a = tt
-names-read (Removal.NG d) c e f a = g-named c e a
-names-read Removal.UN c e f a = n-named c e a
-names-read Removal.US c e f a =
-    s-named c e f (and-left (readsOf (c .operator) .s) _ a) (and-right (readsOf (c .operator) .s) _ a)
+names-read (Removal.G d) c h e f a = tt
+names-read (Removal.GG d) c h e f a = g-named c e a
+names-read (Removal.GN d) c h e f a = m-named c e a
+names-read (Removal.N d) c h e f a = tt
+names-read (Removal.NG d) c h e f a = g-named c e a
+names-read Removal.UN c h e f a = n-named c e a
+names-read Removal.US c h e f a =
+    s-named c h e f (and-left (readsOf (c .operator) .s) _ a) (and-right (readsOf (c .operator) .s) _ a)
 
 ready : (b : List ℕ) (c : Call) (room : ℕ) → Passed (capacityOf b) (tuplesOf b) c room → Ready (operatorOf (c .operator)) c b room
 unfolding listShort full wouldList wouldAdd
@@ -56,16 +56,16 @@ ready b c room P = go (operatorOf (c .operator)) refl
     go (Values o) e = tt
     go (Exists o) e = tt
     go (Destroy r) e =
-        names-read r c (P .names) (P .universe) (ap (λ (op : Operator). agrees op (c .operator)) (sym e) ∙ agree c (P .operator))
+        names-read r c (P .selects) (P .names) (P .universe) (ap (λ (op : Operator). agrees op (c .operator)) (sym e) ∙ agree c (P .operator))
     go (Lists l) e = (
       names-asked l c (P .operator) (P .names) e,
       ltb-false room _ (sym (ap (λ (op : Operator). ltb room (length (wouldList op c (tuplesOf b)))) e) ∙ P .list),
     )
 
-pub let-pass : (b : List ℕ) (c : Call) (room stop : ℕ) (op : Operator) → stop ≡ stopNumber (refusalOf (capacityOf b) (tuplesOf b) c room) → stop ≡ 0
+pub let-pass : (b : List ℕ) (c : Call) (room stop : ℕ) (op : Operator) → selectsNothing c ≡ false → stop ≡ stopNumber (refusalOf (capacityOf b) (tuplesOf b) c room) → stop ≡ 0
     → op ≡ operatorOf (c .operator) → Ready op c b room
-let-pass b c room stop op S e O =
-    subst (λ (x : Operator). Ready x c b room) (sym O) (ready b c room (passed _ _ c room (not-refused _ _ c room (sym S ∙ e))))
+let-pass b c room stop op N S e O =
+    subst (λ (x : Operator). Ready x c b room) (sym O) (ready b c room (passed _ _ c room N (not-refused _ _ c room (sym S ∙ e))))
 
 -- ---- refused
 
@@ -84,6 +84,7 @@ refused-known b l c stop e S h =
       past = refl;
       refused = λ n f. refl;
       reading = λ w. refl;
+      unselected = λ w. refl;
     }
 
 -- ---- performed
@@ -91,16 +92,17 @@ refused-known b l c stop e S h =
 none≢some : {n : ℕ} → none ≡ some n → ⊥
 none≢some {n} e = let z : _≡_ {A = ℕ} 0 1 = cc in omega arith
 
-pub performed-known : (b l b′ l′ : List ℕ) (c : Call) (stop : ℕ) (op : Operator) (a : Answer) → isStore b ≡ true → FieldsFit c
+pub performed-known : (b l b′ l′ : List ℕ) (c : Call) (stop : ℕ) (op : Operator) (a : Answer) → isStore b ≡ true → selectsNothing c ≡ false → FieldsFit c
     → stop ≡ stopNumber (refusalOf (capacityOf b) (tuplesOf b) c (length l)) → stop ≡ 0 → op ≡ operatorOf (c .operator)
     → Performed op c b l a b′ l′ → OnStore b l c a b′ l′
 unfolding machine outcomeOf
-performed-known b l b′ l′ c stop op a e F S z O D =
+performed-known b l b′ l′ c stop op a e N F S z O D =
     let C : ℕ = capacityOf b in
     let ts : Tuples = tuplesOf b in
     let pass : refusalOf C ts c (length l) ≡ none = not-refused C ts c (length l) (sym S ∙ z) in
-    let P = passed C ts c (length l) pass in
-    let M = ap (λ (r : Option ℕ). outcomeOf r ts c) pass in
+    let P = passed C ts c (length l) N pass in
+    let M : machine C ts c (length l) ≡ step c ts =
+    ap (λ (r : Option ℕ). outcomeOf r ts c) pass ∙ ap (λ (t : Bool). cond t (idle c ts) (step c ts)) N in
     let E = subst (λ (x : Operator). Performed x c b l a b′ l′) O D in
     record {
       answer = E .answer ∙ sym (ap (λ o. answerOf (o .answer)) M);
@@ -111,6 +113,7 @@ performed-known b l b′ l′ c stop op a e F S z O D =
       past = E .edited .past;
       refused = λ n f. absurd (none≢some (sym pass ∙ f));
       reading = E .reading;
+      unselected = λ w. absurd (true≢false (sym w ∙ N));
     }
 
 -- ---- any buffer

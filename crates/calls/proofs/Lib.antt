@@ -2,3 +2,4 @@ pub mod Known
 pub mod AtOnce
 pub mod Counts
 pub mod Lists
+pub mod Nothing

@@ -1,7 +1,7 @@
 -- Demand 3 of the entry: calls of `execute` itself, one after the other, on a buffer that `prepare` has prepared.
 -- It rests on what a caller of these functions learns from their own contracts (`Learnt`), so a weaker contract breaks it.
 use mathlib.Core.Bool.{Bool, true, false}
-use mathlib.Core.List.{List, [], _∷_}
+use mathlib.Core.List.{List, [], _∷_, _++_}
 use mathlib.Core.Path.{_≡_, refl}
 use Prim.Native.Nat.{ℕ, _≤_}
 use native.Mathlib.Omega.{arith}
@@ -15,9 +15,12 @@ use Rattle.model.specs.declared.Preparation.{Preparation}
 use Rattle.model.specs.declared.Preparation.the-variants.{Capacity}
 use Rattle.model.specs.Tuples.{fresh}
 use Rattle.model.specs.Buffer.{fitsLength, capacityOf, Prepared, Preparing}
+use Rattle.model.specs.Refusals.{selectsNothing}
+use Rattle.model.specs.NoSelection.{Unnoticed}
 use Rattle.model.specs.CallLists.{CallMade, Trace, end, then, WholeList}
 use Rattle.model.proofs.Bools.{and-left, and-right}
 use Rattle.model.proofs.CallLists.{demand-3}
+use Rattle.model.proofs.NoSelection.{nothing-unnoticed}
 use Rattle.fresh.proofs.prepare.Kinds as prepare-kinds
 use Rattle.fresh.proofs.prepare.Reads as prepare-reads
 use Rattle.calls.proofs.execute.Kinds as kinds
@@ -73,3 +76,8 @@ pub entry-demand-3 : (raw b b′ : List ℕ) (C : ℕ) (xs : List CallMade) → 
 entry-demand-3 raw b b′ C xs P calls =
     let Q = prepared-by raw b C P in
     prepared-demand-3 raw b b′ C xs (Q .0) (Q .1) (executed-trace calls)
+
+-- request 1: a call of `execute` with nothing as its space, wherever it stands in the list, changes no other answer and no tuple
+pub entry-nothing : (raw b b′ : List ℕ) (C : ℕ) (xs : List CallMade) (x : CallMade) (ys : List CallMade) → selectsNothing (x .call) ≡ true
+    → PreparedBy raw (Capacity C) b → Executed b (xs ++ (x ∷ ys)) b′ → Unnoticed C fresh xs x ys b′
+entry-nothing raw b b′ C xs x ys e P calls = nothing-unnoticed C fresh xs x ys b′ e (entry-demand-3 raw b b′ C (xs ++ (x ∷ ys)) P calls)

@@ -8,7 +8,9 @@ ghost use mathlib.Core.Bool.{true};
 ghost use mathlib.Core.Path.{_≡_};
 ghost use lib.ListN.{length};
 ghost use Rattle.model.specs.Buffer.{tuplesOf, isStore};
-ghost use Rattle.model.specs.OneCall.{OnStore, OneCall};
+ghost use Rattle.model.specs.Refusals.{selectsNothing};
+ghost use Rattle.model.specs.OneCall.{answerOf, OnStore, OneCall};
+ghost use Rattle.model.specs.NoSelection.{nothingReply};
 ghost use Rattle.list.specs.Queries.{written};
 ghost use Rattle.calls.specs.AtOnce.{listedAtOnce};
 
@@ -49,11 +51,32 @@ fn list_at_once(b: &[u32], c: Call, list: &mut [u32]) -> usize
     listing::write_listed(b, nowhere, sin, copy, list)
 }
 
+// The answer to a call with nothing as its space: the call alone decides it, and no store is read or written.
+// Its number is an operator's, since it reads a space, and the space is not UNIVERSE: of the conditions only 3 and 12 are left.
+fn answer_nothing(c: Call) -> Answer
+    requires { ⌜ selectsNothing c ≡ true ⌝ }
+    ensures { λ r. ⌜ r ≡ answerOf (nothingReply c) ⌝ }
+{
+    let reads = decode::reads_of(c.operator);
+    let zero = decode::zero_name(c, reads);
+    let needs = decode::needs_space(c.operator);
+    if zero {
+        return Answer::Refusal(3);
+    }
+    if needs {
+        return Answer::Refusal(12);
+    }
+    perform::idle(decode::operator_of(c.operator), c)
+}
+
 // One call on a buffer that the caller has proved to be a store: no check is paid.
 pub fn execute_known(store: &mut [u32], call: Call, list: &mut [u32]) -> Answer
     requires { ⌜ isStore (now store) ≡ true ⌝ }
     ensures { λ r. ⌜ OnStore (now (store .entry)) (now (list .entry)) call r (now (store .exit)) (now (list .exit)) ⌝ }
 {
+    if decode::selects_nothing(call) {
+        return answer_nothing(call);
+    }
     let k = list_at_once(store, call, list);
     if k != 0 {
         return Answer::List(k);

@@ -120,13 +120,16 @@ reads-from-47 o h l m n =
     let k : 46 ≤ o = omega (arith, h, m) in
     reads-47-49 o (omega (arith, k, n)) l
 
--- a range that ends below o
-above : (low high o : ℕ) → high < o → within low high o ≡ false
+-- a range that ends below o; one that begins above it
+pub above : (low high o : ℕ) → high < o → within low high o ≡ false
 above low high o h = go (leb low o) (leb o high) (lt-leb o high h)
   where
     go : (a b : Bool) → b ≡ false → (a && b) ≡ false
     go true b e = e
     go false b e = refl
+
+pub under : (low high o : ℕ) → o < low → within low high o ≡ false
+under low high o h = ap (λ (b : Bool). b && leb o high) (lt-leb low o h)
 
 passed-by : (b : Bool) (x y z : Reads) → b ≡ false → y ≡ z → cond b x y ≡ z
 passed-by true x y z e f = absurd (true≢false e)

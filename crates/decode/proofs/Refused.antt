@@ -1,15 +1,17 @@
--- Conditions 2 to 4 by their tests.
+-- Conditions 2 to 4 and 12 by their tests.
 use mathlib.Core.Bool.{Bool, true, false, not, _&&_, _||_, true≢false}
 use mathlib.Core.Path.{_≡_, refl, sym, ap, _∙_}
-use Prim.Native.Nat.{_≤_, _<_}
+use Prim.Native.Nat.{ℕ, _≤_, _<_}
+use native.Mathlib.Omega.{arith}
 use lib.Dec.{eqb, leb, ltb}
 use borrow.Author.Tests.{lt-ltb, le-ltb, le-leb, lt-leb, leb-true, leb-false, eq-eqb, ne-eqb}
 use Rattle.model.specs.declared.Call.{Call}
 use Rattle.model.specs.declared.Reads.{Reads}
-use Rattle.model.specs.Operators.{readsOf}
+use Rattle.model.specs.Operators.{within, readsOf}
 use Rattle.model.specs.Steps.{nOf, gOf, mOf}
-use Rattle.model.proofs.Bools.{or-left, or-right}
-use Rattle.model.specs.Refusals.{zeroSpace, zeroName, noOperator, isUniverse, destroysUniverse}
+use Rattle.model.proofs.Bools.{or-left, or-right, neither, not-yes, not-no}
+use Rattle.model.specs.Refusals.{zeroSpace, zeroName, noOperator, isUniverse, isNothing, selectsNothing, needsSpace, destroysUniverse}
+use Rattle.decode.proofs.Ranges.{every, above, under, reads-0, reads-above}
 
 -- the tests of the names, over what is read
 abbrev nTest : Call → Reads → Bool
@@ -96,3 +98,56 @@ not-55 c n = go (eqb (c .operator) 55) (ne-eqb (c .operator) 55 n)
     go : (b : Bool) → b ≡ false → b ≡ (b && isUniverse (c .s))
     go true e = absurd (true≢false e)
     go false e = refl
+
+-- ---- nothing
+
+-- a number that reads a space is an operator's
+pub reads-space-operator : (c : Call) → readsOf (c .operator) .s ≡ true → noOperator c ≡ false
+unfolding noOperator
+reads-space-operator c e = go (leb 1 (c .operator)) (leb (c .operator) 57) refl refl
+  where
+    unread : (r : Reads) → r ≡ readsOf (c .operator) → r .s ≡ false → ⊥
+    unread r R f = true≢false (sym e ∙ sym (ap (λ (q : Reads). q .s) R) ∙ f)
+
+    go : (a b : Bool) → leb 1 (c .operator) ≡ a → leb (c .operator) 57 ≡ b → not (a && b) ≡ false
+    go false b x y = absurd (unread _ (reads-0 (c .operator) (leb-false 1 (c .operator) x)) refl)
+    go true false x y = absurd (unread _ (reads-above (c .operator) (leb-false (c .operator) 57 y)) refl)
+    go true true x y = refl
+
+pub selects-some : (c : Call) (x : Bool) → x ≡ isNothing (c .s) → not x ≡ true → false ≡ selectsNothing c
+unfolding selectsNothing
+selects-some c x X e = sym (ap (λ (b : Bool). (readsOf (c .operator) .s) && b) (sym X ∙ not-yes x e) ∙ none (readsOf (c .operator) .s))
+  where
+    none : (b : Bool) → (b && false) ≡ false
+    none true = refl
+    none false = refl
+
+pub selects-as-read : (c : Call) (r : Reads) (x : Bool) → r ≡ readsOf (c .operator) → x ≡ isNothing (c .s) → not x ≡ false → r .s ≡ selectsNothing c
+unfolding selectsNothing
+selects-as-read c r x R X e =
+    ap (λ (q : Reads). q .s) R ∙ sym (ap (λ (b : Bool). (readsOf (c .operator) .s) && b) (sym X ∙ not-no x e) ∙ alone (readsOf (c .operator) .s))
+  where
+    alone : (b : Bool) → (b && true) ≡ b
+    alone true = refl
+    alone false = refl
+
+outside : (o : ℕ) → within 7 8 o ≡ false → eqb o 47 ≡ false → within 51 55 o ≡ false → false ≡ needsSpace o
+outside o a b d = sym (neither _ _ (neither _ _ a b) d)
+
+pub none-below-7 : (o : ℕ) → o < 7 → false ≡ needsSpace o
+none-below-7 o h = outside o (under 7 8 o h) (ne-eqb o 47 (λ e. omega (arith, h, e))) (under 51 55 o (omega (arith, h)))
+
+pub none-below-51 : (o : ℕ) → 9 ≤ o → o < 51 → (o ≡ 47 → ⊥) → false ≡ needsSpace o
+none-below-51 o h l d = outside o (above 7 8 o (omega (arith, h))) (ne-eqb o 47 d) (under 51 55 o l)
+
+pub none-from-56 : (o : ℕ) → 56 ≤ o → false ≡ needsSpace o
+none-from-56 o h = outside o (above 7 8 o (omega (arith, h))) (ne-eqb o 47 (λ e. omega (arith, h, e))) (above 51 55 o (omega (arith, h)))
+
+pub needs-7-8 : (o : ℕ) → 7 ≤ o → o < 9 → true ≡ needsSpace o
+needs-7-8 o h l = sym (every needsSpace (λ (o : ℕ). true) 7 2 (refl, (refl, tt)) o h l)
+
+pub needs-47 : (o : ℕ) → o ≡ 47 → true ≡ needsSpace o
+needs-47 o e = sym (ap needsSpace e)
+
+pub needs-51-55 : (o : ℕ) → 51 ≤ o → o < 56 → true ≡ needsSpace o
+needs-51-55 o h l = sym (every needsSpace (λ (o : ℕ). true) 51 5 (refl, (refl, (refl, (refl, (refl, tt))))) o h l)

@@ -12,7 +12,7 @@ ghost use mathlib.Core.Bool.{_&&_};
 ghost use lib.Dec.{eqb};
 ghost use Prim.Native.Nat.{_-_, _<_, _≤_};
 ghost use Rattle.model.specs.Operators.{operatorOf, readsOf};
-ghost use Rattle.model.specs.Refusals.{zeroSpace, isUniverse, noOperator, zeroName, destroysUniverse};
+ghost use Rattle.model.specs.Refusals.{zeroSpace, isUniverse, isNothing, selectsNothing, needsSpace, noOperator, zeroName, destroysUniverse};
 ghost use Rattle.decode.specs.Decode.{turn};
 
 // For each field, whether it is read.
@@ -137,6 +137,7 @@ fn zero_space(s: Space) -> bool
     match s {
         Space::Universe => false,
         Space::Numbered(x) => x.0 == 0,
+        Space::Nothing => false,
     }
 }
 
@@ -147,6 +148,40 @@ fn is_universe(s: Space) -> bool
     match s {
         Space::Universe => true,
         Space::Numbered(_) => false,
+        Space::Nothing => false,
+    }
+}
+
+// Is the space nothing.
+fn is_nothing(s: Space) -> bool
+    ensures { λ r. ⌜ r ≡ isNothing s ⌝ }
+{
+    match s {
+        Space::Universe => false,
+        Space::Numbered(_) => false,
+        Space::Nothing => true,
+    }
+}
+
+// Is the space of the call read, and nothing.
+pub fn selects_nothing(c: Call) -> bool
+    ensures { λ r. ⌜ r ≡ selectsNothing c ⌝ }
+{
+    let s = c.s;
+    if !is_nothing(s) {
+        return false;
+    }
+    let reads = reads_of(c.operator);
+    reads.s
+}
+
+// Operators that condition 12 stops where their space is nothing: V (7, 8, 47, 53) and 51–55.
+pub fn needs_space(o: u32) -> bool
+    ensures { λ r. ⌜ r ≡ needsSpace o ⌝ }
+{
+    match o {
+        7..=8 | 47 | 51..=55 => true,
+        _ => false,
     }
 }
 

@@ -14,13 +14,13 @@ use borrow.Author.Tests.{ltb-true, ltb-false}
 use lib.ListN.{length, take, drop}
 use Rattle.model.specs.declared.Call.{Call}
 use Rattle.model.specs.declared.Space.{Space}
-use Rattle.model.specs.declared.Space.the-variants.{Universe, Numbered}
+use Rattle.model.specs.declared.Space.the-variants.{Universe, Numbered, Nothing}
 use Rattle.model.specs.Keys.{mostName}
-use Rattle.text.specs.Bytes.{Text, before, blank, sameText, U}
+use Rattle.text.specs.Bytes.{Text, before, blank, sameText, U, hyphen}
 use Rattle.text.specs.Numerals.{isDigit, plainDigits, readNumber}
 use Rattle.text.proofs.Reading.{same-text, number-most}
 use Rattle.lines.specs.declared.Argument.{Argument}
-use Rattle.lines.specs.declared.Argument.the-variants.{Number, Universal, Missing, Unreadable}
+use Rattle.lines.specs.declared.Argument.the-variants.{Number, Universal, NoSelection, Missing, Unreadable}
 use Rattle.lines.specs.declared.Reading.{Reading}
 use Rattle.lines.specs.declared.Reading.the-variants.{Read}
 use Rattle.lines.specs.declared.arguments.SpaceArgument.{SpaceArgument}
@@ -50,11 +50,19 @@ is-universe most w end r e f =
     let s : sameText w (U ∷ []) ≡ true = sym e ∙ f in
     rw s
 
-pub is-unreadable : (most : ℕ) (w : Text) (end : ℕ) (r : Bool) (x : Numeral) → r ≡ sameText w (U ∷ []) → r ≡ false → x ≡ numeralOf (readNumber most w) → x ≡ NotANumber → Unreadable ≡ ofWord most w end
-unfolding ofWord asNumber numeralOf
-is-unreadable most w end r x e f g h =
+pub is-nothing : (most : ℕ) (w : Text) (end : ℕ) (r : Bool) → r ≡ sameText w (U ∷ []) → r ≡ false → (q : Bool) → q ≡ sameText w (hyphen ∷ []) → q ≡ true → NoSelection end ≡ ofWord most w end
+unfolding ofWord
+is-nothing most w end r e f q i j =
     let s : sameText w (U ∷ []) ≡ false = sym e ∙ f in
-    rw s (go (readNumber most w) (sym g ∙ h))
+    let t : sameText w (hyphen ∷ []) ≡ true = sym i ∙ j in
+    rw (s, t)
+
+pub is-unreadable : (most : ℕ) (w : Text) (end : ℕ) (r : Bool) → r ≡ sameText w (U ∷ []) → r ≡ false → (q : Bool) → q ≡ sameText w (hyphen ∷ []) → q ≡ false → (x : Numeral) → x ≡ numeralOf (readNumber most w) → x ≡ NotANumber → Unreadable ≡ ofWord most w end
+unfolding ofWord asNumber numeralOf
+is-unreadable most w end r e f q i j x g h =
+    let s : sameText w (U ∷ []) ≡ false = sym e ∙ f in
+    let t : sameText w (hyphen ∷ []) ≡ false = sym i ∙ j in
+    rw (s, t) (go (readNumber most w) (sym g ∙ h))
   where
     go : (o : Option ℕ) → numeralOf o ≡ NotANumber → Unreadable ≡ asNumber o end
     go none k = refl
@@ -62,11 +70,12 @@ is-unreadable most w end r x e f g h =
         let z : _≡_ {A = ℕ} 0 1 = cc in
         absurd (omega arith)
 
-pub is-number : (most : ℕ) (w : Text) (end : ℕ) (r : Bool) (x : Numeral) (v : ℕ) → r ≡ sameText w (U ∷ []) → r ≡ false → x ≡ numeralOf (readNumber most w) → x ≡ Value v → Number v end ≡ ofWord most w end
+pub is-number : (most : ℕ) (w : Text) (end : ℕ) (r : Bool) → r ≡ sameText w (U ∷ []) → r ≡ false → (q : Bool) → q ≡ sameText w (hyphen ∷ []) → q ≡ false → (x : Numeral) (v : ℕ) → x ≡ numeralOf (readNumber most w) → x ≡ Value v → Number v end ≡ ofWord most w end
 unfolding ofWord asNumber numeralOf
-is-number most w end r x v e f g h =
+is-number most w end r e f q i j x v g h =
     let s : sameText w (U ∷ []) ≡ false = sym e ∙ f in
-    rw s (go (readNumber most w) (sym g ∙ h))
+    let t : sameText w (hyphen ∷ []) ≡ false = sym i ∙ j in
+    rw (s, t) (go (readNumber most w) (sym g ∙ h))
   where
     go : (o : Option ℕ) → numeralOf o ≡ Value v → Number v end ≡ asNumber o end
     go none k =
@@ -98,16 +107,19 @@ is-read read most line end e = rw e
 -- an argument that is a number is at most what it may be
 word-most : (most : ℕ) (w : Text) (end x e : ℕ) → ofWord most w end ≡ Number x e → x ≤ most
 unfolding ofWord asNumber
-word-most most w end x e f = go (sameText w (U ∷ [])) (readNumber most w) refl f
+word-most most w end x e f = go (sameText w (U ∷ [])) (sameText w (hyphen ∷ [])) (readNumber most w) refl f
   where
-    go : (b : Bool) (o : Option ℕ) → readNumber most w ≡ o → cond b (Universal end) (asNumber o end) ≡ Number x e → x ≤ most
-    go true o g h =
+    go : (b d : Bool) (o : Option ℕ) → readNumber most w ≡ o → cond b (Universal end) (cond d (NoSelection end) (asNumber o end)) ≡ Number x e → x ≤ most
+    go true d o g h =
         let z : _≡_ {A = ℕ} 0 1 = cc in
         absurd (omega arith)
-    go false none g h =
+    go false true o g h =
         let z : _≡_ {A = ℕ} 0 1 = cc in
         absurd (omega arith)
-    go false (some y) g h =
+    go false false none g h =
+        let z : _≡_ {A = ℕ} 0 1 = cc in
+        absurd (omega arith)
+    go false false (some y) g h =
         let z : y ≡ x = cc in
         number-most most w x (g ∙ ap some z)
 
@@ -148,33 +160,45 @@ u-no-number : (most : ℕ) (w : Text) → sameText w (U ∷ []) ≡ true → rea
 unfolding readNumber plainDigits isDigit
 u-no-number most w e = ap (readNumber most) (same-text w (U ∷ []) e)
 
+-- `-` is no number
+hyphen-no-number : (most : ℕ) (w : Text) → sameText w (hyphen ∷ []) ≡ true → readNumber most w ≡ none
+unfolding readNumber plainDigits isDigit
+hyphen-no-number most w e = ap (readNumber most) (same-text w (hyphen ∷ []) e)
+
 -- what a word leads to, where a number is asked for
 word-number : (most : ℕ) (w : Text) (end x e : ℕ) (then : ℕ → Reading) → ofWord most w end ≡ Number x e → (withNumber (readNumber most w) then ≡ then x) × (e ≡ end)
 unfolding ofWord asNumber withNumber
-word-number most w end x e then f = go (sameText w (U ∷ [])) (readNumber most w) f
+word-number most w end x e then f = go (sameText w (U ∷ [])) (sameText w (hyphen ∷ [])) (readNumber most w) f
   where
-    go : (b : Bool) (o : Option ℕ) → cond b (Universal end) (asNumber o end) ≡ Number x e → (withNumber o then ≡ then x) × (e ≡ end)
-    go true o h =
+    go : (b d : Bool) (o : Option ℕ) → cond b (Universal end) (cond d (NoSelection end) (asNumber o end)) ≡ Number x e → (withNumber o then ≡ then x) × (e ≡ end)
+    go true d o h =
         let z : _≡_ {A = ℕ} 0 1 = cc in
         absurd (omega arith)
-    go false none h =
+    go false true o h =
         let z : _≡_ {A = ℕ} 0 1 = cc in
         absurd (omega arith)
-    go false (some y) h =
+    go false false none h =
+        let z : _≡_ {A = ℕ} 0 1 = cc in
+        absurd (omega arith)
+    go false false (some y) h =
         let z : y ≡ x = cc in
         (ap then z, cc)
 
 word-refused : (most : ℕ) (w : Text) (end : ℕ) (then : ℕ → Reading) → ((x e : ℕ) → ofWord most w end ≡ Number x e → ⊥) → withNumber (readNumber most w) then ≡ refused
 unfolding ofWord asNumber withNumber
-word-refused most w end then n = go (sameText w (U ∷ [])) refl (readNumber most w) refl n
+word-refused most w end then n = go (sameText w (U ∷ [])) refl (sameText w (hyphen ∷ [])) refl (readNumber most w) refl n
   where
-    go : (b : Bool) → sameText w (U ∷ []) ≡ b → (o : Option ℕ) → readNumber most w ≡ o → ((x e : ℕ) → cond b (Universal end) (asNumber o end) ≡ Number x e → ⊥) → withNumber o then ≡ refused
-    go b f none g h = refl
-    go true f (some y) g h =
+    go : (b : Bool) → sameText w (U ∷ []) ≡ b → (d : Bool) → sameText w (hyphen ∷ []) ≡ d → (o : Option ℕ) → readNumber most w ≡ o → ((x e : ℕ) → cond b (Universal end) (cond d (NoSelection end) (asNumber o end)) ≡ Number x e → ⊥) → withNumber o then ≡ refused
+    go b f d k none g h = refl
+    go true f d k (some y) g h =
         let u = u-no-number most w f in
         let z : _≡_ {A = ℕ} 0 1 = cc in
         absurd (omega arith)
-    go false f (some y) g h = absurd (h y end refl)
+    go false f true k (some y) g h =
+        let u = hyphen-no-number most w k in
+        let z : _≡_ {A = ℕ} 0 1 = cc in
+        absurd (omega arith)
+    go false f false k (some y) g h = absurd (h y end refl)
 
 pub takes-number : (read : Bool) (most : ℕ) (line : Text) (end x e : ℕ) (a : Argument) (then : ℕ → List Text → Reading) → a ≡ fieldAt read most line end → a ≡ Number x e → takeNumber read most (wordsBehind line end) then ≡ then x (wordsBehind line e)
 unfolding fieldAt argumentAt takeNumber firstOf
@@ -202,13 +226,14 @@ takes-none true most line end a then f n = go (wordsBehind line end) (λ (x e : 
     go (w ∷ ws) h = word-refused most w (end + 1 + length w) (λ (y : ℕ). then y ws) h
 
 -- what the test on the variant of an argument says
-pub no-number : (a : Argument) → OneOf (1 ∷ 2 ∷ 3 ∷ []) (tagOf the-type a) → (x e : ℕ) → a ≡ Number x e → ⊥
-no-number a k x e f = go (subst (λ (b : Argument). OneOf (1 ∷ 2 ∷ 3 ∷ []) (tagOf the-type b)) f k)
+pub no-number : (a : Argument) → OneOf (1 ∷ 2 ∷ 3 ∷ 4 ∷ []) (tagOf the-type a) → (x e : ℕ) → a ≡ Number x e → ⊥
+no-number a k x e f = go (subst (λ (b : Argument). OneOf (1 ∷ 2 ∷ 3 ∷ 4 ∷ []) (tagOf the-type b)) f k)
   where
-    go : OneOf (1 ∷ 2 ∷ 3 ∷ []) 0 → ⊥
+    go : OneOf (1 ∷ 2 ∷ 3 ∷ 4 ∷ []) 0 → ⊥
     go (inl h) = omega arith
     go (inr (inl h)) = omega arith
-    go (inr (inr h)) = omega arith
+    go (inr (inr (inl h))) = omega arith
+    go (inr (inr (inr h))) = omega arith
 
 -- the words that a space takes
 
@@ -221,17 +246,23 @@ space-behind true line end s e then [] k l h =
 space-behind false line end s e then [] k l h =
     let z : _≡_ {A = ℕ} 0 1 = cc in
     absurd (omega arith)
-space-behind optional line end s e then (w ∷ ws) k l h = go (sameText w (U ∷ [])) (readNumber mostName w) h
+space-behind optional line end s e then (w ∷ ws) k l h = go (sameText w (U ∷ [])) (sameText w (hyphen ∷ [])) (readNumber mostName w) h
   where
-    go : (b : Bool) (o : Option ℕ) → spaceOf optional end (cond b (Universal (end + 1 + length w)) (asNumber o (end + 1 + length w))) ≡ Given s e → cond b (then Universe ws) (withNumber o (λ (x : ℕ). then (Numbered (record { 0 = x })) ws)) ≡ then s (wordsBehind line e)
-    go true o g =
+    go : (b d : Bool) (o : Option ℕ)
+        → spaceOf optional end (cond b (Universal (end + 1 + length w)) (cond d (NoSelection (end + 1 + length w)) (asNumber o (end + 1 + length w)))) ≡ Given s e
+        → cond b (then Universe ws) (cond d (then Nothing ws) (withNumber o (λ (x : ℕ). then (Numbered (record { 0 = x })) ws))) ≡ then s (wordsBehind line e)
+    go true d o g =
         let p : Universe ≡ s = cc in
         let q : end + 1 + length w ≡ e = cc in
         ap (λ (t : Space). then t ws) p ∙ ap (then s) l ∙ ap (λ (y : ℕ). then s (wordsBehind line y)) q
-    go false none g =
+    go false true o g =
+        let p : Nothing ≡ s = cc in
+        let q : end + 1 + length w ≡ e = cc in
+        ap (λ (t : Space). then t ws) p ∙ ap (then s) l ∙ ap (λ (y : ℕ). then s (wordsBehind line y)) q
+    go false false none g =
         let z : _≡_ {A = ℕ} 0 1 = cc in
         absurd (omega arith)
-    go false (some x) g =
+    go false false (some x) g =
         let p : Numbered (record { 0 = x }) ≡ s = cc in
         let q : end + 1 + length w ≡ e = cc in
         ap (λ (t : Space). then t ws) p ∙ ap (then s) l ∙ ap (λ (y : ℕ). then s (wordsBehind line y)) q
@@ -246,14 +277,19 @@ no-space-behind true end then [] h =
     let z : _≡_ {A = ℕ} 0 1 = cc in
     absurd (omega arith)
 no-space-behind false end then [] h = refl
-no-space-behind optional end then (w ∷ ws) h = go (sameText w (U ∷ [])) (readNumber mostName w) h
+no-space-behind optional end then (w ∷ ws) h = go (sameText w (U ∷ [])) (sameText w (hyphen ∷ [])) (readNumber mostName w) h
   where
-    go : (b : Bool) (o : Option ℕ) → spaceOf optional end (cond b (Universal (end + 1 + length w)) (asNumber o (end + 1 + length w))) ≡ NotASpace → cond b (then Universe ws) (withNumber o (λ (x : ℕ). then (Numbered (record { 0 = x })) ws)) ≡ refused
-    go true o g =
+    go : (b d : Bool) (o : Option ℕ)
+        → spaceOf optional end (cond b (Universal (end + 1 + length w)) (cond d (NoSelection (end + 1 + length w)) (asNumber o (end + 1 + length w)))) ≡ NotASpace
+        → cond b (then Universe ws) (cond d (then Nothing ws) (withNumber o (λ (x : ℕ). then (Numbered (record { 0 = x })) ws))) ≡ refused
+    go true d o g =
         let z : _≡_ {A = ℕ} 0 1 = cc in
         absurd (omega arith)
-    go false none g = refl
-    go false (some x) g =
+    go false true o g =
+        let z : _≡_ {A = ℕ} 0 1 = cc in
+        absurd (omega arith)
+    go false false none g = refl
+    go false false (some x) g =
         let z : _≡_ {A = ℕ} 0 1 = cc in
         absurd (omega arith)
 

@@ -1,12 +1,15 @@
--- Lines of document 01's example and of its rules, read.
-use mathlib.Core.List.{[], _∷_}
+-- Lines of document 01's example and of its rules, and of document 02's request 1, read.
+use mathlib.Core.Bool.{true}
+use mathlib.Core.List.{List, [], _∷_}
 use mathlib.Core.Path.{_≡_, refl}
 use Prim.Native.Nat.{ℕ}
 use Rattle.model.specs.declared.Space.{Space}
-use Rattle.model.specs.declared.Space.the-variants.{Universe, Numbered}
+use Rattle.model.specs.declared.Space.the-variants.{Universe, Numbered, Nothing}
+use Rattle.model.specs.Keys.{mostName}
 use Rattle.model.specs.Operators.{readsOf}
-use Rattle.text.specs.Bytes.{sameText, lineFeed, blank, A, B, C, D, G, N, O, P, S, U, «V», X}
+use Rattle.text.specs.Bytes.{Text, sameText, lineFeed, blank, hyphen, A, B, C, D, G, N, O, P, S, U, «V», X}
 use Rattle.text.specs.Numerals.{digit, isDigit, allDigits, plainDigits, numberAfter, readNumber}
+use Rattle.lines.specs.declared.Reading.{Reading}
 use Rattle.lines.specs.declared.Reading.the-variants.{Read}
 use Rattle.lines.specs.Lines.{inFront, linesOf, wordsOf}
 use Rattle.letters.specs.OperatorWords.{operatorWords, numberFrom, operatorNumber}
@@ -71,3 +74,43 @@ lines-refused :
     × (readLine (C ∷ U ∷ N ∷ blank ∷ digit 1 ∷ blank ∷ U ∷ blank ∷ digit 1 ∷ []) ≡ refused)
 unfolding readLine readWords wordsOf inFront arguments operatorNumber operatorWords numberFrom sameText inOrder spaceThenValue spaces takeNumber takeSpace withNumber complete readNumber plainDigits allDigits isDigit numberAfter readsOf
 lines-refused = (refl, refl, refl, refl, refl, refl, refl, refl, refl, refl, refl, refl, refl, refl)
+
+-- nothing "written `-` in a script" where s stands: `SUN -`; `CUN 1 -`; `COP 1 5 2 -`; `BUN 1 60 -`; `CUS -`; `BUS - 7`; `VUS -`; `XUS -`; `DUS -`
+nothing-read :
+    (readLine (S ∷ U ∷ N ∷ blank ∷ hyphen ∷ []) ≡ Read (callOf 50 0 0 0 0 Nothing))
+    × (readLine (C ∷ U ∷ N ∷ blank ∷ digit 1 ∷ blank ∷ hyphen ∷ []) ≡ Read (callOf 45 1 0 0 0 Nothing))
+    × (readLine (C ∷ O ∷ P ∷ blank ∷ digit 1 ∷ blank ∷ digit 5 ∷ blank ∷ digit 2 ∷ blank ∷ hyphen ∷ []) ≡ Read (callOf 1 1 5 2 0 Nothing))
+    × (readLine (B ∷ U ∷ N ∷ blank ∷ digit 1 ∷ blank ∷ digit 6 ∷ digit 0 ∷ blank ∷ hyphen ∷ []) ≡ Read (callOf 46 1 0 0 60 Nothing))
+    × (readLine (C ∷ U ∷ S ∷ blank ∷ hyphen ∷ []) ≡ Read (callOf 51 0 0 0 0 Nothing))
+    × (readLine (B ∷ U ∷ S ∷ blank ∷ hyphen ∷ blank ∷ digit 7 ∷ []) ≡ Read (callOf 52 0 0 0 7 Nothing))
+    × (readLine («V» ∷ U ∷ S ∷ blank ∷ hyphen ∷ []) ≡ Read (callOf 53 0 0 0 0 Nothing))
+    × (readLine (X ∷ U ∷ S ∷ blank ∷ hyphen ∷ []) ≡ Read (callOf 54 0 0 0 0 Nothing))
+    × (readLine (D ∷ U ∷ S ∷ blank ∷ hyphen ∷ []) ≡ Read (callOf 55 0 0 0 0 Nothing))
+unfolding readLine readWords wordsOf inFront arguments operatorNumber operatorWords numberFrom sameText inOrder spaceThenValue spaces takeNumber takeSpace withNumber complete readNumber plainDigits allDigits isDigit numberAfter readsOf
+nothing-read = (refl, refl, refl, refl, refl, refl, refl, refl, refl)
+
+-- `-` in place of n, g, m or v, and `SUS -`, whatever follows: no call
+not-a-number : (most : ℕ) (ws : List Text) (then : ℕ → List Text → Reading) → takeNumber true most ((hyphen ∷ []) ∷ ws) then ≡ refused
+unfolding takeNumber withNumber readNumber plainDigits isDigit
+not-a-number most ws then = refl
+
+not-of-sus : (ws : List Text) → spaces ((hyphen ∷ []) ∷ ws) ≡ refused
+unfolding spaces
+not-of-sus ws = not-a-number mostName ws _
+
+-- lines with `-` that read as no call: `SUS -`; `CUN -`; `CUN - 9`; `COP 1 - 2`; `COP 1 5 -`; `BUN 1 -`; `BUS -`; `BUS - -`; `SUN --`; `SUN -1`; `SUN 1-`; `SUN - 1`
+nothing-refused :
+    (readLine (S ∷ U ∷ S ∷ blank ∷ hyphen ∷ []) ≡ refused)
+    × (readLine (C ∷ U ∷ N ∷ blank ∷ hyphen ∷ []) ≡ refused)
+    × (readLine (C ∷ U ∷ N ∷ blank ∷ hyphen ∷ blank ∷ digit 9 ∷ []) ≡ refused)
+    × (readLine (C ∷ O ∷ P ∷ blank ∷ digit 1 ∷ blank ∷ hyphen ∷ blank ∷ digit 2 ∷ []) ≡ refused)
+    × (readLine (C ∷ O ∷ P ∷ blank ∷ digit 1 ∷ blank ∷ digit 5 ∷ blank ∷ hyphen ∷ []) ≡ refused)
+    × (readLine (B ∷ U ∷ N ∷ blank ∷ digit 1 ∷ blank ∷ hyphen ∷ []) ≡ refused)
+    × (readLine (B ∷ U ∷ S ∷ blank ∷ hyphen ∷ []) ≡ refused)
+    × (readLine (B ∷ U ∷ S ∷ blank ∷ hyphen ∷ blank ∷ hyphen ∷ []) ≡ refused)
+    × (readLine (S ∷ U ∷ N ∷ blank ∷ hyphen ∷ hyphen ∷ []) ≡ refused)
+    × (readLine (S ∷ U ∷ N ∷ blank ∷ hyphen ∷ digit 1 ∷ []) ≡ refused)
+    × (readLine (S ∷ U ∷ N ∷ blank ∷ digit 1 ∷ hyphen ∷ []) ≡ refused)
+    × (readLine (S ∷ U ∷ N ∷ blank ∷ hyphen ∷ blank ∷ digit 1 ∷ []) ≡ refused)
+unfolding readLine readWords wordsOf inFront arguments operatorNumber operatorWords numberFrom sameText inOrder spaceThenValue spaces takeNumber takeSpace withNumber complete readNumber plainDigits allDigits isDigit numberAfter readsOf
+nothing-refused = (refl, refl, refl, refl, refl, refl, refl, refl, refl, refl, refl, refl)

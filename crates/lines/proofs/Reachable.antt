@@ -9,13 +9,13 @@ use borrow.Author.Tests.{eqb-true, eqb-false, ne-eqb, leb-true}
 use Rattle.model.specs.declared.Call.{Call}
 use Rattle.model.specs.declared.Space.{Space}
 use Rattle.model.specs.declared.SpaceName.{SpaceName}
-use Rattle.model.specs.declared.Space.the-variants.{Universe, Numbered}
+use Rattle.model.specs.declared.Space.the-variants.{Universe, Numbered, Nothing}
 use Rattle.model.specs.Buffer.{everyRecord}
 use Rattle.model.specs.Keys.{mostName}
 use Rattle.model.specs.Operators.{readsOf, within}
 use Rattle.model.proofs.Bools.{and-left, and-right, and-both, no-not, failed}
 use Rattle.model.proofs.Steps.{every-record}
-use Rattle.text.specs.Bytes.{Text, sameText, blank, U}
+use Rattle.text.specs.Bytes.{Text, sameText, blank, U, hyphen}
 use Rattle.text.specs.Numerals.{isDigit, allDigits, printedNumber}
 use Rattle.text.proofs.Reading.{same-text}
 use Rattle.text.proofs.Printing.{reads-back, digits-printed}
@@ -80,6 +80,7 @@ space-plain : (s : Space) → SpaceFits s → plain (spaceText s) ≡ true
 unfolding spaceText
 space-plain Universe h = refl
 space-plain (Numbered x) h = printed-plain (x .0) (omega arith)
+space-plain Nothing h = refl
 
 read-plain : (read : Bool) (w : Text) (ws : List Text) → plain w ≡ true → allPlain ws ≡ true → allPlain (ifRead read w ws) ≡ true
 unfolding ifRead
@@ -119,26 +120,36 @@ take-printed true most x ws then h k =
     rw b
 take-printed false most x ws then h k = refl
 
--- a printed number is not U
+-- a printed number is neither U nor `-`
 not-u : (x : ℕ) → x ≤ mostValue → sameText (printedNumber x) (U ∷ []) ≡ false
 unfolding allDigits isDigit
 not-u x h = failed _ (λ e. true≢false (sym (digits-printed x h) ∙ ap allDigits (same-text (printedNumber x) (U ∷ []) e)))
+
+not-hyphen : (x : ℕ) → x ≤ mostValue → sameText (printedNumber x) (hyphen ∷ []) ≡ false
+unfolding allDigits isDigit
+not-hyphen x h = failed _ (λ e. true≢false (sym (digits-printed x h) ∙ ap allDigits (same-text (printedNumber x) (hyphen ∷ []) e)))
 
 universe-space : (optional : Bool) (ws : List Text) (then : Space → List Text → Reading) → takeSpace optional ((U ∷ []) ∷ ws) then ≡ then Universe ws
 unfolding takeSpace sameText
 universe-space optional ws then = refl
 
+nothing-space : (optional : Bool) (ws : List Text) (then : Space → List Text → Reading) → takeSpace optional ((hyphen ∷ []) ∷ ws) then ≡ then Nothing ws
+unfolding takeSpace sameText
+nothing-space optional ws then = refl
+
 printed-space : (optional : Bool) (x : SpaceName) (ws : List Text) (then : Space → List Text → Reading) → x .0 ≤ mostName → takeSpace optional (printedNumber (x .0) ∷ ws) then ≡ then (Numbered x) ws
 unfolding takeSpace withNumber
 printed-space optional x ws then h =
     let n = not-u (x .0) (omega arith) in
+    let k = not-hyphen (x .0) (omega arith) in
     let b = reads-back mostName (x .0) h (omega arith) in
-    rw (n, b)
+    rw (n, k, b)
 
 take-space : (optional : Bool) (s : Space) (ws : List Text) (then : Space → List Text → Reading) → SpaceFits s → takeSpace optional (spaceText s ∷ ws) then ≡ then s ws
 unfolding spaceText
 take-space optional Universe ws then h = universe-space optional ws then
 take-space optional (Numbered x) ws then h = printed-space optional x ws then h
+take-space optional Nothing ws then h = nothing-space optional ws then
 
 -- the line of a call, by its words
 whole : (c : Call) → Fitting c → readLine (lineOf c) ≡ arguments (operatorNumber (lettersOf (c .operator))) (argumentsOf c)

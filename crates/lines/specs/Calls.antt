@@ -1,4 +1,4 @@
--- Document 01: which lines read as which calls.
+-- Document 01: which lines read as which calls; document 02, request 1: the third form of a space.
 use mathlib.Core.Bool.{Bool, true, false, cond}
 use mathlib.Core.List.{List, [], _∷_}
 use mathlib.Core.Option.{Option, none, some}
@@ -6,10 +6,10 @@ use Prim.Native.Nat.{ℕ}
 use lib.Dec.{eqb}
 use Rattle.model.specs.declared.Call.{Call}
 use Rattle.model.specs.declared.Space.{Space}
-use Rattle.model.specs.declared.Space.the-variants.{Universe, Numbered}
+use Rattle.model.specs.declared.Space.the-variants.{Universe, Numbered, Nothing}
 use Rattle.model.specs.Keys.{mostName}
 use Rattle.model.specs.Operators.{readsOf, within}
-use Rattle.text.specs.Bytes.{Text, sameText, U}
+use Rattle.text.specs.Bytes.{Text, sameText, U, hyphen}
 use Rattle.text.specs.Numerals.{readNumber}
 use Rattle.lines.specs.declared.Reading.{Reading}
 use Rattle.lines.specs.declared.Reading.the-variants.{Read, Refused}
@@ -35,12 +35,13 @@ takeNumber false most ws then = then 0 ws
 takeNumber true most [] then = refused
 takeNumber true most (w ∷ ws) then = withNumber (readNumber most w) (λ (x : ℕ). then x ws)
 
--- "UNIVERSE is `U`"; "the last, s, may be missing and means UNIVERSE": where it is optional
+-- "UNIVERSE is `U`"; nothing is "written `-` in a script"; "the last, s, may be missing and means UNIVERSE": where it is optional
 unfoldable pub takeSpace : Bool → List Text → (Space → List Text → Reading) → Reading
 takeSpace optional [] then = cond optional (then Universe []) refused
 takeSpace optional (w ∷ ws) then =
     cond (sameText w (U ∷ [])) (then Universe ws)
-    (withNumber (readNumber mostName w) (λ (x : ℕ). then (Numbered (record { 0 = x })) ws))
+    (cond (sameText w (hyphen ∷ [])) (then Nothing ws)
+    (withNumber (readNumber mostName w) (λ (x : ℕ). then (Numbered (record { 0 = x })) ws)))
 
 -- nothing follows the last argument
 unfoldable pub complete : Call → List Text → Reading

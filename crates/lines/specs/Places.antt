@@ -5,15 +5,15 @@ use mathlib.Core.Option.{Option, none, some}
 use Prim.Native.Nat.{ℕ, _+_}
 use lib.Dec.{eqb, leb, ltb}
 use lib.ListN.{length, drop}
-use Rattle.text.specs.Bytes.{Text, sameText, U}
+use Rattle.text.specs.Bytes.{Text, sameText, U, hyphen}
 use Rattle.text.specs.Numerals.{digitZero, allDigits, numberAfter, readNumber}
-use Rattle.model.specs.declared.Space.the-variants.{Universe, Numbered}
+use Rattle.model.specs.declared.Space.the-variants.{Universe, Numbered, Nothing}
 use Rattle.lines.specs.declared.numbers.Numeral.{Numeral}
 use Rattle.lines.specs.declared.numbers.Numeral.the-variants.{Value, NotANumber}
 use Rattle.lines.specs.declared.arguments.SpaceArgument.{SpaceArgument}
 use Rattle.lines.specs.declared.arguments.SpaceArgument.the-variants.{Given, NotASpace}
 use Rattle.lines.specs.declared.Argument.{Argument}
-use Rattle.lines.specs.declared.Argument.the-variants.{Number, Universal, Missing, Unreadable}
+use Rattle.lines.specs.declared.Argument.the-variants.{Number, Universal, NoSelection, Missing, Unreadable}
 use Rattle.lines.specs.Lines.{wordsOf}
 
 -- the words behind one that ends at a place of the line: at a blank, or at the line's end
@@ -25,9 +25,12 @@ unfoldable pub asNumber : Option ℕ → ℕ → Argument
 asNumber none end = Unreadable
 asNumber (some x) end = Number x end
 
--- "UNIVERSE is `U`"
+-- "UNIVERSE is `U`"; nothing is "written `-` in a script" (document 02, request 1)
 unfoldable pub ofWord : ℕ → Text → ℕ → Argument
-ofWord most w end = cond (sameText w (U ∷ [])) (Universal end) (asNumber (readNumber most w) end)
+ofWord most w end =
+    cond (sameText w (U ∷ [])) (Universal end)
+    (cond (sameText w (hyphen ∷ [])) (NoSelection end)
+    (asNumber (readNumber most w) end))
 
 -- the first of the words behind a place
 unfoldable pub firstOf : ℕ → List Text → ℕ → Argument
@@ -46,6 +49,7 @@ fieldAt read most line end = cond read (argumentAt most line end) (Number 0 end)
 unfoldable pub spaceOf : Bool → ℕ → Argument → SpaceArgument
 spaceOf optional end (Number x after) = Given (Numbered (record { 0 = x })) after
 spaceOf optional end (Universal after) = Given Universe after
+spaceOf optional end (NoSelection after) = Given Nothing after
 spaceOf optional end Missing = cond optional (Given Universe end) NotASpace
 spaceOf optional end Unreadable = NotASpace
 

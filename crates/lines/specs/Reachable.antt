@@ -6,10 +6,10 @@ use lib.Dec.{eqb}
 use lib.ListN.{getD}
 use Rattle.model.specs.declared.Call.{Call}
 use Rattle.model.specs.declared.Space.{Space}
-use Rattle.model.specs.declared.Space.the-variants.{Universe, Numbered}
+use Rattle.model.specs.declared.Space.the-variants.{Universe, Numbered, Nothing}
 use Rattle.model.specs.Keys.{mostName}
 use Rattle.model.specs.Operators.{readsOf}
-use Rattle.text.specs.Bytes.{Text, blank, S, U}
+use Rattle.text.specs.Bytes.{Text, blank, S, U, hyphen}
 use Rattle.text.specs.Numerals.{printedNumber}
 use Rattle.letters.specs.OperatorWords.{operatorWords}
 use Rattle.lines.specs.Calls.{mostValue}
@@ -23,10 +23,11 @@ joined w (x ∷ xs) = w ++ (blank ∷ joined x xs)
 unfoldable pub lettersOf : ℕ → Text
 lettersOf o = getD operatorWords (o - 1) (S ∷ U ∷ S ∷ [])
 
--- "UNIVERSE is `U`"
+-- "UNIVERSE is `U`"; nothing is "written `-` in a script" (document 02, request 1)
 unfoldable pub spaceText : Space → Text
 spaceText Universe = U ∷ []
 spaceText (Numbered x) = printedNumber (x .0)
+spaceText Nothing = hyphen ∷ []
 
 -- a field that is read, in front of the words of the others
 unfoldable pub ifRead : Bool → Text → List Text → List Text
@@ -54,6 +55,7 @@ lineOf c = joined (lettersOf (c .operator)) (argumentsOf c)
 abbrev pub SpaceFits : Space → Type 0
 SpaceFits Universe = Unit {0}
 SpaceFits (Numbered x) = x .0 ≤ mostName
+SpaceFits Nothing = Unit {0}
 
 -- a call of one of the 57 operators whose fields fit
 pub record Fitting (c : Call) : Type 0 where

@@ -33,6 +33,9 @@ fn of_word(word: &[u8], end: usize, most: u32) -> Argument
     if same(word, b"U") {
         return Argument::Universal(end);
     }
+    if same(word, b"-") {
+        return Argument::NoSelection(end);
+    }
     let Numeral::Value(x) = number_in(word, most) else {
         return Argument::Unreadable;
     };
@@ -71,6 +74,7 @@ pub fn space_at(line: &[u8], end: usize, optional: bool) -> SpaceArgument
             after,
         ),
         Argument::Universal(after) => SpaceArgument::Given(Space::Universe, after),
+        Argument::NoSelection(after) => SpaceArgument::Given(Space::Nothing, after),
         Argument::Unreadable => SpaceArgument::NotASpace,
         Argument::Missing => {
             if optional {

@@ -27,9 +27,11 @@ pub enum Argument {
     Number(u32, usize),
     // U, and where it ends.
     Universal(usize),
+    // `-`, which is nothing as a space, and where it ends.
+    NoSelection(usize),
     // No word is left.
     Missing,
-    // A word that is neither a number nor U.
+    // A word that is neither a number nor U nor `-`.
     Unreadable,
 }
 

@@ -22,9 +22,9 @@ use Rattle.model.specs.declared.Operator.{Operator}
 use Rattle.model.specs.declared.Operator.the-variants.{Create, Bind, Value as Values, Exists, Destroy, List as Lists}
 use Rattle.model.specs.Operators.{operatorOf}
 use Rattle.model.specs.Pairs.{pair, edgeOf, nodeOf}
-use Rattle.model.specs.Steps.{Reply, refusal, name, valued, yesNo, pairs, nOf, sOf, listed, reply}
-use Rattle.model.specs.Refusals.{refusalOf}
-use Rattle.model.specs.Machine.{State, outcomeOf, machine, answers, final}
+use Rattle.model.specs.Steps.{Reply, refusal, name, valued, yesNo, pairs, nOf, sOf, listed, reply, idleReply}
+use Rattle.model.specs.Refusals.{selectsNothing, refusalOf}
+use Rattle.model.specs.Machine.{State, Outcome, step, idle, outcomeOf, machine, answers, final}
 use Rattle.model.specs.Buffer.{capacityOf, tupleAt, usedOf, freeOf, tuplesOf, isStore}
 use Rattle.model.specs.Rules.{TupleRules}
 use Rattle.model.specs.Entries.{PointsOut, PointsIn, IsPair, Entry}
@@ -33,7 +33,7 @@ use Rattle.model.specs.CallLists.{CallMade, Trace, end, then, requestOf,
 use Rattle.model.proofs.Taken.{EveryPair}
 use Rattle.model.proofs.Entries.{listed-sound}
 use Rattle.model.proofs.Steps.{every-member}
-use Rattle.model.proofs.Refusals.{full-exactly}
+use Rattle.model.proofs.Refusals.{either-outcome, full-exactly}
 use Rattle.model.proofs.Store.{store-rules, chains-count}
 use Rattle.model.proofs.Prepared.{prepared-capacity, prepared-store, prepared-tuples}
 
@@ -107,6 +107,15 @@ observed-reply (Exists o) c ts l R = refl
 observed-reply (Destroy r) c ts l R = refl
 observed-reply (Lists x) c ts l R = observed-list (listed x c ts) l (listed-small ts R x c)
 
+observed-idle : (op : Operator) (c : Call) (l : List ℕ) → observed (answerOf (idleReply op c)) (listAfter (idleReply op c) l) ≡ idleReply op c
+unfolding idleReply observed answerOf
+observed-idle (Create o) c l = refl
+observed-idle (Bind o) c l = refl
+observed-idle (Values o) c l = refl
+observed-idle (Exists o) c l = refl
+observed-idle (Destroy r) c l = refl
+observed-idle (Lists x) c l = refl
+
 pub observed-machine : (C : ℕ) (ts : Tuples) (c : Call) (room : ℕ) (l : List ℕ) → TupleRules ts
     → observed (answerOf (machine C ts c room .answer)) (listAfter (machine C ts c room .answer) l) ≡ machine C ts c room .answer
 unfolding machine outcomeOf observed answerOf
@@ -114,7 +123,9 @@ observed-machine C ts c room l R = go (refusalOf C ts c room)
   where
     go : (r : Option ℕ) → observed (answerOf (outcomeOf r ts c .answer)) (listAfter (outcomeOf r ts c .answer) l) ≡ outcomeOf r ts c .answer
     go (some number) = refl
-    go none = observed-reply (operatorOf (c .operator)) c ts l R
+    go none =
+        either-outcome (λ (o : Outcome). observed (answerOf (o .answer)) (listAfter (o .answer) l) ≡ o .answer) (selectsNothing c) (idle c ts) (step c ts)
+        (λ e. observed-idle (operatorOf (c .operator)) c l) (λ e. observed-reply (operatorOf (c .operator)) c ts l R)
 
 -- an answer is the refusal 10 exactly when the machine's is
 answer-ten : (r : Reply) → (answerOf r ≡ Refusal 10) ↔ (r ≡ refusal 10)
@@ -128,7 +139,7 @@ answer-ten (pairs k ps) = (λ e. cc, λ e. cc)
 -- an answer of the machine lists no more pairs than its list has places
 listed-within : (C : ℕ) (ts : State) (c : Call) (room : ℕ) (l : List ℕ) → length (listAfter (machine C ts c room .answer) l) ≡ length l
     → listCount (answerOf (machine C ts c room .answer)) ≤ length l
-unfolding machine outcomeOf reply listAfter answerOf listCount
+unfolding machine outcomeOf reply idleReply listAfter answerOf listCount
 listed-within C ts c room l = go (refusalOf C ts c room)
   where
     of-reply : (op : Operator) → length (listAfter (reply op c ts) l) ≡ length l → listCount (answerOf (reply op c ts)) ≤ length l
@@ -141,9 +152,21 @@ listed-within C ts c room l = go (refusalOf C ts c room)
         let ps : List Pair = listed x c ts in
         omega (arith, e, length-append (map pack ps) (drop (length ps) l), length-map ps pack, length-drop (length ps) l)
 
-    go : (r : Option ℕ) → length (listAfter (outcomeOf r ts c .answer) l) ≡ length l → listCount (answerOf (outcomeOf r ts c .answer)) ≤ length l
-    go (some number) e = omega arith
-    go none e = of-reply (operatorOf (c .operator)) e
+    of-idle : (op : Operator) → listCount (answerOf (idleReply op c)) ≤ length l
+    of-idle (Create o) = omega arith
+    of-idle (Bind o) = omega arith
+    of-idle (Values o) = omega arith
+    of-idle (Exists o) = omega arith
+    of-idle (Destroy r) = omega arith
+    of-idle (Lists x) = omega arith
+
+    Within : Outcome → Type 0
+    Within o = length (listAfter (o .answer) l) ≡ length l → listCount (answerOf (o .answer)) ≤ length l
+
+    go : (r : Option ℕ) → Within (outcomeOf r ts c)
+    go (some number) = λ e. omega arith
+    go none =
+        either-outcome Within (selectsNothing c) (idle c ts) (step c ts) (λ t e. of-idle (operatorOf (c .operator))) (λ t e. of-reply (operatorOf (c .operator)) e)
 
 -- .. nor does a call on a store
 pub answer-within : (b l b′ l′ : List ℕ) (c : Call) (a : Answer) → OnStore b l c a b′ l′ → length l′ ≡ length l → listCount a ≤ length l
@@ -171,6 +194,12 @@ no-calls b e =
       fullExactly = tt;
     }
 
+-- the tuples of a store are at most C
+tuples-fit : (b : List ℕ) → isStore b ≡ true → length (tuplesOf b) ≤ capacityOf b
+unfolding tuplesOf
+tuples-fit b e =
+    omega (arith, length-map (usedOf b) (tupleAt b), chains-count b (usedOf b) (freeOf b) (store-rules b e .chains))
+
 -- one call before a list of calls
 pub one-more : (b b′ b″ : List ℕ) (x : CallMade) (xs : List CallMade) → isStore b ≡ true → OneCall b (x .lent) (x .call) (x .answer) b′ (x .left)
     → WholeList (capacityOf b′) (tuplesOf b′) xs b″ → WholeList (capacityOf b) (tuplesOf b) (x ∷ xs) b″
@@ -184,7 +213,7 @@ one-more b b′ b″ x xs e one W =
     let r : Reply = machine C ts (x .call) (length (x .lent)) .answer in
     let told : observed (x .answer) (x .left) ≡ r
     = ap₂ observed (O .answer) (O .list) ∙ observed-machine C ts (x .call) (length (x .lent)) (x .lent) R in
-    let ten = full-exactly C ts (requestOf x) in
+    let ten = full-exactly C ts (requestOf x) (tuples-fit b e) in
     record {
       answered = ap₂ _∷_ told (W .answered ∙ ap₂ (λ (D : ℕ) (us : State). answers D us (requests xs)) same (O .tuples));
       store = W .store;

@@ -14,3 +14,4 @@ pub mod Prepared
 pub mod CallLists
 pub mod Cases
 pub mod Unread
+pub mod NoSelection

@@ -4,29 +4,64 @@ use mathlib.Core.List.{List, [], _∷_, _++_}
 use mathlib.Core.Logic.{_↔_}
 use mathlib.Core.Option.{Option, none, some}
 use mathlib.Core.Path.{_≡_, refl, sym, ap, _∙_}
-use Prim.Native.Nat.{ℕ}
+use Prim.Native.Nat.{ℕ, _+_, _≤_, _<_}
 use native.Mathlib.Omega.{arith}
-use lib.Dec.{eqb}
+use lib.Dec.{eqb, ltb}
+use lib.ListN.{length}
 use borrow.Author.Tests.{ltb-true, lt-ltb}
 use Rattle.model.specs.declared.Call.{Call}
 use Rattle.model.specs.declared.Pair.{Pair}
 use Rattle.model.specs.declared.Key.{Key}
-use Rattle.model.specs.Tuples.{Tuples, present, remove}
+use Rattle.model.specs.Tuples.{Tuples, present, missing, remove}
 use Rattle.model.specs.declared.Direction.{Direction}
 use Rattle.model.specs.declared.Operator.{Operator}
 use Rattle.model.specs.declared.Operator.the-variants.{Create, Bind, Value as Values, Exists, Destroy, List as Lists}
 use Rattle.model.specs.declared.Removal.{Removal}
 use Rattle.model.specs.Operators.{operatorOf}
 use Rattle.model.specs.Pairs.{nodeOf, pairsOf, nodeNames, withEdge, anyPair}
-use Rattle.model.specs.Steps.{Reply, refusal, name, valued, yesNo, pairs, nOf, gOf, sOf, nodeTaken, removeNodes, destroyed, reply, after}
-use Rattle.model.specs.Refusals.{Stop, stop, first, full, ofCall, ofTuples, earlier, refusalOf}
-use Rattle.model.specs.Machine.{Request, outcomeOf, machine}
+use Rattle.model.specs.Steps.{Reply, refusal, name, valued, yesNo, pairs, nOf, gOf, sOf, nodeTaken, removeNodes, destroyed, wouldAdd, reply, idleReply, after}
+use Rattle.model.specs.Refusals.{Stop, stop, first, selectsNothing, noOperator, zeroName, lacksSpace, destroysUniverse, spaceAbsent, nodeAbsent, secondAbsent, edgeAbsent, listShort, full, ofCall, ofTuples, ifLookedUp, earlier, refusalOf}
+use Rattle.model.specs.Machine.{State, Outcome, Request, step, idle, outcomeOf, machine}
 use Rattle.model.specs.OneCall.{writes}
-use Rattle.model.specs.CallLists.{Exceeds}
+use Rattle.model.specs.CallLists.{toAdd, Exceeds}
 use Rattle.model.proofs.Bools.{and-left, and-right}
 use Rattle.model.proofs.Tuples.{present-remove}
 
+-- ---- a call whose space is looked up, and one with nothing
+
+-- what holds of the call with nothing and of the step holds of whichever it is
+pub either-outcome : (P : Outcome → Type 0) (t : Bool) (x y : Outcome) → (t ≡ true → P x) → (t ≡ false → P y) → P (cond t x y)
+either-outcome P true x y p q = p refl
+either-outcome P false x y p q = q refl
+
+-- where the space is looked up: conditions 2 to 10
+abbrev pub asked : ℕ → Tuples → Call → ℕ → List Stop
+asked C ts c room =
+    stop 2 (noOperator c)
+    ∷ stop 3 (zeroName c)
+    ∷ stop 4 (destroysUniverse c)
+    ∷ stop 5 (spaceAbsent c ts)
+    ∷ stop 6 (nodeAbsent c ts)
+    ∷ stop 7 (secondAbsent c ts)
+    ∷ stop 8 (edgeAbsent c ts)
+    ∷ stop 9 (listShort c ts room)
+    ∷ stop 10 (full C c ts)
+    ∷ []
+
+pub looked-up : (C : ℕ) (ts : Tuples) (c : Call) (room : ℕ) → selectsNothing c ≡ false → refusalOf C ts c room ≡ first (asked C ts c room)
+unfolding refusalOf earlier ofCall ofTuples ifLookedUp lacksSpace first
+looked-up C ts c room e = rw e
+
+-- with nothing: conditions 2 to 4 and 12
+pub not-looked-up : (C : ℕ) (ts : Tuples) (c : Call) (room : ℕ) → selectsNothing c ≡ true → refusalOf C ts c room ≡ first (ofCall c)
+unfolding refusalOf earlier ofCall ifLookedUp
+not-looked-up C ts c room e = rw e
+
 -- ---- what changes nothing
+
+-- request 1, "C, B and D change nothing": the state of a call with nothing stays
+pub idle-stays : (c : Call) (ts : State) → idle c ts .state ≡ ts
+idle-stays c ts = refl
 
 pub stopped : (C : ℕ) (ts : Tuples) (c : Call) (room number : ℕ) → refusalOf C ts c room ≡ some number
     → (machine C ts c room .answer ≡ refusal number) × (machine C ts c room .state ≡ ts)
@@ -50,7 +85,8 @@ reading C ts c room w = go (refusalOf C ts c room)
   where
     go : (r : Option ℕ) → outcomeOf r ts c .state ≡ ts
     go (some number) = refl
-    go none = after-reading (operatorOf (c .operator)) c ts w
+    go none =
+        either-outcome (λ (o : Outcome). o .state ≡ ts) (selectsNothing c) (idle c ts) (step c ts) (λ e. idle-stays c ts) (λ e. after-reading (operatorOf (c .operator)) c ts w)
 
 -- ---- full
 
@@ -98,27 +134,38 @@ abbrev notTen : ℕ → Bool
 notTen n = not (eqb n 10)
 
 earlier-not-ten : (ts : Tuples) (c : Call) (room : ℕ) → everyNumber notTen (earlier ts c room) ≡ true
-unfolding ofCall ofTuples earlier
-earlier-not-ten ts c room = refl
+unfolding ofCall ofTuples ifLookedUp earlier
+earlier-not-ten ts c room = go (selectsNothing c)
+  where
+    go : (t : Bool) → everyNumber notTen (ofCall c ++ cond t [] (ofTuples ts c room)) ≡ true
+    go true = refl
+    go false = refl
 
--- condition 10 wins exactly when no earlier one applies and it does
-ten-wins : (C : ℕ) (ts : Tuples) (c : Call) (room : ℕ) → refusalOf C ts c room ≡ some 10 → (first (earlier ts c room) ≡ none) × (full C c ts ≡ true)
-unfolding refusalOf first
+-- condition 10 wins exactly when no earlier one applies, the space is looked up and it applies
+abbrev WinsTen : ℕ → Tuples → Call → ℕ → Type 0
+WinsTen C ts c room = (first (earlier ts c room) ≡ none) × (selectsNothing c ≡ false) × (full C c ts ≡ true)
+
+ten-wins : (C : ℕ) (ts : Tuples) (c : Call) (room : ℕ) → refusalOf C ts c room ≡ some 10 → WinsTen C ts c room
+unfolding refusalOf ifLookedUp first
 ten-wins C ts c room e = go (first (earlier ts c room)) refl
   where
-    last : (b : Bool) → first (stop 10 b ∷ []) ≡ some 10 → b ≡ true
-    last true f = refl
-    last false f = absurd (none≢some f)
+    last : (t b : Bool) → first (cond t [] (stop 10 b ∷ [])) ≡ some 10 → (t ≡ false) × (b ≡ true)
+    last true b f = absurd (none≢some f)
+    last false true f = (refl, refl)
+    last false false f = absurd (none≢some f)
 
-    go : (r : Option ℕ) → first (earlier ts c room) ≡ r → (first (earlier ts c room) ≡ none) × (full C c ts ≡ true)
-    go none f = (f, last (full C c ts) (sym (first-none (earlier ts c room) _ f) ∙ e))
+    go : (r : Option ℕ) → first (earlier ts c room) ≡ r → WinsTen C ts c room
+    go none f = let l = last (selectsNothing c) (full C c ts) (sym (first-none (earlier ts c room) _ f) ∙ e) in (f, l .0, l .1)
     go (some n) f =
         let ten : n ≡ 10 = some-injective (sym (first-some (earlier ts c room) _ n f) ∙ e) in
         absurd (false≢true (sym (ap notTen ten) ∙ first-number notTen (earlier ts c room) n (earlier-not-ten ts c room) f))
 
-wins-ten : (C : ℕ) (ts : Tuples) (c : Call) (room : ℕ) → first (earlier ts c room) ≡ none → full C c ts ≡ true → refusalOf C ts c room ≡ some 10
-unfolding refusalOf first
-wins-ten C ts c room f e = first-none (earlier ts c room) _ f ∙ ap (λ (b : Bool). first (stop 10 b ∷ [])) e
+wins-ten : (C : ℕ) (ts : Tuples) (c : Call) (room : ℕ) → WinsTen C ts c room → refusalOf C ts c room ≡ some 10
+unfolding refusalOf ifLookedUp first
+wins-ten C ts c room w =
+    first-none (earlier ts c room) _ (w .0)
+    ∙ ap (λ (t : Bool). first (cond t [] (stop 10 (full C c ts) ∷ []))) (w .1)
+    ∙ ap (λ (b : Bool). first (stop 10 b ∷ [])) (w .2)
 
 -- no step answers a refusal
 abbrev isRefusal : Reply → Bool
@@ -137,6 +184,15 @@ reply-answers (Exists o) c ts = refl
 reply-answers (Destroy r) c ts = refl
 reply-answers (Lists l) c ts = refl
 
+idle-answers : (op : Operator) (c : Call) → isRefusal (idleReply op c) ≡ false
+unfolding idleReply
+idle-answers (Create o) c = refl
+idle-answers (Bind o) c = refl
+idle-answers (Values o) c = refl
+idle-answers (Exists o) c = refl
+idle-answers (Destroy r) c = refl
+idle-answers (Lists l) c = refl
+
 -- a refusal is answered exactly when the call is stopped by that condition
 pub refused-exactly : (C : ℕ) (ts : Tuples) (c : Call) (room number : ℕ)
     → (machine C ts c room .answer ≡ refusal number) ↔ (refusalOf C ts c room ≡ some number)
@@ -145,16 +201,36 @@ refused-exactly C ts c room number = (λ e. go (refusalOf C ts c room) e, λ e. 
   where
     go : (r : Option ℕ) → outcomeOf r ts c .answer ≡ refusal number → r ≡ some number
     go (some n) e = cc
-    go none e = absurd (true≢false (ap isRefusal (sym e) ∙ reply-answers (operatorOf (c .operator)) c ts))
+    go none e = absurd (true≢false (ap isRefusal (sym e) ∙ answers-none))
+      where
+        answers-none : isRefusal (cond (selectsNothing c) (idle c ts) (step c ts) .answer) ≡ false
+        answers-none =
+            either-outcome (λ (o : Outcome). isRefusal (o .answer) ≡ false) (selectsNothing c) (idle c ts) (step c ts) (λ t. idle-answers (operatorOf (c .operator)) c)
+            (λ t. reply-answers (operatorOf (c .operator)) c ts)
 
--- "'full' is answered exactly when no earlier refusal applies and tuples present plus to add exceed C"
-pub full-exactly : (C : ℕ) (ts : Tuples) (r : Request) → (machine C ts (r .call) (r .room) .answer ≡ refusal 10) ↔ Exceeds C ts r
+-- how many tuples there are with those that a call would add, where its space is looked up
+added : (ts : Tuples) (c : Call) → selectsNothing c ≡ false
+    → length ts + length (missing (toAdd c) ts) ≡ length ts + length (missing (wouldAdd (operatorOf (c .operator)) c) ts)
+unfolding toAdd
+added ts c e = rw e
+
+-- a call that would add to tuples that fit more than fits has its space looked up
+adding-selects : (C : ℕ) (ts : Tuples) (c : Call) → length ts ≤ C → C < length ts + length (missing (toAdd c) ts) → selectsNothing c ≡ false
+unfolding toAdd missing
+adding-selects C ts c fits = go (selectsNothing c)
+  where
+    go : (t : Bool) → C < length ts + length (missing (cond t [] (wouldAdd (operatorOf (c .operator)) c)) ts) → t ≡ false
+    go true h = absurd (omega (arith, fits, h))
+    go false h = refl
+
+-- "'full' is answered exactly when no earlier refusal applies and tuples present plus to add exceed C", where those present do not
+pub full-exactly : (C : ℕ) (ts : Tuples) (r : Request) → length ts ≤ C → (machine C ts (r .call) (r .room) .answer ≡ refusal 10) ↔ Exceeds C ts r
 unfolding full
-full-exactly C ts r =
+full-exactly C ts r fits =
     let c = r .call in
     let i = refused-exactly C ts c (r .room) 10 in (
-      λ e. let w = ten-wins C ts c (r .room) (i .0 e) in (w .0, ltb-true C _ (w .1)),
-      λ h. i .1 (wins-ten C ts c (r .room) (h .0) (lt-ltb C _ (h .1))),
+      λ e. let w = ten-wins C ts c (r .room) (i .0 e) in (w .0, omega (arith, ltb-true C _ (w .2), added ts c (w .1))),
+      λ h. let e = adding-selects C ts c fits (h .1) in i .1 (wins-ten C ts c (r .room) (h .0, e, lt-ltb C _ (omega (arith, h .1, added ts c e)))),
     )
 
 -- ---- nodes that were collected

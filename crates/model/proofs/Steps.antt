@@ -11,7 +11,7 @@ use lib.ListN.{length}
 use borrow.Author.Tests.{eqb-true, eqb-false, ltb-false, leb-true}
 use Rattle.model.specs.declared.Call.{Call}
 use Rattle.model.specs.declared.Space.{Space}
-use Rattle.model.specs.declared.Space.the-variants.{Universe, Numbered}
+use Rattle.model.specs.declared.Space.the-variants.{Universe, Numbered, Nothing}
 use Rattle.model.specs.declared.Pair.{Pair}
 use Rattle.model.specs.Ordered.{holds}
 use Rattle.model.specs.declared.Key.{Key}
@@ -27,8 +27,8 @@ use Rattle.model.specs.declared.Removal.{Removal}
 use Rattle.model.specs.Operators.{table, operatorOf, within, readsOf}
 use Rattle.model.specs.Pairs.{pair, nodeOf, member, pairsOf, nodeNames, withEdge}
 use Rattle.model.specs.Steps.{spaceNumber, nOf, gOf, mOf, vOf, sOf, objectKeys, created, nodeTaken, removeNodes, destroyed, wouldAdd, after}
-use Rattle.model.specs.Refusals.{Stop, first, zeroSpace, isUniverse, noOperator, zeroName, destroysUniverse, spaceAbsent, nodeAbsent, secondAbsent, edgeAbsent, listShort, full, ofCall, ofTuples, earlier, refusalOf}
-use Rattle.model.specs.Machine.{FieldsFit, outcomeOf, machine}
+use Rattle.model.specs.Refusals.{Stop, first, zeroSpace, isUniverse, isNothing, selectsNothing, noOperator, zeroName, destroysUniverse, spaceAbsent, nodeAbsent, secondAbsent, edgeAbsent, listShort, full, ofCall, ofTuples, earlier, refusalOf}
+use Rattle.model.specs.Machine.{FieldsFit, Outcome, step, idle, outcomeOf, machine}
 use Rattle.model.specs.Buffer.{everyRecord}
 use Rattle.model.specs.Rules.{Has, Small, TupleRules}
 use Rattle.model.specs.Entries.{PointsOut, PointsIn, IsPair}
@@ -36,11 +36,13 @@ use Rattle.model.proofs.Bools.{or-cases, or-left, or-right, or-no-left,
 use Rattle.model.proofs.Tuples.{same-key, own-key, among, present-addAll, length-addAll, length-remove, length-assign}
 use Rattle.model.proofs.Rules.{has-universe, assignAll-rules, Fitting, addAll-rules, remove-rules}
 use Rattle.model.proofs.Taken.{edges-fair, node-fair, EveryPair, NodeNamed, removeNodes-rules, space-fair}
+use Rattle.model.proofs.Refusals.{either-outcome, looked-up}
 use Rattle.model.proofs.Entries.{Member, samePair, own-pair, pairs-sound, nodes-sound, only-sound}
 
--- ---- a call that is not stopped has passed each condition
+-- ---- a call that is not stopped, and whose space is looked up, has passed each condition
 
 pub record Passed (C : ℕ) (ts : Tuples) (c : Call) (room : ℕ) : Type 0 where
+  pub selects : selectsNothing c ≡ false
   pub operator : noOperator c ≡ false
   pub names : zeroName c ≡ false
   pub universe : destroysUniverse c ≡ false
@@ -62,10 +64,9 @@ first-passed x xs e = go (x .applies) e
     go true f = absurd (some≢none f)
     go false f = (refl, f)
 
-pub passed : (C : ℕ) (ts : Tuples) (c : Call) (room : ℕ) → refusalOf C ts c room ≡ none → Passed C ts c room
-unfolding refusalOf ofCall ofTuples earlier
-passed C ts c room e =
-    let p2 = first-passed _ _ e in
+pub passed : (C : ℕ) (ts : Tuples) (c : Call) (room : ℕ) → selectsNothing c ≡ false → refusalOf C ts c room ≡ none → Passed C ts c room
+passed C ts c room selects e =
+    let p2 = first-passed _ _ (sym (looked-up C ts c room selects) ∙ e) in
     let p3 = first-passed _ _ (p2 .1) in
     let p4 = first-passed _ _ (p3 .1) in
     let p5 = first-passed _ _ (p4 .1) in
@@ -75,6 +76,7 @@ passed C ts c room e =
     let p9 = first-passed _ _ (p8 .1) in
     let p10 = first-passed _ _ (p9 .1) in
     record {
+      selects = selects;
       operator = p2 .0;
       names = p3 .0;
       universe = p4 .0;
@@ -160,15 +162,16 @@ m-named c e r =
     (and-no (readsOf (c .operator) .m) (eqb (mOf c) 0)
     (or-no-right ((readsOf (c .operator) .n && eqb (nOf c) 0) || (readsOf (c .operator) .g && eqb (gOf c) 0)) _ (or-no-left _ _ e)) r)
 
-numbered-named : (s : Space) → zeroSpace s ≡ false → isUniverse s ≡ false → spaceNumber s ≢ 0
-unfolding zeroSpace isUniverse spaceNumber
-numbered-named Universe e f = absurd (true≢false f)
-numbered-named (Numbered s) e f = eqb-false (s .0) 0 e
+numbered-named : (s : Space) → isNothing s ≡ false → zeroSpace s ≡ false → isUniverse s ≡ false → spaceNumber s ≢ 0
+unfolding zeroSpace isUniverse isNothing spaceNumber
+numbered-named Universe h e f = absurd (true≢false f)
+numbered-named (Numbered s) h e f = eqb-false (s .0) 0 e
+numbered-named Nothing h e f = absurd (true≢false h)
 
-pub s-named : (c : Call) → zeroName c ≡ false → destroysUniverse c ≡ false → (readsOf (c .operator) .s) ≡ true → eqb (c .operator) 55 ≡ true → sOf c ≢ 0
-unfolding zeroName destroysUniverse
-s-named c e f r o =
-    numbered-named (c .s)
+pub s-named : (c : Call) → selectsNothing c ≡ false → zeroName c ≡ false → destroysUniverse c ≡ false → (readsOf (c .operator) .s) ≡ true → eqb (c .operator) 55 ≡ true → sOf c ≢ 0
+unfolding selectsNothing zeroName destroysUniverse
+s-named c h e f r o =
+    numbered-named (c .s) (and-no (readsOf (c .operator) .s) (isNothing (c .s)) h r)
     (and-no (readsOf (c .operator) .s) (zeroSpace (c .s))
     (or-no-right ((readsOf (c .operator) .n && eqb (nOf c) 0) || (readsOf (c .operator) .g && eqb (gOf c) 0) || (readsOf (c .operator) .m && eqb (mOf c) 0)) _ e)
     r)
@@ -392,7 +395,7 @@ after-rules (Destroy Removal.UN) C ts c room R F P a = remove-rules _ ts (node-f
 after-rules (Destroy Removal.US) C ts c room R F P a =
     remove-rules _ ts
     (space-fair (sOf c)
-    (s-named c (P .names) (P .universe) (and-left (readsOf (c .operator) .s) _ a) (and-right (readsOf (c .operator) .s) _ a))) R
+    (s-named c (P .selects) (P .names) (P .universe) (and-left (readsOf (c .operator) .s) _ a) (and-right (readsOf (c .operator) .s) _ a))) R
 after-rules (Lists l) C ts c room R F P a = R
 
 -- ---- how many tuples there are
@@ -444,9 +447,12 @@ machine-good C ts c room F G = go (refusalOf C ts c room) refl
   where
     go : (r : Option ℕ) → refusalOf C ts c room ≡ r → Good C (outcomeOf r ts c .state)
     go (some number) e = G
-    go none e =
-        let P = passed C ts c room e in
-        record {
-          rules = after-rules (operatorOf (c .operator)) C ts c room (G .rules) F P (agree c (P .operator));
-          fits = after-length (operatorOf (c .operator)) C ts c (G .rules) (G .fits) (P .records);
-        }
+    go none e = either-outcome (λ (o : Outcome). Good C (o .state)) (selectsNothing c) (idle c ts) (step c ts) (λ t. G) stepped
+      where
+        stepped : selectsNothing c ≡ false → Good C (step c ts .state)
+        stepped t =
+            let P = passed C ts c room t e in
+            record {
+              rules = after-rules (operatorOf (c .operator)) C ts c room (G .rules) F P (agree c (P .operator));
+              fits = after-length (operatorOf (c .operator)) C ts c (G .rules) (G .fits) (P .records);
+            }

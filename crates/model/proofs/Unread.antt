@@ -9,8 +9,8 @@ use lib.Dec.{eqb, leb}
 use borrow.Author.Tests.{eqb-true, eqb-false, leb-true}
 use Rattle.model.specs.declared.Call.{Call}
 use Rattle.model.specs.Operators.{table, operatorOf, within, readsOf}
-use Rattle.model.specs.Steps.{Reply, refusal, objectKeys, created, destroyed, listed, firstArgument, wouldList, wouldAdd, reply, after}
-use Rattle.model.specs.Refusals.{Stop, first, noOperator, zeroName, destroysUniverse, spaceAbsent, nodeAbsent, secondAbsent, workedOn, edgeAbsent, listShort, full, ofCall, ofTuples, earlier, refusalOf}
+use Rattle.model.specs.Steps.{Reply, refusal, objectKeys, created, destroyed, listed, firstArgument, wouldList, wouldAdd, reply, idleReply, after}
+use Rattle.model.specs.Refusals.{Stop, first, selectsNothing, noOperator, zeroName, lacksSpace, destroysUniverse, spaceAbsent, nodeAbsent, secondAbsent, workedOn, edgeAbsent, listShort, full, ofCall, ofTuples, ifLookedUp, earlier, refusalOf}
 use Rattle.model.specs.Machine.{State, outcomeOf, machine}
 use Rattle.model.specs.Unread.{readable}
 use Rattle.model.proofs.Bools.{and-left, and-right, not-no}
@@ -50,10 +50,23 @@ unread f c e u =
     agree-at (λ (i : ℕ). f (at c i)) (λ (i : ℕ). f (readable (at c i))) 57 u o
     (leb-true 1 o (and-left (leb 1 o) (leb o 57) w)) (leb-true o 57 (and-right (leb 1 o) (leb o 57) w))
 
--- conditions 2 to 4
+-- whether the space is nothing
+selects-unread : (c : Call) → AllUnread selectsNothing c
+unfolding readable readsOf selectsNothing
+selects-unread c = refl
+
+-- conditions 2 to 4 and 12
 call-unread : (c : Call) → AllUnread ofCall c
-unfolding readable readsOf noOperator zeroName destroysUniverse ofCall
+unfolding readable readsOf selectsNothing noOperator zeroName lacksSpace destroysUniverse ofCall
 call-unread c = refl
+
+-- the answer with nothing
+abbrev idleAnswer : Call → Reply
+idleAnswer c = idleReply (operatorOf (c .operator)) c
+
+idle-unread : (c : Call) → AllUnread idleAnswer c
+unfolding readable table operatorOf readsOf firstArgument idleReply
+idle-unread c = refl
 
 module _ (C : ℕ) (ts : State) (room : ℕ) where
   -- conditions 5 to 9
@@ -91,9 +104,14 @@ module _ (C : ℕ) (ts : State) (room : ℕ) where
   -- ---- the outcome
 
   refused-unread : (c : Call) → noOperator c ≡ false → refusalOf C ts c room ≡ refusalOf C ts (readable c) room
-  unfolding refusalOf earlier
+  unfolding refusalOf earlier ifLookedUp
   refused-unread c e =
-      cc (unread ofCall c e (call-unread c), unread stops c e (stops-unread c), unread filled c e (filled-unread c))
+      cc (
+        unread selectsNothing c e (selects-unread c),
+        unread ofCall c e (call-unread c),
+        unread stops c e (stops-unread c),
+        unread filled c e (filled-unread c),
+      )
 
   -- 1 to 57: the same refusal, or the same answer and state
   of-operator : (c : Call) → noOperator c ≡ false → machine C ts c room ≡ machine C ts (readable c) room
@@ -102,7 +120,13 @@ module _ (C : ℕ) (ts : State) (room : ℕ) where
     where
       go : (x : Option ℕ) → outcomeOf x ts c ≡ outcomeOf x ts (readable c)
       go (some number) = refl
-      go none = cc (unread answered c e (answered-unread c), unread left c e (left-unread c))
+      go none =
+          cc (
+            unread selectsNothing c e (selects-unread c),
+            unread idleAnswer c e (idle-unread c),
+            unread answered c e (answered-unread c),
+            unread left c e (left-unread c),
+          )
 
   -- any other number: refusal 2
   of-none : (c : Call) → noOperator c ≡ true → machine C ts c room ≡ record { answer = refusal 2; state = ts }

@@ -1,5 +1,5 @@
 -- Document 01, "A list of calls, as demand 3 has it": calls one after the other, and what is claimed of the whole list.
-use mathlib.Core.Bool.{true}
+use mathlib.Core.Bool.{true, cond}
 use mathlib.Core.List.{List, [], _∷_, map}
 use mathlib.Core.Logic.{_↔_}
 use mathlib.Core.Option.{none}
@@ -10,11 +10,12 @@ use Rattle.model.specs.declared.Call.{Call}
 use Rattle.model.specs.declared.Answer.{Answer}
 use Rattle.model.specs.declared.Answer.the-variants.{Refusal}
 use Rattle.model.specs.Ordered.{Ascending}
+use Rattle.model.specs.declared.Key.{Key}
 use Rattle.model.specs.Keys.{keyOf, compareKeys}
 use Rattle.model.specs.Tuples.{fresh, missing}
 use Rattle.model.specs.Operators.{operatorOf}
 use Rattle.model.specs.Steps.{Reply, wouldAdd}
-use Rattle.model.specs.Refusals.{first, earlier}
+use Rattle.model.specs.Refusals.{selectsNothing, first, earlier}
 use Rattle.model.specs.Machine.{State, Request, machine, answers, final}
 use Rattle.model.specs.Buffer.{capacityOf, tuplesOf, freeOf, isStore, Prepared}
 use Rattle.model.specs.Rules.{NothingMissing}
@@ -43,11 +44,15 @@ requests xs = map requestOf xs
 abbrev pub replies : List CallMade → List Reply
 replies xs = map (λ (x : CallMade). observed (x .answer) (x .left)) xs
 
+-- what a call would add; with nothing as its space it adds nothing (request 1)
+unfoldable pub toAdd : Call → List Key
+toAdd c = cond (selectsNothing c) [] (wouldAdd (operatorOf (c .operator)) c)
+
 -- demand 3: "no earlier refusal applies and tuples present plus to add exceed C"
 abbrev pub Exceeds : ℕ → State → Request → Type 0
 Exceeds C ts r =
     (first (earlier ts (r .call) (r .room)) ≡ none)
-    × (C < length ts + length (missing (wouldAdd (operatorOf (r .call .operator)) (r .call)) ts))
+    × (C < length ts + length (missing (toAdd (r .call)) ts))
 
 -- demand 3: "'full' is answered exactly when ..", at each call, by the machine's state then
 abbrev pub FullExactly : ℕ → State → List CallMade → Type 0

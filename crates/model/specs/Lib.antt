@@ -13,3 +13,4 @@ pub mod Entries
 pub mod OneCall
 pub mod CallLists
 pub mod Cases
+pub mod NoSelection

@@ -1,4 +1,5 @@
 -- Document 01, "The tuple machine": one call, and a list of calls.
+use mathlib.Core.Bool.{cond}
 use mathlib.Core.List.{List, [], _∷_}
 use mathlib.Core.Option.{Option, none, some}
 use Prim.Native.Nat.{ℕ, _≤_}
@@ -6,8 +7,8 @@ use Rattle.model.specs.declared.Call.{Call}
 use Rattle.model.specs.Tuples.{Tuples}
 use Rattle.model.specs.Operators.{operatorOf}
 use Rattle.model.specs.Keys.{mostName}
-use Rattle.model.specs.Steps.{Reply, refusal, nOf, gOf, mOf, sOf, reply, after}
-use Rattle.model.specs.Refusals.{refusalOf}
+use Rattle.model.specs.Steps.{Reply, refusal, nOf, gOf, mOf, sOf, reply, idleReply, after}
+use Rattle.model.specs.Refusals.{selectsNothing, refusalOf}
 
 -- "Its state is a set of tuples .."
 abbrev pub State : Type 0
@@ -18,12 +19,20 @@ pub record Outcome : Type 0 where
   pub answer : Reply
   pub state : State
 
+-- "Each operator is one step."
+abbrev pub step : Call → State → Outcome
+step c ts = record { answer = reply (operatorOf (c .operator)) c ts; state = after (operatorOf (c .operator)) c ts }
+
+-- request 1, "The tuple machine gains this step": with nothing as the space the state stays
+abbrev pub idle : Call → State → Outcome
+idle c ts = record { answer = idleReply (operatorOf (c .operator)) c; state = ts }
+
 -- "A call that 'Where a call is stopped' stops leaves the state as it is, and its answer is the refusal of that number."
 unfoldable pub outcomeOf : Option ℕ → State → Call → Outcome
 outcomeOf (some number) ts c = record { answer = refusal number; state = ts }
-outcomeOf none ts c = record { answer = reply (operatorOf (c .operator)) c ts; state = after (operatorOf (c .operator)) c ts }
+outcomeOf none ts c = cond (selectsNothing c) (idle c ts) (step c ts)
 
--- "Each operator is one step. It is fed only the calls: operator, fields and the length of the call's answer list."
+-- "It is fed only the calls: operator, fields and the length of the call's answer list."
 unfoldable pub machine : ℕ → State → Call → ℕ → Outcome
 machine C ts c room = outcomeOf (refusalOf C ts c room) ts c
 

@@ -14,7 +14,7 @@ use Rattle.model.specs.declared.Operator.the-variants.{Create, Bind, Val
 use Rattle.model.specs.Operators.{operatorOf}
 use Rattle.model.specs.Pairs.{pair, edgeOf, nodeOf}
 use Rattle.model.specs.Steps.{Reply, refusal, name, valued, yesNo, pairs}
-use Rattle.model.specs.Refusals.{refusalOf}
+use Rattle.model.specs.Refusals.{selectsNothing, refusalOf}
 use Rattle.model.specs.Machine.{machine}
 use Rattle.model.specs.Buffer.{capacityOf, tuplesOf, isStore, pastRecords}
 
@@ -91,6 +91,8 @@ pub record OnStore (b l : List ℕ) (c : Call) (a : Answer) (b′ l′ : List �
   pub past : pastRecords b′ ≡ pastRecords b
   pub refused : (number : ℕ) → refusalOf (capacityOf b) (tuplesOf b) c (length l) ≡ some number → b′ ≡ b
   pub reading : writes (operatorOf (c .operator)) ≡ false → b′ ≡ b
+  -- request 1: with nothing as the space "C, B and D change nothing"
+  pub unselected : selectsNothing c ≡ true → b′ ≡ b
 
 -- the call c on the buffer b with the answer list l gives the answer a and leaves the buffer b′ and the list l′
 pub record OneCall (b l : List ℕ) (c : Call) (a : Answer) (b′ l′ : List ℕ) : Type 0 where

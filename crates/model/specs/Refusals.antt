@@ -1,4 +1,5 @@
--- Document 01, "Where a call is stopped": conditions 2 to 10 in their order. "The first that applies wins; nothing is changed."
+-- Document 01, "Where a call is stopped": conditions 2 to 10 in their order, with request 1's condition 12 between 3 and 4.
+-- "The first that applies wins; nothing is changed."
 -- Condition 1 is about the buffer (OneCall.antt), condition 11 about a script's line; neither arises in the machine.
 use mathlib.Core.Bool.{Bool, true, false, cond, not, _&&_, _||_}
 use mathlib.Core.List.{List, [], _∷_, _++_}
@@ -8,7 +9,7 @@ use lib.Dec.{eqb, ltb}
 use lib.ListN.{length}
 use Rattle.model.specs.declared.Call.{Call}
 use Rattle.model.specs.declared.Space.{Space}
-use Rattle.model.specs.declared.Space.the-variants.{Universe, Numbered}
+use Rattle.model.specs.declared.Space.the-variants.{Universe, Numbered, Nothing}
 use Rattle.model.specs.declared.Key.{Key}
 use Rattle.model.specs.Keys.{spaceKey, nodeKey}
 use Rattle.model.specs.Tuples.{Tuples, present, anyPresent, missing}
@@ -34,11 +35,23 @@ first (x ∷ xs) = cond (x .applies) (some (x .number)) (first xs)
 unfoldable pub zeroSpace : Space → Bool
 zeroSpace Universe = false
 zeroSpace (Numbered s) = eqb (s .0) 0
+zeroSpace Nothing = false
 
 -- the space of the call is UNIVERSE
 unfoldable pub isUniverse : Space → Bool
 isUniverse Universe = true
 isUniverse (Numbered s) = false
+isUniverse Nothing = false
+
+-- the space of the call is nothing
+unfoldable pub isNothing : Space → Bool
+isNothing Universe = false
+isNothing (Numbered s) = false
+isNothing Nothing = true
+
+-- request 1: the space of the call is read, and it is nothing
+unfoldable pub selectsNothing : Call → Bool
+selectsNothing c = (readsOf (c .operator) .s) && isNothing (c .s)
 
 -- 2, operator: "not 1 to 57"
 unfoldable pub noOperator : Call → Bool
@@ -49,6 +62,14 @@ unfoldable pub zeroName : Call → Bool
 zeroName c =
     let r = readsOf (c .operator) in
     (r .n && eqb (nOf c) 0) || (r .g && eqb (gOf c) 0) || (r .m && eqb (mOf c) 0) || (r .s && zeroSpace (c .s))
+
+-- "a V operator, or any of 51–55": 7, 8, 47 and 53 are V
+abbrev pub needsSpace : ℕ → Bool
+needsSpace o = within 7 8 o || eqb o 47 || within 51 55 o
+
+-- 12, space: these "with `-`; tested after 3 and before 4"
+unfoldable pub lacksSpace : Call → Bool
+lacksSpace c = selectsNothing c && needsSpace (c .operator)
 
 -- 4, space: "55 on UNIVERSE"
 unfoldable pub destroysUniverse : Call → Bool
@@ -92,7 +113,7 @@ full C c ts = ltb C (length ts + length (missing (wouldAdd (operatorOf (c .opera
 
 -- the conditions on the call alone
 unfoldable pub ofCall : Call → List Stop
-ofCall c = stop 2 (noOperator c) ∷ stop 3 (zeroName c) ∷ stop 4 (destroysUniverse c) ∷ []
+ofCall c = stop 2 (noOperator c) ∷ stop 3 (zeroName c) ∷ stop 12 (lacksSpace c) ∷ stop 4 (destroysUniverse c) ∷ []
 
 -- the conditions on what is present; room is the length of the call's answer list
 unfoldable pub ofTuples : Tuples → Call → ℕ → List Stop
@@ -104,10 +125,14 @@ ofTuples ts c room =
     ∷ stop 9 (listShort c ts room)
     ∷ []
 
--- conditions 2 to 9, those earlier than "full", in their order
+-- request 1: "nothing is looked up in the graph, so conditions 5 to 10 are not tested"
+unfoldable pub ifLookedUp : Call → List Stop → List Stop
+ifLookedUp c xs = cond (selectsNothing c) [] xs
+
+-- conditions 2 to 9 and 12, those earlier than "full", in their order
 unfoldable pub earlier : Tuples → Call → ℕ → List Stop
-earlier ts c room = ofCall c ++ ofTuples ts c room
+earlier ts c room = ofCall c ++ ifLookedUp c (ofTuples ts c room)
 
 -- the number of the refusal, or none where the call is not stopped
 unfoldable pub refusalOf : ℕ → Tuples → Call → ℕ → Option ℕ
-refusalOf C ts c room = first (earlier ts c room ++ (stop 10 (full C c ts) ∷ []))
+refusalOf C ts c room = first (earlier ts c room ++ ifLookedUp c (stop 10 (full C c ts) ∷ []))

@@ -1,12 +1,12 @@
--- Document 01, the column "step" of the table of operators: what each operator adds, sets, removes and answers.
-use mathlib.Core.Bool.{Bool, true, cond, _&&_, _||_}
+-- Document 01, the column "step" of the table of operators: what each operator adds, sets, removes and answers; and what it answers with nothing as its space (request 1).
+use mathlib.Core.Bool.{Bool, true, false, cond, _&&_, _||_}
 use mathlib.Core.List.{List, [], _∷_, _++_}
 use Prim.Native.Nat.{ℕ}
 use lib.Dec.{eqb}
 use lib.ListN.{length}
 use Rattle.model.specs.declared.Call.{Call}
 use Rattle.model.specs.declared.Space.{Space}
-use Rattle.model.specs.declared.Space.the-variants.{Universe, Numbered}
+use Rattle.model.specs.declared.Space.the-variants.{Universe, Numbered, Nothing}
 use Rattle.model.specs.declared.Pair.{Pair}
 use Rattle.model.specs.declared.Key.{Key}
 use Rattle.model.specs.Keys.{Value, NIL, spaceKey, nodeKey}
@@ -20,10 +20,11 @@ use Rattle.model.specs.declared.Removal.{Removal}
 use Rattle.model.specs.Operators.{within}
 use Rattle.model.specs.Pairs.{edgeOf, nodeOf, pairsAt, pairsOf, edgeNames, nodeNames, withEdge, withNode, nodesIn, spacesIn, spacesWith, pairKeys, anyPair}
 
--- "In tuples and answers UNIVERSE is written 0."
+-- "In tuples and answers UNIVERSE is written 0." No tuple and no answer is made with nothing; what stands here for it has no effect.
 unfoldable pub spaceNumber : Space → ℕ
 spaceNumber Universe = 0
 spaceNumber (Numbered s) = s .0
+spaceNumber Nothing = 0
 
 -- the call's fields as numbers
 abbrev pub nOf : Call → ℕ
@@ -140,6 +141,16 @@ reply (Values o) c ts = valued (firstValue (objectKeys o (sOf c) c) ts)
 reply (Exists o) c ts = yesNo (anyPresent (objectKeys o (sOf c) c) ts)
 reply (Destroy r) c ts = name (firstArgument c)
 reply (Lists l) c ts = pairs (length (listed l c ts)) (listed l c ts)
+
+-- request 1, what a call with nothing answers: "C, B and D change nothing and return the first argument; X says no; S, SUN included, answers an empty list."
+-- A V operator with nothing is stopped by condition 12; what stands here for it has no effect.
+unfoldable pub idleReply : Operator → Call → Reply
+idleReply (Create o) c = name (firstArgument c)
+idleReply (Bind o) c = name (firstArgument c)
+idleReply (Values o) c = valued NIL
+idleReply (Exists o) c = yesNo false
+idleReply (Destroy r) c = name (firstArgument c)
+idleReply (Lists l) c = pairs 0 []
 
 -- the state after the step; "set the pair's value in s to v; A sets whichever are present"
 unfoldable pub after : Operator → Call → Tuples → Tuples

@@ -11,12 +11,14 @@ pub struct EdgeName(pub u16);
 
 pub struct SpaceName(pub u16);
 
-// "The space of a call is either UNIVERSE or a number."
+// "The space of a call is either UNIVERSE or a number", and by request 1 it "gets a third form, nothing".
 pub enum Space {
     // The universal space, which has no name.
     Universe,
     // The space of that number.
     Numbered(SpaceName),
+    // No selection: nothing is looked up in the graph.
+    Nothing,
 }
 
 // "Call fields, every name a field of 16 bits: n first node, g edge, m second node, v value, s space."

@@ -45,7 +45,7 @@ fn name_word(x: u16) -> u32
     x as u32
 }
 
-// The number of a space; 0 for UNIVERSE.
+// The number of a space; 0 for UNIVERSE, and for nothing, where no caller uses it.
 pub fn space_number(s: Space) -> u32
     ensures { λ r. ⌜ r ≡ spaceNumber s ⌝ }
     ensures fit { λ _. ⌜ spaceNumber s ≤ mostName ⌝ }
@@ -53,6 +53,7 @@ pub fn space_number(s: Space) -> u32
     match s {
         Space::Universe => 0,
         Space::Numbered(x) => name_word(x.0),
+        Space::Nothing => 0,
     }
 }
 

@@ -73,6 +73,7 @@ module _ (b l₀ b′ m : List ℕ) (c : Call) (a : Answer) (O : OnStore b l₀ 
         past = O .past;
         refused = λ number e. O .refused number (sym stop ∙ e);
         reading = O .reading;
+        unselected = O .unselected;
       }
 
   pub rest-kept : drop (listCount a) m ≡ drop (listCount a) l₀

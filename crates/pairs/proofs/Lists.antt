@@ -20,12 +20,13 @@ use Rattle.model.specs.declared.Pair.{Pair}
 use Rattle.model.specs.declared.Preparation.the-variants.{Capacity}
 use Rattle.model.specs.Tuples.{fresh}
 use Rattle.model.specs.Operators.{operatorOf}
-use Rattle.model.specs.Steps.{pairs, listed, reply}
-use Rattle.model.specs.Refusals.{refusalOf}
-use Rattle.model.specs.Machine.{State, outcomeOf, machine, answers}
+use Rattle.model.specs.Steps.{pairs, listed, reply, idleReply}
+use Rattle.model.specs.Refusals.{selectsNothing, refusalOf}
+use Rattle.model.specs.Machine.{State, Outcome, step, idle, outcomeOf, machine, answers}
 use Rattle.model.specs.Buffer.{capacityOf, tuplesOf, isStore, Prepared}
 use Rattle.model.specs.OneCall.{answerOf, pack}
 use Rattle.model.specs.CallLists.{Trace, end, then}
+use Rattle.model.proofs.Refusals.{either-outcome}
 use Rattle.model.proofs.Prepared.{prepared-capacity, prepared-store, prepared-tuples}
 use Rattle.calls.proofs.Lists.{PreparedBy, prepared-by, prepared-demand-3}
 use Rattle.pairs.specs.InPairs.{pairsAfter, observedInPairs, CallInPairs, PairsMade, TraceInPairs, pairs-end, pairs-then, packed, requestsInPairs, repliesInPairs, WholeInPairs}
@@ -76,6 +77,15 @@ observed-reply (Lists x) c ts l =
     let ps : List Pair = listed x c ts in
     ap (pairs (length ps)) (take-at ps (drop (length ps) l) (length ps) refl)
 
+observed-idle : (op : Operator) (c : Call) (l : List Pair) → observedInPairs (answerOf (idleReply op c)) (pairsAfter (idleReply op c) l) ≡ idleReply op c
+unfolding idleReply observedInPairs answerOf
+observed-idle (Create o) c l = refl
+observed-idle (Bind o) c l = refl
+observed-idle (Values o) c l = refl
+observed-idle (Exists o) c l = refl
+observed-idle (Destroy r) c l = refl
+observed-idle (Lists x) c l = refl
+
 observed-in-pairs : (C : ℕ) (ts : State) (c : Call) (room : ℕ) (l : List Pair)
     → observedInPairs (answerOf (machine C ts c room .answer)) (pairsAfter (machine C ts c room .answer) l) ≡ machine C ts c room .answer
 unfolding machine outcomeOf observedInPairs answerOf pairsAfter
@@ -83,7 +93,9 @@ observed-in-pairs C ts c room l = go (refusalOf C ts c room)
   where
     go : (r : Option ℕ) → observedInPairs (answerOf (outcomeOf r ts c .answer)) (pairsAfter (outcomeOf r ts c .answer) l) ≡ outcomeOf r ts c .answer
     go (some number) = refl
-    go none = observed-reply (operatorOf (c .operator)) c ts l
+    go none =
+        either-outcome (λ (o : Outcome). observedInPairs (answerOf (o .answer)) (pairsAfter (o .answer) l) ≡ o .answer) (selectsNothing c) (idle c ts) (step c ts)
+        (λ e. observed-idle (operatorOf (c .operator)) c l) (λ e. observed-reply (operatorOf (c .operator)) c ts l)
 
 -- .. by the caller of one call
 one-observed : (b b′ : List ℕ) (x : PairsMade) → isStore b ≡ true → CallInPairs b (x .lent) (x .call) (x .answer) b′ (x .left)

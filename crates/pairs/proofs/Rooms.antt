@@ -11,7 +11,7 @@ use Rattle.model.specs.declared.Call.{Call}
 use Rattle.model.specs.Tuples.{Tuples}
 use Rattle.model.specs.Operators.{operatorOf}
 use Rattle.model.specs.Steps.{wouldList}
-use Rattle.model.specs.Refusals.{stop, first, spaceAbsent, nodeAbsent, secondAbsent, edgeAbsent, listShort, full, ofCall, ofTuples, earlier, refusalOf}
+use Rattle.model.specs.Refusals.{stop, first, spaceAbsent, nodeAbsent, secondAbsent, edgeAbsent, listShort, full, ofCall, ofTuples, ifLookedUp, earlier, refusalOf}
 use Rattle.model.specs.Machine.{outcomeOf, machine}
 use Rattle.model.specs.Buffer.{tuplesOf, isStore}
 use Rattle.calls.proofs.Counts.{would-most}
@@ -63,8 +63,10 @@ module _ (b : List ℕ) (e : isStore b ≡ true) (c : Call) (room : ℕ) where
       ap
       (λ (t : Bool).
       first
-      ((ofCall c ++ (stop 5 (spaceAbsent c ts) ∷ stop 6 (nodeAbsent c ts) ∷ stop 7 (secondAbsent c ts) ∷ stop 8 (edgeAbsent c ts) ∷ stop 9 t ∷ []))
-      ++ (stop 10 (full C c ts) ∷ [])))
+      ((ofCall c
+      ++ ifLookedUp c
+      (stop 5 (spaceAbsent c ts) ∷ stop 6 (nodeAbsent c ts) ∷ stop 7 (secondAbsent c ts) ∷ stop 8 (edgeAbsent c ts) ∷ stop 9 t ∷ []))
+      ++ ifLookedUp c (stop 10 (full C c ts) ∷ [])))
       same-short
 
   pub same-machine : (C : ℕ) → machine C (tuplesOf b) c (lentWords room) ≡ machine C (tuplesOf b) c room

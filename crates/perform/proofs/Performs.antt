@@ -7,6 +7,7 @@ use Prim.Native.Nat.{ℕ, _≤_, _<_}
 use lib.Dec.{eqb, leb}
 use lib.ListN.{length}
 use borrow.Author.Tests.{le-leb, lt-leb, eq-eqb, ne-eqb}
+use Rattle.model.specs.declared.Answer.{Answer}
 use Rattle.model.specs.declared.Answer.the-variants.{Name, Value, YesNo, List as Listed}
 use Rattle.model.specs.declared.Call.{Call}
 use Rattle.model.specs.declared.Object.{Object}
@@ -17,7 +18,7 @@ use Rattle.model.specs.declared.Removal.{Removal}
 use Rattle.model.specs.Operators.{within}
 use Rattle.model.specs.Tuples.{anyPresent, addAll, assignAll}
 use Rattle.model.specs.Buffer.{tuplesOf}
-use Rattle.model.specs.Steps.{nOf, sOf, vOf, objectKeys, created, firstValue, destroyed, listed, firstArgument, reply, after}
+use Rattle.model.specs.Steps.{nOf, sOf, vOf, objectKeys, created, firstValue, destroyed, listed, firstArgument, reply, idleReply, after}
 use Rattle.model.specs.OneCall.{answerOf, listAfter, writes}
 use Rattle.chain.specs.Links.{Linked, Edited}
 use Rattle.edit.proofs.Built.{unedited}
@@ -101,3 +102,8 @@ unfolding reply after answerOf listAfter written
 list-performed x c b l l′ k e L h w =
     subst (λ (y : Operator). Performed y c b l (Listed k) b l′) (sym e)
     (record { answer = ap Listed h; list = w; edited = unedited b (tuplesOf b) L refl; reading = λ z. refl })
+
+-- ---- with nothing as the space
+
+pub idle-as : (op known : Operator) (c : Call) (a : Answer) → op ≡ known → a ≡ answerOf (idleReply known c) → a ≡ answerOf (idleReply op c)
+idle-as op known c a e A = A ∙ ap (λ (o : Operator). answerOf (idleReply o c)) (sym e)

@@ -1,5 +1,5 @@
 // The step of an operator on a store, where nothing stops the call.
-// `perform` is pub for the crate above, which has proved what it requires.
+// `perform` and `idle` are pub for the crate above, which has proved what they require.
 use model::Answer;
 use model::Call;
 use model::Operator;
@@ -12,7 +12,8 @@ ghost use lib.Dec.{eqb};
 ghost use lib.ListN.{length};
 ghost use Rattle.model.specs.Operators.{within};
 ghost use Rattle.model.specs.Buffer.{tuplesOf, isStore};
-ghost use Rattle.model.specs.Steps.{spaceNumber, firstArgument, destroyed};
+ghost use Rattle.model.specs.Steps.{spaceNumber, firstArgument, destroyed, idleReply};
+ghost use Rattle.model.specs.OneCall.{answerOf};
 ghost use Rattle.chain.specs.Links.{Edited};
 ghost use Rattle.operate.specs.Operate.{NearIn};
 ghost use Rattle.perform.specs.Perform.{NamesRead, Ready, Performed};
@@ -30,13 +31,14 @@ fn space_is_first(o: u32) -> bool
     o <= 52
 }
 
-// The name of a space; 0 for UNIVERSE.
+// The name of a space; 0 for UNIVERSE, and for nothing, where no answer has it.
 fn space_name(s: Space) -> u16
     ensures { λ r. ⌜ r ≡ spaceNumber s ⌝ }
 {
     match s {
         Space::Universe => 0,
         Space::Numbered(x) => x.0,
+        Space::Nothing => 0,
     }
 }
 
@@ -65,6 +67,20 @@ fn destroy(b: &mut [u32], near: Near, r: Removal, c: Call)
         Removal::NG(d) => collect::destroy_nodes_by_edge(b, near, d, c),
         Removal::UN => removals::destroy_node(b, near, c),
         Removal::US => removals::destroy_space(b, near, c),
+    }
+}
+
+// What an operator answers with nothing as its space: no store is read or written. V does not come so far.
+pub fn idle(op: Operator, c: Call) -> Answer
+    ensures { λ r. ⌜ r ≡ answerOf (idleReply op c) ⌝ }
+{
+    match op {
+        Operator::Create(o) => Answer::Name(first_argument(c)),
+        Operator::Bind(o) => Answer::Name(first_argument(c)),
+        Operator::Value(o) => Answer::Value(0),
+        Operator::Exists(o) => Answer::YesNo(false),
+        Operator::Destroy(r) => Answer::Name(first_argument(c)),
+        Operator::List(l) => Answer::List(0),
     }
 }
 

@@ -1,6 +1,6 @@
 -- The first condition that applies, as a number (specs/Numbers.antt), and conditions 9 and 10 by what they count.
 use mathlib.Core.Bool.{Bool, true, false, cond, not}
-use mathlib.Core.List.{List, [], _∷_}
+use mathlib.Core.List.{List, [], _∷_, _++_}
 use mathlib.Core.Logic.{_↔_, _≢_}
 use mathlib.Core.Option.{Option, none, some}
 use mathlib.Core.Path.{_≡_, refl, sym, ap, ap₂, _∙_}
@@ -16,10 +16,10 @@ use Rattle.model.specs.Operators.{operatorOf}
 use Rattle.model.specs.Tuples.{Tuples, missing}
 use Rattle.model.specs.Buffer.{word, capacityOf, tuplesOf}
 use Rattle.model.specs.Steps.{wouldList, wouldAdd}
-use Rattle.model.specs.Refusals.{Stop, stop, first, listShort, full, ofCall, ofTuples, earlier, refusalOf}
+use Rattle.model.specs.Refusals.{Stop, stop, first, selectsNothing, listShort, full, ofCall, ofTuples, ifLookedUp, earlier, refusalOf}
 use Rattle.model.proofs.Bools.{equal, not-yes}
 use Rattle.model.proofs.Store.{chains-count}
-use Rattle.model.proofs.Refusals.{everyNumber, first-number}
+use Rattle.model.proofs.Refusals.{everyNumber, first-number, asked, looked-up}
 use Rattle.chain.specs.Links.{Linked}
 use Rattle.edit.proofs.Built.{length-tuples}
 use Rattle.refusals.specs.Numbers.{stopNumber}
@@ -40,6 +40,11 @@ passes number applies x xs r X e R = R ∙ ap (λ (b : Bool). stopNumber (cond b
 pub nothing-left : 0 ≡ stopNumber (first [])
 unfolding stopNumber first
 nothing-left = refl
+
+-- where the space is looked up, conditions 2 to 10 decide
+pub as-asked : (C : ℕ) (ts : Tuples) (c : Call) (room r : ℕ) → selectsNothing c ≡ false → r ≡ stopNumber (first (asked C ts c room))
+    → r ≡ stopNumber (refusalOf C ts c room)
+as-asked C ts c room r e R = R ∙ ap stopNumber (sym (looked-up C ts c room e))
 
 -- ---- what the number says
 
@@ -69,8 +74,12 @@ some-exactly r number h = (λ e. go r e, λ e. ap stopNumber e)
 
 -- a call that is let pass
 pub not-refused : (C : ℕ) (ts : Tuples) (c : Call) (room : ℕ) → stopNumber (refusalOf C ts c room) ≡ 0 → refusalOf C ts c room ≡ none
-unfolding refusalOf ofCall ofTuples earlier
-not-refused C ts c room e = none-exactly _ refl .0 e
+unfolding refusalOf ofCall ofTuples ifLookedUp earlier
+not-refused C ts c room e = none-exactly _ (numbers (selectsNothing c)) .0 e
+  where
+    numbers : (t : Bool) → everyNumber notZero ((ofCall c ++ cond t [] (ofTuples ts c room)) ++ cond t [] (stop 10 (full C c ts) ∷ [])) ≡ true
+    numbers true = refl
+    numbers false = refl
 
 -- ---- 9
 

@@ -1,4 +1,4 @@
-// Conditions 2 to 10 in their order: which one stops a call on a store.
+// Conditions 2 to 10 in their order: which one stops a call on a store whose space is to be looked up.
 use conditions::Located;
 use model::Call;
 use model::Listing;
@@ -12,7 +12,7 @@ ghost use Rattle.model.specs.Operators.{operatorOf};
 ghost use Rattle.model.specs.Tuples.{missing};
 ghost use Rattle.model.specs.Buffer.{capacityOf, tuplesOf, isStore};
 ghost use Rattle.model.specs.Steps.{listed, wouldAdd};
-ghost use Rattle.model.specs.Refusals.{noOperator, zeroName, listShort, full, refusalOf};
+ghost use Rattle.model.specs.Refusals.{selectsNothing, noOperator, zeroName, listShort, full, refusalOf};
 ghost use Rattle.chain.specs.Links.{Linked};
 ghost use Rattle.listing.specs.Lists.{NamesAsked};
 ghost use lib.Dec.{ltb};
@@ -78,10 +78,10 @@ fn is_full(b: &[u32], near: Near, universe: Near, op: Operator, c: Call) -> bool
 }
 
 // The number of the first of the conditions 2 to 10 that stops a call on a store; 0 for none. `room` is the length of the call's answer list.
-// pub for the crate above, which has proved that the buffer is a store.
+// pub for the crate above, which has proved that the buffer is a store and that the space of the call is to be looked up.
 // `l` tells what the call names in its space; `universe` has hints in UNIVERSE. The operator is decoded where no condition on names stops the call.
 pub fn refusal_of(b: &[u32], l: Located, universe: Near, c: Call, room: usize) -> u32
-    requires { ⌜ (isStore (now b) ≡ true) × Told (now b) c l × NearIn (now b) universe ⌝ }
+    requires { ⌜ (isStore (now b) ≡ true) × Told (now b) c l × NearIn (now b) universe × (selectsNothing c ≡ false) ⌝ }
     ensures { λ r. ⌜ r ≡ stopNumber (refusalOf (capacityOf (now (b .entry))) (tuplesOf (now (b .entry))) c room) ⌝ }
 {
     let near = l.near;

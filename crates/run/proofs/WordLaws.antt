@@ -1,13 +1,15 @@
 -- Calls and answers as words: what the functions on six words and on two words give.
+use mathlib.Core.Bool.{Bool, cond}
 use mathlib.Core.List.{List, [], _∷_, _++_, map, append-assoc}
 use mathlib.Core.Path.{_≡_, refl, sym, ap, ap₂, _∙_}
 use Prim.Native.Nat.{ℕ, zero, suc, _+_, _-_, _*_, _≤_, _<_}
 use native.Mathlib.Omega.{arith}
+use borrow.Author.Tests.{ne-eqb}
 use lib.ListN.{length, take, drop, set, length-append, length-drop, length-map, length-set}
 use lib.Seq.{drop-drop, drop-set-lt, take-suc-set}
 use Rattle.model.specs.declared.Call.{Call}
 use Rattle.model.specs.declared.Space.{Space}
-use Rattle.model.specs.declared.Space.the-variants.{Universe, Numbered}
+use Rattle.model.specs.declared.Space.the-variants.{Universe, Numbered, Nothing}
 use Rattle.model.specs.declared.Answer.{Answer}
 use Rattle.model.specs.Buffer.{word}
 use Rattle.run.specs.Words.{callWords, answerWords, spaceOf, lower, upper, callAt, requestAt, callsFrom, kindOf, numberOf, putAnswer}
@@ -18,10 +20,14 @@ pub no-number : (form s : ℕ) → form ≡ 0 → Universe ≡ spaceOf form s
 unfolding spaceOf
 no-number form s e = sym (ap (λ (f : ℕ). spaceOf f s) e)
 
-pub a-number : (form s : ℕ) → (form ≡ 0 → ⊥) → Numbered (record { 0 = s }) ≡ spaceOf form s
+pub no-space : (form s : ℕ) → form ≡ 2 → Nothing ≡ spaceOf form s
 unfolding spaceOf
-a-number zero s h = absurd (h refl)
-a-number (suc form) s h = refl
+no-space form s e = sym (ap (λ (f : ℕ). spaceOf f s) e)
+
+pub a-number : (form s : ℕ) → (form ≡ 0 → ⊥) → (form ≡ 2 → ⊥) → Numbered (record { 0 = s }) ≡ spaceOf form s
+unfolding spaceOf
+a-number form s h k =
+    sym (ap₂ (λ (a b : Bool). cond a Universe (cond b Nothing (Numbered (record { 0 = s })))) (ne-eqb form 0 h) (ne-eqb form 2 k))
 
 pub call-joined : (ws : List ℕ) (i n g m u : ℕ) (s : Space)
     → n ≡ lower (word ws (callWords * i + 1)) → g ≡ upper (word ws (callWords * i + 1)) → m ≡ lower (word ws (callWords * i + 2))

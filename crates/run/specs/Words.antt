@@ -1,14 +1,15 @@
 -- Calls and answers as words.
--- Six words are a call: the operator; n + 65,536 × g; m + 65,536 × s; v; the form of the space (0: UNIVERSE, any other number: the space numbered s);
+-- Six words are a call: the operator; n + 65,536 × g; m + 65,536 × s; v; the form of the space (0: UNIVERSE, 2: nothing, any other number: the space numbered s);
 -- the length of the answer list lent to it. So any six words are a call; words past the last whole call are not read.
 -- Two words are an answer: its kind (0 refusal, 1 name, 2 value, 3 yes or no, 4 list) and its number.
-use mathlib.Core.Bool.{Bool, true, false}
+use mathlib.Core.Bool.{Bool, true, false, cond}
 use mathlib.Core.List.{List, [], _∷_}
 use Prim.Native.Nat.{ℕ, zero, suc, _+_, _*_, _/_, _%_}
+use lib.Dec.{eqb}
 use lib.ListN.{length, set}
 use Rattle.model.specs.declared.Call.{Call}
 use Rattle.model.specs.declared.Space.{Space}
-use Rattle.model.specs.declared.Space.the-variants.{Universe, Numbered}
+use Rattle.model.specs.declared.Space.the-variants.{Universe, Numbered, Nothing}
 use Rattle.model.specs.declared.Answer.{Answer}
 use Rattle.model.specs.declared.Answer.the-variants.{Refusal, Name, Value, YesNo, List as Listed}
 use Rattle.model.specs.Machine.{Request}
@@ -24,10 +25,9 @@ callWords = 6
 abbrev pub answerWords : ℕ
 answerWords = 2
 
--- the form of a space: 0 is UNIVERSE, any other number the numbered space s
+-- the form of a space: 0 is UNIVERSE, 2 is nothing (request 1), any other number the numbered space s
 unfoldable pub spaceOf : ℕ → ℕ → Space
-spaceOf zero s = Universe
-spaceOf (suc form) s = Numbered (record { 0 = s })
+spaceOf form s = cond (eqb form 0) Universe (cond (eqb form 2) Nothing (Numbered (record { 0 = s })))
 
 -- the name in the lower half of a word, and that in the upper half
 abbrev pub lower : ℕ → ℕ

@@ -29,12 +29,15 @@ fn upper_half(w: u32) -> u16
     (w / 65536) as u16
 }
 
-// The space of a call: its form, and its number where it has one. Public for the crates above.
+// The space of a call: its form (0 UNIVERSE, 2 nothing), and its number where it has one. Public for the crates above.
 pub fn space_of(form: u32, s: u16) -> Space
     ensures { λ r. ⌜ r ≡ spaceOf form s ⌝ }
 {
     if form == 0 {
         return Space::Universe;
+    }
+    if form == 2 {
+        return Space::Nothing;
     }
     Space::Numbered(SpaceName(s))
 }

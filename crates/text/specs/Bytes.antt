@@ -17,6 +17,10 @@ lineFeed = 10
 abbrev pub blank : ℕ
 blank = 32
 
+-- document 02, request 1: nothing is "written `-` in a script"
+abbrev pub hyphen : ℕ
+hyphen = 45
+
 -- the letters of operators and answers, and the signs of answers
 abbrev pub A : ℕ
 A = 65

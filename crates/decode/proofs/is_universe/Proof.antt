@@ -14,6 +14,10 @@ enum-told c = search needs
 enum-told-2 : tie.Need-enum-told-2
 enum-told-2 c = search needs
 
+-- src/lib.rt:151:27
+enum-told-3 : tie.Need-enum-told-3
+enum-told-3 c = search needs
+
 -- src/lib.rt:144:1
 returns : tie.Need-returns
 unfolding isUniverse
@@ -24,5 +28,10 @@ returns-2 : tie.Need-returns-2
 unfolding isUniverse
 returns-2 c = sym (ap isUniverse (c .enum-told2 .given .1))
 
+-- src/lib.rt:144:1
+returns-3 : tie.Need-returns-3
+unfolding isUniverse
+returns-3 c = sym (ap isUniverse (c .enum-told3 .given .1))
+
 pub is-universe-spec : {M : Type 1} → statement M
-is-universe-spec = tie.close (tie.spec enum-told enum-told-2 returns returns-2)
+is-universe-spec = tie.close (tie.spec enum-told enum-told-2 enum-told-3 returns returns-2 returns-3)

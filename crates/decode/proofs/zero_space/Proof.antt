@@ -14,6 +14,10 @@ enum-told c = search needs
 enum-known-s : tie.Need-enum-known-s
 enum-known-s c = search needs
 
+-- src/lib.rt:140:27
+enum-told-2 : tie.Need-enum-told-2
+enum-told-2 c = search needs
+
 -- src/lib.rt:134:1
 returns : tie.Need-returns
 unfolding zeroSpace
@@ -24,5 +28,10 @@ returns-2 : tie.Need-returns-2
 unfolding zeroSpace
 returns-2 c = sym (ap zeroSpace (c .before .before .s .given .1))
 
+-- src/lib.rt:134:1
+returns-3 : tie.Need-returns-3
+unfolding zeroSpace
+returns-3 c = sym (ap zeroSpace (c .enum-told2 .given .1))
+
 pub zero-space-spec : {M : Type 1} → statement M
-zero-space-spec = tie.close (tie.spec enum-told enum-known-s returns returns-2)
+zero-space-spec = tie.close (tie.spec enum-told enum-known-s enum-told-2 returns returns-2 returns-3)

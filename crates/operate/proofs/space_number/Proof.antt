@@ -22,6 +22,10 @@ enum-known-s c = search needs
 name-word-requires : tie.Need-name-word-requires
 name-word-requires c κs = search needs
 
+-- src/lib.rt:56:27
+enum-told-2 : tie.Need-enum-told-2
+enum-told-2 c = search needs
+
 -- src/lib.rt:39:1
 returns : tie.Need-returns
 unfolding spaceNumber
@@ -32,6 +36,11 @@ returns-2 : tie.Need-returns-2
 unfolding spaceNumber
 returns-2 c = (c .name-word .ensures .0 ∙ sym (ap spaceNumber (c .before .before .s .given .1)), subst (λ (x : ℕ). x ≤ mostName) (sym (ap spaceNumber (c .before .before .s .given .1))) (c .name-word .ensures .1))
 
+-- src/lib.rt:39:1
+returns-3 : tie.Need-returns-3
+unfolding spaceNumber
+returns-3 c = (sym (ap spaceNumber (c .enum-told2 .given .1)), subst (λ (x : ℕ). x ≤ mostName) (sym (ap spaceNumber (c .enum-told2 .given .1))) (omega arith))
+
 pub space-number-spec : {M : Type 1} → statement M
 space-number-spec =
-    tie.close (tie.spec enum-told enum-known-s name-word-requires returns returns-2)
+    tie.close (tie.spec enum-told enum-known-s name-word-requires enum-told-2 returns returns-2 returns-3)

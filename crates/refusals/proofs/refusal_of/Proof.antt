@@ -1,7 +1,6 @@
 use mathlib.Core.Path.{sym, _∙_}
-use Rattle.model.specs.Refusals.{ofCall, ofTuples, earlier, refusalOf}
 use Rattle.edit.proofs.Built.{store-linked}
-use Rattle.refusals.proofs.Stops.{stops, passes, nothing-left}
+use Rattle.refusals.proofs.Stops.{stops, passes, nothing-left, as-asked}
 use borrow.Author.Needs.{needs}
 use Rattle.refusals.proofs.refusal_of.Statement.{statement}
 use Rattle.refusals.proofs.refusal_of.Tie as tie
@@ -24,8 +23,7 @@ no-operator-requires c κs = search needs
 
 -- src/lib.rt:79:9
 returns : tie.Need-returns
-unfolding ofCall ofTuples earlier refusalOf
-returns c = stops _ _ _ _ (c .before .no-operator .ensures) (c .if1 .taken)
+returns c = as-asked _ _ _ _ _ (c .before .before .before .before .before .pre .3) (stops _ _ _ _ (c .before .no-operator .ensures) (c .if1 .taken))
 
 -- src/lib.rt:81:8
 zero-name-requires : tie.Need-zero-name-requires
@@ -33,8 +31,7 @@ zero-name-requires c κs = c .before .before .before .before .before .pre .1 .re
 
 -- src/lib.rt:82:9
 returns-2 : tie.Need-returns-2
-unfolding ofCall ofTuples earlier refusalOf
-returns-2 c = passes _ _ _ _ _ (c .before .before .before .no-operator .ensures) (c .before .before .if1 .left) (stops _ _ _ _ (c .before .zero-name .ensures) (c .if2 .taken))
+returns-2 c = as-asked _ _ _ _ _ (c .before .before .before .before .before .before .before .pre .3) (passes _ _ _ _ _ (c .before .before .before .no-operator .ensures) (c .before .before .if1 .left) (stops _ _ _ _ (c .before .zero-name .ensures) (c .if2 .taken)))
 
 -- src/lib.rt:84:8
 destroys-universe-requires : tie.Need-destroys-universe-requires
@@ -42,8 +39,7 @@ destroys-universe-requires c κs = search needs
 
 -- src/lib.rt:85:9
 returns-3 : tie.Need-returns-3
-unfolding ofCall ofTuples earlier refusalOf
-returns-3 c = passes _ _ _ _ _ (c .before .before .before .before .before .no-operator .ensures) (c .before .before .before .before .if1 .left) (passes _ _ _ _ _ (c .before .before .before .zero-name .ensures) (c .before .before .if2 .left) (stops _ _ _ _ (c .before .destroys-universe .ensures) (c .if3 .taken)))
+returns-3 c = as-asked _ _ _ _ _ (c .before .before .before .before .before .before .before .before .before .pre .3) (passes _ _ _ _ _ (c .before .before .before .before .before .no-operator .ensures) (c .before .before .before .before .if1 .left) (passes _ _ _ _ _ (c .before .before .before .zero-name .ensures) (c .before .before .if2 .left) (stops _ _ _ _ (c .before .destroys-universe .ensures) (c .if3 .taken))))
 
 -- src/lib.rt:87:8
 space-absent-requires : tie.Need-space-absent-requires
@@ -51,8 +47,7 @@ space-absent-requires c κs = c .before .before .before .before .before .before 
 
 -- src/lib.rt:88:9
 returns-4 : tie.Need-returns-4
-unfolding ofCall ofTuples earlier refusalOf
-returns-4 c = passes _ _ _ _ _ (c .before .before .before .before .before .before .before .no-operator .ensures) (c .before .before .before .before .before .before .if1 .left) (passes _ _ _ _ _ (c .before .before .before .before .before .zero-name .ensures) (c .before .before .before .before .if2 .left) (passes _ _ _ _ _ (c .before .before .before .destroys-universe .ensures) (c .before .before .if3 .left) (stops _ _ _ _ (c .before .space-absent .ensures) (c .if4 .taken))))
+returns-4 c = as-asked _ _ _ _ _ (c .before .before .before .before .before .before .before .before .before .before .before .pre .3) (passes _ _ _ _ _ (c .before .before .before .before .before .before .before .no-operator .ensures) (c .before .before .before .before .before .before .if1 .left) (passes _ _ _ _ _ (c .before .before .before .before .before .zero-name .ensures) (c .before .before .before .before .if2 .left) (passes _ _ _ _ _ (c .before .before .before .destroys-universe .ensures) (c .before .before .if3 .left) (stops _ _ _ _ (c .before .space-absent .ensures) (c .if4 .taken)))))
 
 -- src/lib.rt:90:8
 node-absent-requires : tie.Need-node-absent-requires
@@ -60,8 +55,7 @@ node-absent-requires c κs = (store-linked _ (c .before .before .before .before 
 
 -- src/lib.rt:91:9
 returns-5 : tie.Need-returns-5
-unfolding ofCall ofTuples earlier refusalOf
-returns-5 c = passes _ _ _ _ _ (c .before .before .before .before .before .before .before .before .before .no-operator .ensures) (c .before .before .before .before .before .before .before .before .if1 .left) (passes _ _ _ _ _ (c .before .before .before .before .before .before .before .zero-name .ensures) (c .before .before .before .before .before .before .if2 .left) (passes _ _ _ _ _ (c .before .before .before .before .before .destroys-universe .ensures) (c .before .before .before .before .if3 .left) (passes _ _ _ _ _ (c .before .before .before .space-absent .ensures) (c .before .before .if4 .left) (stops _ _ _ _ (c .before .node-absent .ensures) (c .if5 .taken)))))
+returns-5 c = as-asked _ _ _ _ _ (c .before .before .before .before .before .before .before .before .before .before .before .before .before .pre .3) (passes _ _ _ _ _ (c .before .before .before .before .before .before .before .before .before .no-operator .ensures) (c .before .before .before .before .before .before .before .before .if1 .left) (passes _ _ _ _ _ (c .before .before .before .before .before .before .before .zero-name .ensures) (c .before .before .before .before .before .before .if2 .left) (passes _ _ _ _ _ (c .before .before .before .before .before .destroys-universe .ensures) (c .before .before .before .before .if3 .left) (passes _ _ _ _ _ (c .before .before .before .space-absent .ensures) (c .before .before .if4 .left) (stops _ _ _ _ (c .before .node-absent .ensures) (c .if5 .taken))))))
 
 -- src/lib.rt:93:8
 second-absent-requires : tie.Need-second-absent-requires
@@ -69,8 +63,7 @@ second-absent-requires c κs = (c .before .before .before .before .before .befor
 
 -- src/lib.rt:94:9
 returns-6 : tie.Need-returns-6
-unfolding ofCall ofTuples earlier refusalOf
-returns-6 c = passes _ _ _ _ _ (c .before .before .before .before .before .before .before .before .before .before .before .no-operator .ensures) (c .before .before .before .before .before .before .before .before .before .before .if1 .left) (passes _ _ _ _ _ (c .before .before .before .before .before .before .before .before .before .zero-name .ensures) (c .before .before .before .before .before .before .before .before .if2 .left) (passes _ _ _ _ _ (c .before .before .before .before .before .before .before .destroys-universe .ensures) (c .before .before .before .before .before .before .if3 .left) (passes _ _ _ _ _ (c .before .before .before .before .before .space-absent .ensures) (c .before .before .before .before .if4 .left) (passes _ _ _ _ _ (c .before .before .before .node-absent .ensures) (c .before .before .if5 .left) (stops _ _ _ _ (c .before .second-absent .ensures) (c .if6 .taken))))))
+returns-6 c = as-asked _ _ _ _ _ (c .before .before .before .before .before .before .before .before .before .before .before .before .before .before .before .pre .3) (passes _ _ _ _ _ (c .before .before .before .before .before .before .before .before .before .before .before .no-operator .ensures) (c .before .before .before .before .before .before .before .before .before .before .if1 .left) (passes _ _ _ _ _ (c .before .before .before .before .before .before .before .before .before .zero-name .ensures) (c .before .before .before .before .before .before .before .before .if2 .left) (passes _ _ _ _ _ (c .before .before .before .before .before .before .before .destroys-universe .ensures) (c .before .before .before .before .before .before .if3 .left) (passes _ _ _ _ _ (c .before .before .before .before .before .space-absent .ensures) (c .before .before .before .before .if4 .left) (passes _ _ _ _ _ (c .before .before .before .node-absent .ensures) (c .before .before .if5 .left) (stops _ _ _ _ (c .before .second-absent .ensures) (c .if6 .taken)))))))
 
 -- src/lib.rt:96:8
 edge-absent-requires : tie.Need-edge-absent-requires
@@ -78,8 +71,7 @@ edge-absent-requires c κs = (store-linked _ (c .before .before .before .before 
 
 -- src/lib.rt:97:9
 returns-7 : tie.Need-returns-7
-unfolding ofCall ofTuples earlier refusalOf
-returns-7 c = passes _ _ _ _ _ (c .before .before .before .before .before .before .before .before .before .before .before .before .before .no-operator .ensures) (c .before .before .before .before .before .before .before .before .before .before .before .before .if1 .left) (passes _ _ _ _ _ (c .before .before .before .before .before .before .before .before .before .before .before .zero-name .ensures) (c .before .before .before .before .before .before .before .before .before .before .if2 .left) (passes _ _ _ _ _ (c .before .before .before .before .before .before .before .before .before .destroys-universe .ensures) (c .before .before .before .before .before .before .before .before .if3 .left) (passes _ _ _ _ _ (c .before .before .before .before .before .before .before .space-absent .ensures) (c .before .before .before .before .before .before .if4 .left) (passes _ _ _ _ _ (c .before .before .before .before .before .node-absent .ensures) (c .before .before .before .before .if5 .left) (passes _ _ _ _ _ (c .before .before .before .second-absent .ensures) (c .before .before .if6 .left) (stops _ _ _ _ (c .before .edge-absent .ensures) (c .if7 .taken)))))))
+returns-7 c = as-asked _ _ _ _ _ (c .before .before .before .before .before .before .before .before .before .before .before .before .before .before .before .before .before .pre .3) (passes _ _ _ _ _ (c .before .before .before .before .before .before .before .before .before .before .before .before .before .no-operator .ensures) (c .before .before .before .before .before .before .before .before .before .before .before .before .if1 .left) (passes _ _ _ _ _ (c .before .before .before .before .before .before .before .before .before .before .before .zero-name .ensures) (c .before .before .before .before .before .before .before .before .before .before .if2 .left) (passes _ _ _ _ _ (c .before .before .before .before .before .before .before .before .before .destroys-universe .ensures) (c .before .before .before .before .before .before .before .before .if3 .left) (passes _ _ _ _ _ (c .before .before .before .before .before .before .before .space-absent .ensures) (c .before .before .before .before .before .before .if4 .left) (passes _ _ _ _ _ (c .before .before .before .before .before .node-absent .ensures) (c .before .before .before .before .if5 .left) (passes _ _ _ _ _ (c .before .before .before .second-absent .ensures) (c .before .before .if6 .left) (stops _ _ _ _ (c .before .edge-absent .ensures) (c .if7 .taken))))))))
 
 -- src/lib.rt:99:8
 operator-of-requires : tie.Need-operator-of-requires
@@ -90,8 +82,7 @@ is-short-requires c κs = (c .before .before .before .before .before .before .be
 
 -- src/lib.rt:100:9
 returns-8 : tie.Need-returns-8
-unfolding ofCall ofTuples earlier refusalOf
-returns-8 c = passes _ _ _ _ _ (c .before .before .before .before .before .before .before .before .before .before .before .before .before .before .before .before .no-operator .ensures) (c .before .before .before .before .before .before .before .before .before .before .before .before .before .before .before .if1 .left) (passes _ _ _ _ _ (c .before .before .before .before .before .before .before .before .before .before .before .before .before .before .zero-name .ensures) (c .before .before .before .before .before .before .before .before .before .before .before .before .before .if2 .left) (passes _ _ _ _ _ (c .before .before .before .before .before .before .before .before .before .before .before .before .destroys-universe .ensures) (c .before .before .before .before .before .before .before .before .before .before .before .if3 .left) (passes _ _ _ _ _ (c .before .before .before .before .before .before .before .before .before .before .space-absent .ensures) (c .before .before .before .before .before .before .before .before .before .if4 .left) (passes _ _ _ _ _ (c .before .before .before .before .before .before .before .before .node-absent .ensures) (c .before .before .before .before .before .before .before .if5 .left) (passes _ _ _ _ _ (c .before .before .before .before .before .before .second-absent .ensures) (c .before .before .before .before .before .if6 .left) (passes _ _ _ _ _ (c .before .before .before .before .edge-absent .ensures) (c .before .before .before .if7 .left) (stops _ _ _ _ (c .before .is-short .ensures) (c .if8 .taken))))))))
+returns-8 c = as-asked _ _ _ _ _ (c .before .before .before .before .before .before .before .before .before .before .before .before .before .before .before .before .before .before .before .before .pre .3) (passes _ _ _ _ _ (c .before .before .before .before .before .before .before .before .before .before .before .before .before .before .before .before .no-operator .ensures) (c .before .before .before .before .before .before .before .before .before .before .before .before .before .before .before .if1 .left) (passes _ _ _ _ _ (c .before .before .before .before .before .before .before .before .before .before .before .before .before .before .zero-name .ensures) (c .before .before .before .before .before .before .before .before .before .before .before .before .before .if2 .left) (passes _ _ _ _ _ (c .before .before .before .before .before .before .before .before .before .before .before .before .destroys-universe .ensures) (c .before .before .before .before .before .before .before .before .before .before .before .if3 .left) (passes _ _ _ _ _ (c .before .before .before .before .before .before .before .before .before .before .space-absent .ensures) (c .before .before .before .before .before .before .before .before .before .if4 .left) (passes _ _ _ _ _ (c .before .before .before .before .before .before .before .before .node-absent .ensures) (c .before .before .before .before .before .before .before .if5 .left) (passes _ _ _ _ _ (c .before .before .before .before .before .before .second-absent .ensures) (c .before .before .before .before .before .if6 .left) (passes _ _ _ _ _ (c .before .before .before .before .edge-absent .ensures) (c .before .before .before .if7 .left) (stops _ _ _ _ (c .before .is-short .ensures) (c .if8 .taken)))))))))
 
 -- src/lib.rt:102:8
 is-full-requires : tie.Need-is-full-requires
@@ -99,13 +90,11 @@ is-full-requires c κs = (store-linked _ (c .before .before .before .before .bef
 
 -- src/lib.rt:103:9
 returns-9 : tie.Need-returns-9
-unfolding ofCall ofTuples earlier refusalOf
-returns-9 c = passes _ _ _ _ _ (c .before .before .before .before .before .before .before .before .before .before .before .before .before .before .before .before .before .before .no-operator .ensures) (c .before .before .before .before .before .before .before .before .before .before .before .before .before .before .before .before .before .if1 .left) (passes _ _ _ _ _ (c .before .before .before .before .before .before .before .before .before .before .before .before .before .before .before .before .zero-name .ensures) (c .before .before .before .before .before .before .before .before .before .before .before .before .before .before .before .if2 .left) (passes _ _ _ _ _ (c .before .before .before .before .before .before .before .before .before .before .before .before .before .before .destroys-universe .ensures) (c .before .before .before .before .before .before .before .before .before .before .before .before .before .if3 .left) (passes _ _ _ _ _ (c .before .before .before .before .before .before .before .before .before .before .before .before .space-absent .ensures) (c .before .before .before .before .before .before .before .before .before .before .before .if4 .left) (passes _ _ _ _ _ (c .before .before .before .before .before .before .before .before .before .before .node-absent .ensures) (c .before .before .before .before .before .before .before .before .before .if5 .left) (passes _ _ _ _ _ (c .before .before .before .before .before .before .before .before .second-absent .ensures) (c .before .before .before .before .before .before .before .if6 .left) (passes _ _ _ _ _ (c .before .before .before .before .before .before .edge-absent .ensures) (c .before .before .before .before .before .if7 .left) (passes _ _ _ _ _ (c .before .before .before .is-short .ensures) (c .before .before .if8 .left) (stops _ _ _ _ (c .before .is-full .ensures) (c .if9 .taken)))))))))
+returns-9 c = as-asked _ _ _ _ _ (c .before .before .before .before .before .before .before .before .before .before .before .before .before .before .before .before .before .before .before .before .before .before .pre .3) (passes _ _ _ _ _ (c .before .before .before .before .before .before .before .before .before .before .before .before .before .before .before .before .before .before .no-operator .ensures) (c .before .before .before .before .before .before .before .before .before .before .before .before .before .before .before .before .before .if1 .left) (passes _ _ _ _ _ (c .before .before .before .before .before .before .before .before .before .before .before .before .before .before .before .before .zero-name .ensures) (c .before .before .before .before .before .before .before .before .before .before .before .before .before .before .before .if2 .left) (passes _ _ _ _ _ (c .before .before .before .before .before .before .before .before .before .before .before .before .before .before .destroys-universe .ensures) (c .before .before .before .before .before .before .before .before .before .before .before .before .before .if3 .left) (passes _ _ _ _ _ (c .before .before .before .before .before .before .before .before .before .before .before .before .space-absent .ensures) (c .before .before .before .before .before .before .before .before .before .before .before .if4 .left) (passes _ _ _ _ _ (c .before .before .before .before .before .before .before .before .before .before .node-absent .ensures) (c .before .before .before .before .before .before .before .before .before .if5 .left) (passes _ _ _ _ _ (c .before .before .before .before .before .before .before .before .second-absent .ensures) (c .before .before .before .before .before .before .before .if6 .left) (passes _ _ _ _ _ (c .before .before .before .before .before .before .edge-absent .ensures) (c .before .before .before .before .before .if7 .left) (passes _ _ _ _ _ (c .before .before .before .is-short .ensures) (c .before .before .if8 .left) (stops _ _ _ _ (c .before .is-full .ensures) (c .if9 .taken))))))))))
 
 -- src/lib.rt:74:1
 returns-10 : tie.Need-returns-10
-unfolding ofCall ofTuples earlier refusalOf
-returns-10 c = passes _ _ _ _ _ (c .before .before .before .before .before .before .before .before .before .before .before .before .before .before .before .before .before .before .no-operator .ensures) (c .before .before .before .before .before .before .before .before .before .before .before .before .before .before .before .before .before .if1 .left) (passes _ _ _ _ _ (c .before .before .before .before .before .before .before .before .before .before .before .before .before .before .before .before .zero-name .ensures) (c .before .before .before .before .before .before .before .before .before .before .before .before .before .before .before .if2 .left) (passes _ _ _ _ _ (c .before .before .before .before .before .before .before .before .before .before .before .before .before .before .destroys-universe .ensures) (c .before .before .before .before .before .before .before .before .before .before .before .before .before .if3 .left) (passes _ _ _ _ _ (c .before .before .before .before .before .before .before .before .before .before .before .before .space-absent .ensures) (c .before .before .before .before .before .before .before .before .before .before .before .if4 .left) (passes _ _ _ _ _ (c .before .before .before .before .before .before .before .before .before .before .node-absent .ensures) (c .before .before .before .before .before .before .before .before .before .if5 .left) (passes _ _ _ _ _ (c .before .before .before .before .before .before .before .before .second-absent .ensures) (c .before .before .before .before .before .before .before .if6 .left) (passes _ _ _ _ _ (c .before .before .before .before .before .before .edge-absent .ensures) (c .before .before .before .before .before .if7 .left) (passes _ _ _ _ _ (c .before .before .before .is-short .ensures) (c .before .before .if8 .left) (passes _ _ _ _ _ (c .before .is-full .ensures) (c .if9 .left) nothing-left))))))))
+returns-10 c = as-asked _ _ _ _ _ (c .before .before .before .before .before .before .before .before .before .before .before .before .before .before .before .before .before .before .before .before .before .before .pre .3) (passes _ _ _ _ _ (c .before .before .before .before .before .before .before .before .before .before .before .before .before .before .before .before .before .before .no-operator .ensures) (c .before .before .before .before .before .before .before .before .before .before .before .before .before .before .before .before .before .if1 .left) (passes _ _ _ _ _ (c .before .before .before .before .before .before .before .before .before .before .before .before .before .before .before .before .zero-name .ensures) (c .before .before .before .before .before .before .before .before .before .before .before .before .before .before .before .if2 .left) (passes _ _ _ _ _ (c .before .before .before .before .before .before .before .before .before .before .before .before .before .before .destroys-universe .ensures) (c .before .before .before .before .before .before .before .before .before .before .before .before .before .if3 .left) (passes _ _ _ _ _ (c .before .before .before .before .before .before .before .before .before .before .before .before .space-absent .ensures) (c .before .before .before .before .before .before .before .before .before .before .before .if4 .left) (passes _ _ _ _ _ (c .before .before .before .before .before .before .before .before .before .before .node-absent .ensures) (c .before .before .before .before .before .before .before .before .before .if5 .left) (passes _ _ _ _ _ (c .before .before .before .before .before .before .before .before .second-absent .ensures) (c .before .before .before .before .before .before .before .if6 .left) (passes _ _ _ _ _ (c .before .before .before .before .before .before .edge-absent .ensures) (c .before .before .before .before .before .if7 .left) (passes _ _ _ _ _ (c .before .before .before .is-short .ensures) (c .before .before .if8 .left) (passes _ _ _ _ _ (c .before .is-full .ensures) (c .if9 .left) nothing-left)))))))))
 
 pub refusal-of-spec : {M : Type 1} → statement M
 refusal-of-spec =

@@ -19,11 +19,14 @@ argument-at-requires c κs = search needs
 enum-known-x : tie.Need-enum-known-x
 enum-known-x c = search needs
 
-cast-t9 : tie.Need-cast-t9
-cast-t9 c = record { fits = omega (arith, name-fits mostName (c .before .before .before .before .before .args .line .now) (c .before .before .before .before .before .args .end) _ _ _ (c .before .before .before .argument-at .ensures) (c .before .x .given .1)) }
+cast-t10 : tie.Need-cast-t10
+cast-t10 c = record { fits = omega (arith, name-fits mostName (c .before .before .before .before .before .args .line .now) (c .before .before .before .before .before .args .end) _ _ _ (c .before .before .before .argument-at .ensures) (c .before .x .given .1)) }
 
 enum-known-after : tie.Need-enum-known-after
 enum-known-after c = search needs
+
+enum-known-after-2 : tie.Need-enum-known-after-2
+enum-known-after-2 c = search needs
 
 enum-told : tie.Need-enum-told
 enum-told c = search needs
@@ -44,10 +47,14 @@ returns-3 c = ap (spaceOf (c .before .before .before .before .before .args .opti
 
 returns-4 : tie.Need-returns-4
 unfolding spaceOf
-returns-4 c = ap (spaceOf (c .before .before .before .before .args .optional) (c .before .before .before .before .args .end)) (sym (c .enum-told .given .1) ∙ c .before .before .argument-at .ensures)
+returns-4 c = ap (spaceOf (c .before .before .before .before .before .args .optional) (c .before .before .before .before .before .args .end)) (sym (c .before .after2 .given .1) ∙ c .before .before .before .argument-at .ensures)
 
 returns-5 : tie.Need-returns-5
-returns-5 c = ap (λ b. cond b (Given Universe (c .before .before .before .before .before .args .end)) NotASpace) (sym (c .if1 .left)) ∙ missing-space _ _ _ _ (c .before .before .before .argument-at .ensures) (c .before .enum-told2 .given .1)
+unfolding spaceOf
+returns-5 c = ap (spaceOf (c .before .before .before .before .args .optional) (c .before .before .before .before .args .end)) (sym (c .enum-told .given .1) ∙ c .before .before .argument-at .ensures)
+
+returns-6 : tie.Need-returns-6
+returns-6 c = ap (λ b. cond b (Given Universe (c .before .before .before .before .before .args .end)) NotASpace) (sym (c .if1 .left)) ∙ missing-space _ _ _ _ (c .before .before .before .argument-at .ensures) (c .before .enum-told2 .given .1)
 
 pub space-at-spec : {M : Type 1} → statement M
 space-at-spec =
@@ -55,12 +62,14 @@ space-at-spec =
     (tie.spec
     argument-at-requires
     enum-known-x
-    cast-t9
+    cast-t10
     enum-known-after
+    enum-known-after-2
     enum-told
     enum-told-2
     returns
     returns-2
     returns-3
     returns-4
-    returns-5)
+    returns-5
+    returns-6)

@@ -1,0 +1,112 @@
+-- A call with nothing as its space (request 1): the call alone decides its answer, and no word is changed.
+use mathlib.Core.Bool.{Bool, true, false, cond, _&&_, false≢true}
+use mathlib.Core.List.{List, [], _∷_}
+use mathlib.Core.Option.{Option, none, some}
+use mathlib.Core.Path.{_≡_, refl, sym, ap, _∙_}
+use Prim.Native.Nat.{ℕ}
+use lib.Dec.{eqb}
+use lib.ListN.{length}
+use Rattle.model.specs.declared.Answer.{Answer}
+use Rattle.model.specs.declared.Answer.the-variants.{Refusal}
+use Rattle.model.specs.declared.Call.{Call}
+use Rattle.model.specs.declared.Operator.{Operator}
+use Rattle.model.specs.declared.Operator.the-variants.{Create, Bind, Value as Values, Exists, Destroy, List as Lists}
+use Rattle.model.specs.declared.Space.{Space}
+use Rattle.model.specs.declared.Space.the-variants.{Universe, Numbered, Nothing}
+use Rattle.model.specs.Operators.{operatorOf, readsOf}
+use Rattle.model.specs.Buffer.{capacityOf, tuplesOf, isStore}
+use Rattle.model.specs.Steps.{idleReply}
+use Rattle.model.specs.Refusals.{first, isUniverse, isNothing, selectsNothing, noOperator, zeroName, needsSpace, lacksSpace, destroysUniverse, ofCall}
+use Rattle.model.specs.Machine.{Outcome}
+use Rattle.model.specs.OneCall.{answerOf, listAfter, OnStore}
+use Rattle.model.specs.NoSelection.{refusalOr, nothingReply}
+use Rattle.model.proofs.Bools.{and-left, and-right}
+use Rattle.model.proofs.NoSelection.{nothing-idle}
+use Rattle.decode.proofs.Refused.{reads-space-operator}
+
+-- ---- which condition stops it
+
+module _ (c : Call) (e : selectsNothing c ≡ true) where
+  -- it reads its space, so its number is an operator's
+  numbered-operator : noOperator c ≡ false
+  unfolding selectsNothing
+  numbered-operator = reads-space-operator c (and-left (readsOf (c .operator) .s) (isNothing (c .s)) e)
+
+  not-universe : destroysUniverse c ≡ false
+  unfolding selectsNothing isNothing isUniverse destroysUniverse
+  not-universe = no-universe (eqb (c .operator) 55) (c .s) (and-right (readsOf (c .operator) .s) (isNothing (c .s)) e)
+    where
+      no-universe : (b : Bool) (s : Space) → isNothing s ≡ true → (b && isUniverse s) ≡ false
+      no-universe true Universe h = absurd (false≢true h)
+      no-universe true (Numbered x) h = refl
+      no-universe true Nothing h = refl
+      no-universe false s h = refl
+
+  lacks : (x : Bool) → x ≡ needsSpace (c .operator) → lacksSpace c ≡ x
+  unfolding lacksSpace
+  lacks x X = ap (λ (t : Bool). t && needsSpace (c .operator)) e ∙ sym X
+
+  -- condition 3, then condition 12
+  stopped-by : (z x : Bool) → z ≡ zeroName c → x ≡ needsSpace (c .operator) → first (ofCall c) ≡ cond z (some 3) (cond x (some 12) none)
+  unfolding ofCall first
+  stopped-by z x Z X =
+      ap (λ (a : Bool). cond a (some 2) (cond (zeroName c) (some 3) (cond (lacksSpace c) (some 12) (cond (destroysUniverse c) (some 4) none)))) numbered-operator
+      ∙ ap (λ (b : Bool). cond b (some 3) (cond (lacksSpace c) (some 12) (cond (destroysUniverse c) (some 4) none))) (sym Z)
+      ∙ ap (λ (d : Bool). cond z (some 3) (cond d (some 12) (cond (destroysUniverse c) (some 4) none))) (lacks x X)
+      ∙ ap (λ (f : Bool). cond z (some 3) (cond x (some 12) (cond f (some 4) none))) not-universe
+
+  -- ---- what it answers
+
+  answered : (r : Option ℕ) → first (ofCall c) ≡ r → answerOf (refusalOr (idleReply (operatorOf (c .operator)) c) r) ≡ answerOf (nothingReply c)
+  unfolding nothingReply
+  answered r R = ap (λ (s : Option ℕ). answerOf (refusalOr (idleReply (operatorOf (c .operator)) c) s)) (sym R)
+
+  pub nothing-zero : (z x : Bool) → z ≡ zeroName c → x ≡ needsSpace (c .operator) → z ≡ true → Refusal 3 ≡ answerOf (nothingReply c)
+  unfolding refusalOr answerOf
+  nothing-zero z x Z X y = answered (some 3) (stopped-by z x Z X ∙ ap (λ (b : Bool). cond b (some 3) (cond x (some 12) none)) y)
+
+  pub nothing-needs : (z x : Bool) → z ≡ zeroName c → x ≡ needsSpace (c .operator) → z ≡ false → x ≡ true → Refusal 12 ≡ answerOf (nothingReply c)
+  unfolding refusalOr answerOf
+  nothing-needs z x Z X n y =
+      answered (some 12)
+      (stopped-by z x Z X ∙ ap (λ (b : Bool). cond b (some 3) (cond x (some 12) none)) n ∙ ap (λ (b : Bool). cond b (some 12) none) y)
+
+  pub nothing-idles : (z x : Bool) (op : Operator) (a : Answer) → z ≡ zeroName c → x ≡ needsSpace (c .operator) → z ≡ false → x ≡ false
+      → op ≡ operatorOf (c .operator) → a ≡ answerOf (idleReply op c) → a ≡ answerOf (nothingReply c)
+  unfolding refusalOr
+  nothing-idles z x op a Z X n m O A =
+      A
+      ∙ ap (λ (o : Operator). answerOf (idleReply o c)) O
+      ∙ answered none (stopped-by z x Z X ∙ ap (λ (b : Bool). cond b (some 3) (cond x (some 12) none)) n ∙ ap (λ (b : Bool). cond b (some 12) none) m)
+
+-- ---- on a store
+
+-- no place of the answer list is written
+unwritten : (c : Call) (l : List ℕ) → l ≡ listAfter (nothingReply c) l
+unfolding nothingReply refusalOr idleReply listAfter
+unwritten c l = go (first (ofCall c)) (operatorOf (c .operator))
+  where
+    go : (r : Option ℕ) (op : Operator) → l ≡ listAfter (refusalOr (idleReply op c) r) l
+    go (some number) op = refl
+    go none (Create o) = refl
+    go none (Bind o) = refl
+    go none (Values o) = refl
+    go none (Exists o) = refl
+    go none (Destroy r) = refl
+    go none (Lists x) = refl
+
+pub nothing-known : (b l : List ℕ) (c : Call) (a : Answer) (t : Bool) → isStore b ≡ true → t ≡ selectsNothing c → t ≡ true → a ≡ answerOf (nothingReply c)
+    → OnStore b l c a b l
+nothing-known b l c a t e T y A =
+    let m = nothing-idle (capacityOf b) (tuplesOf b) c (length l) (sym T ∙ y) in
+    record {
+      answer = A ∙ sym (ap (λ (o : Outcome). answerOf (o .answer)) m);
+      list = unwritten c l ∙ sym (ap (λ (o : Outcome). listAfter (o .answer) l) m);
+      store = e;
+      tuples = sym (ap (λ (o : Outcome). o .state) m);
+      size = refl;
+      past = refl;
+      refused = λ n f. refl;
+      reading = λ w. refl;
+      unselected = λ w. refl;
+    }

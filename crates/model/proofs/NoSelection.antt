@@ -1,0 +1,95 @@
+-- Request 1 (specs/NoSelection.antt): a call with nothing leaves the state and, wherever it stands in a list, changes no other answer.
+use mathlib.Core.Bool.{Bool, true, cond}
+use mathlib.Core.List.{List, [], _∷_, _++_}
+use mathlib.Core.Option.{Option, none, some}
+use mathlib.Core.Path.{_≡_, refl, sym, ap, _∙_}
+use Prim.Native.Nat.{ℕ}
+use Rattle.model.specs.declared.Call.{Call}
+use Rattle.model.specs.Steps.{Reply}
+use Rattle.model.specs.Refusals.{selectsNothing, first, ofCall, refusalOf}
+use Rattle.model.specs.Machine.{State, Outcome, Request, step, idle, outcomeOf, machine, answers, final}
+use Rattle.model.specs.CallLists.{CallMade, requestOf, requests, WholeList}
+use Rattle.model.specs.NoSelection.{refusalOr, nothingReply, Unnoticed, NoSelection}
+use Rattle.model.proofs.Refusals.{not-looked-up}
+use Rattle.model.proofs.Cases.{computed}
+
+-- "C, B and D change nothing ..": whatever the state, C and the list, the answer is that of the call alone, and the state stays
+pub nothing-idle : (C : ℕ) (ts : State) (c : Call) (room : ℕ) → selectsNothing c ≡ true → machine C ts c room ≡ record { answer = nothingReply c; state = ts }
+unfolding machine outcomeOf nothingReply refusalOr
+nothing-idle C ts c room e = ap (λ (r : Option ℕ). outcomeOf r ts c) (not-looked-up C ts c room e) ∙ go (first (ofCall c))
+  where
+    go : (r : Option ℕ) → outcomeOf r ts c ≡ record { answer = refusalOr (idle c ts .answer) r; state = ts }
+    go (some number) = refl
+    go none = rw e
+
+-- ---- in a list of calls
+
+-- the answers to one list after another
+pub answers-append : (C : ℕ) (ts : State) (xs ys : List Request) → answers C ts (xs ++ ys) ≡ answers C ts xs ++ answers C (final C ts xs) ys
+unfolding answers final
+answers-append C ts [] ys = refl
+answers-append C ts (x ∷ xs) ys =
+    ap (λ (rs : List Reply). machine C ts (x .call) (x .room) .answer ∷ rs) (answers-append C (machine C ts (x .call) (x .room) .state) xs ys)
+
+pub final-append : (C : ℕ) (ts : State) (xs ys : List Request) → final C ts (xs ++ ys) ≡ final C (final C ts xs) ys
+unfolding final
+final-append C ts [] ys = refl
+final-append C ts (x ∷ xs) ys = final-append C (machine C ts (x .call) (x .room) .state) xs ys
+
+module _ (C : ℕ) (ts : State) (xs : List Request) (r : Request) (ys : List Request) (e : selectsNothing (r .call) ≡ true) where
+  -- the answers before it and after it are those of the list without it
+  pub nothing-answers : answers C ts (xs ++ (r ∷ ys)) ≡ answers C ts xs ++ (nothingReply (r .call) ∷ answers C (final C ts xs) ys)
+  unfolding answers
+  nothing-answers =
+      answers-append C ts xs (r ∷ ys)
+      ∙ ap (λ (o : Outcome). answers C ts xs ++ (o .answer ∷ answers C (o .state) ys)) (nothing-idle C (final C ts xs) (r .call) (r .room) e)
+
+  -- and so is the state
+  pub nothing-final : final C ts (xs ++ (r ∷ ys)) ≡ final C ts (xs ++ ys)
+  unfolding final
+  nothing-final =
+      final-append C ts xs (r ∷ ys)
+      ∙ ap (λ (o : Outcome). final C (o .state) ys) (nothing-idle C (final C ts xs) (r .call) (r .room) e)
+      ∙ sym (final-append C ts xs ys)
+
+-- ---- in a list of calls that were made
+
+requests-append : (xs ys : List CallMade) → requests (xs ++ ys) ≡ requests xs ++ requests ys
+requests-append [] ys = refl
+requests-append (x ∷ xs) ys = ap (λ (rs : List Request). requestOf x ∷ rs) (requests-append xs ys)
+
+-- where demand 3 holds of a list with such a call, the other answers and the tuples are those of the list without it
+pub nothing-unnoticed : (C : ℕ) (ts : State) (xs : List CallMade) (x : CallMade) (ys : List CallMade) (b : List ℕ) → selectsNothing (x .call) ≡ true
+    → WholeList C ts (xs ++ (x ∷ ys)) b → Unnoticed C ts xs x ys b
+nothing-unnoticed C ts xs x ys b e W =
+    let with-it = requests-append xs (x ∷ ys) in
+    let without-it = requests-append xs ys in
+    record {
+      answered = W .answered ∙ ap (answers C ts) with-it ∙ nothing-answers C ts (requests xs) (requestOf x) (requests ys) e;
+      without = ap (answers C ts) without-it ∙ answers-append C ts (requests xs) (requests ys);
+      held =
+          W .held
+          ∙ ap (final C ts) with-it
+          ∙ nothing-final C ts (requests xs) (requestOf x) (requests ys) e
+          ∙ sym (ap (final C ts) without-it);
+    }
+
+-- ---- examples
+
+pub no-selection : NoSelection
+unfolding computed
+no-selection =
+    record {
+      k = refl;
+      k-state = refl;
+      l = refl;
+      l-state = refl;
+      m = refl;
+      n = refl;
+      o = refl;
+      p = refl;
+      q-nodes = refl;
+      q-edge = refl;
+      q-value = refl;
+      r = refl;
+    }

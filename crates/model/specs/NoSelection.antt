@@ -1,0 +1,82 @@
+-- Document 02, request 1, "A row with no selection": what a call with nothing answers, and examples beside (a) to (j).
+-- proofs/NoSelection.antt proves that such a call leaves the state and changes no later answer, and the examples by computation.
+use mathlib.Core.Bool.{true, false}
+use mathlib.Core.List.{List, [], _∷_, _++_}
+use mathlib.Core.Option.{Option, none, some}
+use mathlib.Core.Path.{_≡_}
+use Prim.Native.Nat.{ℕ}
+use Rattle.model.specs.declared.Call.{Call}
+use Rattle.model.specs.declared.Space.the-variants.{Universe, Nothing}
+use Rattle.model.specs.Tuples.{fresh}
+use Rattle.model.specs.Operators.{operatorOf}
+use Rattle.model.specs.Pairs.{pair}
+use Rattle.model.specs.Steps.{Reply, refusal, name, valued, yesNo, pairs, idleReply}
+use Rattle.model.specs.Refusals.{first, ofCall}
+use Rattle.model.specs.Machine.{State, Request, answers, final}
+use Rattle.model.specs.Buffer.{tuplesOf}
+use Rattle.model.specs.CallLists.{CallMade, requests, replies}
+use Rattle.model.specs.Cases.{call, callWith, numbered, COP, CAP, BOP, VOP, DON, CUN, XUN, DUN, SUN, CUS, DUS, withRoom, stateAfter}
+
+-- the refusal, where there is one
+unfoldable pub refusalOr : Reply → Option ℕ → Reply
+refusalOr r (some number) = refusal number
+refusalOr r none = r
+
+-- what a call with nothing answers: the call alone decides it, not the tuples, nor C, nor the length of the answer list
+unfoldable pub nothingReply : Call → Reply
+nothingReply c = refusalOr (idleReply (operatorOf (c .operator)) c) (first (ofCall c))
+
+-- a call x put into a list of calls, from a store of C records that holds the tuples ts, to the buffer b: its own answer is that of the call alone ..
+pub record Unnoticed (C : ℕ) (ts : State) (xs : List CallMade) (x : CallMade) (ys : List CallMade) (b : List ℕ) : Type 0 where
+  pub answered :
+      replies (xs ++ (x ∷ ys)) ≡ answers C ts (requests xs) ++ (nothingReply (x .call) ∷ answers C (final C ts (requests xs)) (requests ys))
+  -- .. and all others, and the tuples at the end, are those of the list without it
+  pub without : answers C ts (requests (xs ++ ys)) ≡ answers C ts (requests xs) ++ answers C (final C ts (requests xs)) (requests ys)
+  pub held : tuplesOf b ≡ final C ts (requests (xs ++ ys))
+
+-- ---- examples
+
+abbrev pub XOP : ℕ → ℕ → ℕ → Request
+XOP n g m = call 9 n g m Nothing
+
+-- two nodes, an edge and an empty space
+abbrev pub panel : List Request
+panel = CUN 1 Universe ∷ CUN 2 Universe ∷ COP 1 5 2 Universe ∷ CUS (numbered 9) ∷ []
+
+-- the answers of calls on the panel
+abbrev pub onPanel : List Request → List Reply
+onPanel rs = answers 2048 (stateAfter 2048 panel) rs
+
+pub record NoSelection : Type 0 where
+  -- C = 1, so full, and no node: CUN 1, COP 1 5 2, CAP 1 5 2 and BOP 1 5 2 60 with nothing return 1 and leave the state
+  pub k :
+      answers 1 fresh (CUN 1 Nothing ∷ COP 1 5 2 Nothing ∷ CAP 1 5 2 Nothing ∷ BOP 1 5 2 60 Nothing ∷ []) ≡ name 1 ∷ name 1 ∷ name 1 ∷ name 1 ∷ []
+  pub k-state : stateAfter 1 (CUN 1 Nothing ∷ COP 1 5 2 Nothing ∷ CAP 1 5 2 Nothing ∷ BOP 1 5 2 60 Nothing ∷ []) ≡ fresh
+  -- DUN 1, DON 1 and BUN 1 60 with nothing return 1 and leave the panel as it is
+  pub l : onPanel (DUN 1 Nothing ∷ DON 1 Nothing ∷ callWith 46 1 0 0 60 Nothing ∷ []) ≡ name 1 ∷ name 1 ∷ name 1 ∷ []
+  pub l-state : final 2048 (stateAfter 2048 panel) (DUN 1 Nothing ∷ DON 1 Nothing ∷ callWith 46 1 0 0 60 Nothing ∷ []) ≡ stateAfter 2048 panel
+  -- XOP and XUN of absent nodes with nothing: no
+  pub m : answers 2048 fresh (XOP 1 5 2 ∷ XUN 1 Nothing ∷ []) ≡ yesNo false ∷ yesNo false ∷ []
+  -- SUN with nothing and a list of length 0; SOP of an absent node: an empty list
+  pub n : answers 2048 fresh (CUN 1 Universe ∷ withRoom 0 (SUN Nothing) ∷ call 30 7 0 0 Nothing ∷ []) ≡ name 1 ∷ pairs 0 [] ∷ pairs 0 [] ∷ []
+  -- VOP, VIP, VUN, and CUS, BUS, VUS, XUS, DUS with nothing: 12
+  pub o :
+      answers 2048 fresh
+      (VOP 1 5 2 Nothing
+      ∷ call 8 1 5 2 Nothing
+      ∷ call 47 1 0 0 Nothing
+      ∷ CUS Nothing
+      ∷ callWith 52 0 0 0 60 Nothing
+      ∷ call 53 0 0 0 Nothing
+      ∷ call 54 0 0 0 Nothing
+      ∷ DUS Nothing
+      ∷ [])
+      ≡ refusal 12 ∷ refusal 12 ∷ refusal 12 ∷ refusal 12 ∷ refusal 12 ∷ refusal 12 ∷ refusal 12 ∷ refusal 12 ∷ []
+  -- "tested after 3": a name 0 that is read; 2 before both
+  pub p : answers 2048 fresh (VOP 1 0 2 Nothing ∷ CUN 0 Nothing ∷ XOP 1 5 0 ∷ call 58 0 0 0 Nothing ∷ []) ≡ refusal 3 ∷ refusal 3 ∷ refusal 3 ∷ refusal 2 ∷ []
+  -- UNIVERSE, an empty numbered space and nothing are three: SUN, then COP 1 5 2, then VUS
+  pub q-nodes : onPanel (SUN Universe ∷ SUN (numbered 9) ∷ SUN Nothing ∷ []) ≡ pairs 2 (pair 0 1 ∷ pair 0 2 ∷ []) ∷ pairs 0 [] ∷ pairs 0 [] ∷ []
+  pub q-edge : onPanel (COP 1 5 2 Universe ∷ COP 1 5 2 (numbered 9) ∷ COP 1 5 2 Nothing ∷ []) ≡ name 1 ∷ refusal 6 ∷ name 1 ∷ []
+  pub q-value : onPanel (call 53 0 0 0 Universe ∷ call 53 0 0 0 (numbered 9) ∷ call 53 0 0 0 Nothing ∷ []) ≡ valued 0 ∷ valued 0 ∷ refusal 12 ∷ []
+  -- SUS does not read its space: nothing there has no effect
+  pub r : onPanel (call 56 0 0 0 Nothing ∷ call 57 1 0 0 Nothing ∷ []) ≡ pairs 2 (pair 0 0 ∷ pair 0 9 ∷ []) ∷ pairs 1 (pair 0 0 ∷ []) ∷ []
