@@ -31,9 +31,7 @@ use Rattle.model.specs.OneCall.{answerOf, listAfter, writes, OnStore}
 use Rattle.model.proofs.Bools.{or-left, and-left, and-right, and-both, not-yes, no-not, neither, failed, clash}
 use Rattle.model.proofs.Entries.{Member, samePair, own-pair, listed-sound}
 use Rattle.model.proofs.Refusals.{reading}
-use Rattle.chain.proofs.Hints.{no-hint}
 use Rattle.edit.proofs.Built.{store-linked, store-tuples}
-use Rattle.operate.specs.Operate.{NearIn}
 use Rattle.list.specs.Queries.{written, mostOf}
 use Rattle.listing.specs.Lists.{queryOf}
 use Rattle.listing.proofs.Asked.{surely-not-short}
@@ -223,9 +221,6 @@ no-room b l c f F e = not-at-once b l c (failed _ (λ t. clash (and-right (not (
 pub room-enough : (c : Call) (ts : Tuples) (room : ℕ) (f : Bool) → f ≡ leb (mostOf (queryOf sin c) (length ts)) room → f ≡ true
     → length (listed sin c ts) ≤ room
 room-enough c ts room f F g = ltb-false room (length (listed sin c ts)) (sym (surely-not-short sin c ts room f tt F g))
-
-pub nowhere-near : (b : List ℕ) → NearIn b (record { space = 0; node = 0; second = 0 })
-nowhere-near b = record { space = no-hint b; node = no-hint b; second = no-hint b }
 
 pub all-listed : (b l l′ : List ℕ) (c : Call) (k : ℕ) (z f : Bool) → c .operator ≡ 40 → z ≡ zeroName c → z ≡ false
     → f ≡ leb (mostOf (queryOf sin c) (length (tuplesOf b))) (length l) → f ≡ true → k ≡ length (listed sin c (tuplesOf b)) → l′ ≡ written (listed sin c (tuplesOf b)) l

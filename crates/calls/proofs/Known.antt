@@ -24,7 +24,7 @@ use Rattle.model.specs.Machine.{FieldsFit, step, idle, outcomeOf, machine}
 use Rattle.model.specs.OneCall.{answerOf, listAfter, OnStore, OneCall}
 use Rattle.model.proofs.Bools.{and-left, and-right}
 use Rattle.model.proofs.Steps.{Passed, passed, agrees, agree, n-named, g-named, m-named, s-named, after-rules}
-use Rattle.model.proofs.Refusals.{stopped}
+use Rattle.model.proofs.Refusals.{stopped, none≢some}
 use Rattle.edit.proofs.Built.{store-tuples, edited-store}
 use Rattle.listing.proofs.Stores.{names-asked}
 use Rattle.perform.specs.Perform.{NamesRead, Ready, Performed}
@@ -88,9 +88,6 @@ refused-known b l c stop e S h =
     }
 
 -- ---- performed
-
-none≢some : {n : ℕ} → none ≡ some n → ⊥
-none≢some {n} e = let z : _≡_ {A = ℕ} 0 1 = cc in omega arith
 
 pub performed-known : (b l b′ l′ : List ℕ) (c : Call) (stop : ℕ) (op : Operator) (a : Answer) → isStore b ≡ true → selectsNothing c ≡ false → FieldsFit c
     → stop ≡ stopNumber (refusalOf (capacityOf b) (tuplesOf b) c (length l)) → stop ≡ 0 → op ≡ operatorOf (c .operator)

@@ -93,7 +93,7 @@ reading C ts c room w = go (refusalOf C ts c room)
 some-injective : {a b : ℕ} → some a ≡ some b → a ≡ b
 some-injective e = cc
 
-none≢some : {a : ℕ} → none ≡ some a → ⊥
+pub none≢some : {a : ℕ} → none ≡ some a → ⊥
 none≢some {a} e = let z : _≡_ {A = ℕ} 0 1 = cc in omega arith
 
 first-none : (xs ys : List Stop) → first xs ≡ none → first (xs ++ ys) ≡ first ys

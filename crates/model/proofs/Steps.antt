@@ -36,7 +36,7 @@ use Rattle.model.proofs.Bools.{or-cases, or-left, or-right, or-no-left,
 use Rattle.model.proofs.Tuples.{same-key, own-key, among, present-addAll, length-addAll, length-remove, length-assign}
 use Rattle.model.proofs.Rules.{has-universe, assignAll-rules, Fitting, addAll-rules, remove-rules}
 use Rattle.model.proofs.Taken.{edges-fair, node-fair, EveryPair, NodeNamed, removeNodes-rules, space-fair}
-use Rattle.model.proofs.Refusals.{either-outcome, looked-up}
+use Rattle.model.proofs.Refusals.{either-outcome, looked-up, none≢some}
 use Rattle.model.proofs.Entries.{Member, samePair, own-pair, pairs-sound, nodes-sound, only-sound}
 
 -- ---- a call that is not stopped, and whose space is looked up, has passed each condition
@@ -53,15 +53,12 @@ pub record Passed (C : ℕ) (ts : Tuples) (c : Call) (room : ℕ) : Type 0 where
   pub list : listShort c ts room ≡ false
   pub records : full C c ts ≡ false
 
-some≢none : {n : ℕ} → some n ≡ none → ⊥
-some≢none {n} e = let z : _≡_ {A = ℕ} 0 1 = cc in omega arith
-
 pub first-passed : (x : Stop) (xs : List Stop) → first (x ∷ xs) ≡ none → (x .applies ≡ false) × (first xs ≡ none)
 unfolding first
 first-passed x xs e = go (x .applies) e
   where
     go : (b : Bool) → cond b (some (x .number)) (first xs) ≡ none → (b ≡ false) × (first xs ≡ none)
-    go true f = absurd (some≢none f)
+    go true f = absurd (none≢some (sym f))
     go false f = (refl, f)
 
 pub passed : (C : ℕ) (ts : Tuples) (c : Call) (room : ℕ) → selectsNothing c ≡ false → refusalOf C ts c room ≡ none → Passed C ts c room

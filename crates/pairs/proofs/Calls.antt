@@ -17,7 +17,7 @@ use Rattle.model.specs.Buffer.{capacityOf, tuplesOf, isStore}
 use Rattle.model.specs.OneCall.{answerOf, listCount, pack, unpack, listAfter, observed, OnStore, OneCall}
 use Rattle.model.proofs.CallLists.{observed-machine, answer-within}
 use Rattle.edit.proofs.Built.{store-tuples}
-use Rattle.pairs.specs.InWords.{wordCount, lentWords, CallInWords}
+use Rattle.pairs.specs.InWords.{mostListed, lentWords, CallInWords}
 use Rattle.pairs.specs.InPairs.{unpackedOnto, pairsAfter, CallInPairs}
 use Rattle.pairs.proofs.Rooms.{lent-within, lent-in-words, same-refusal, same-machine}
 use Rattle.pairs.proofs.Unpacked.{unpacked-packed}
@@ -84,7 +84,7 @@ module _ (b l₀ b′ m : List ℕ) (c : Call) (a : Answer) (O : OnStore b l₀ 
 
 -- ---- the call in words
 
-module _ (b ws b′ m : List ℕ) (c : Call) (a : Answer) (room lent : ℕ) (enough : length ws ≡ wordCount) (L : lent ≡ lentWords room)
+module _ (b ws b′ m : List ℕ) (c : Call) (a : Answer) (room lent : ℕ) (enough : length ws ≡ mostListed) (L : lent ≡ lentWords room)
     (size : length m ≡ length (take lent ws)) (one : OneCall b (take lent ws) c a b′ m) where
   lent-size : length (take lent ws) ≡ lent
   lent-size = length-take-le lent ws (lent-in-words ws room lent enough L)

@@ -29,7 +29,7 @@ use Rattle.model.specs.CallLists.{Trace, end, then}
 use Rattle.model.proofs.Refusals.{either-outcome}
 use Rattle.model.proofs.Prepared.{prepared-capacity, prepared-store, prepared-tuples}
 use Rattle.calls.proofs.Lists.{PreparedBy, prepared-by, prepared-demand-3}
-use Rattle.pairs.specs.InPairs.{pairsAfter, observedInPairs, CallInPairs, PairsMade, TraceInPairs, pairs-end, pairs-then, packed, requestsInPairs, repliesInPairs, WholeInPairs}
+use Rattle.pairs.specs.InPairs.{pairsAfter, observedInPairs, CallInPairs, PairsMade, TraceInPairs, pairs-end, pairs-then, packedCall, requestsInPairs, repliesInPairs, WholeInPairs}
 use Rattle.pairs.proofs.execute_pairs as execute-pairs
 
 -- ---- what a caller learns
@@ -55,12 +55,12 @@ pub data ExecutedInPairs : List ℕ → List PairsMade → List ℕ → Type 0 w
       → Learnt κs a r e → ExecutedInPairs (e .0 .now) xs b″
       → ExecutedInPairs (a .0 .now) (record { call = a .1 .0; lent = a .1 .1 .0 .now; answer = r; left = e .1 .1 .0 .now } ∷ xs) b″
 
-executed-trace : {b b′ : List ℕ} {xs : List PairsMade} → ExecutedInPairs b xs b′ → TraceInPairs b xs b′
-executed-trace no-call = pairs-end
-executed-trace (call-then κs a r e L rest) = pairs-then (learnt-call κs a r e L) (executed-trace rest)
+executed-in-pairs : {b b′ : List ℕ} {xs : List PairsMade} → ExecutedInPairs b xs b′ → TraceInPairs b xs b′
+executed-in-pairs no-call = pairs-end
+executed-in-pairs (call-then κs a r e L rest) = pairs-then (learnt-call κs a r e L) (executed-in-pairs rest)
 
 -- with its list packed, each of them is one call as document 01 has it
-packed-trace : {b b′ : List ℕ} {xs : List PairsMade} → TraceInPairs b xs b′ → Trace b (map packed xs) b′
+packed-trace : {b b′ : List ℕ} {xs : List PairsMade} → TraceInPairs b xs b′ → Trace b (map packedCall xs) b′
 packed-trace pairs-end = end
 packed-trace (pairs-then one rest) = then (one .call) (packed-trace rest)
 
@@ -129,7 +129,7 @@ all-observed (pairs-then {xs = xs} one rest) e =
 pub prepared-in-pairs : (raw b b′ : List ℕ) (C : ℕ) (xs : List PairsMade) → capacityOf raw ≡ C → Prepared raw b → TraceInPairs b xs b′ → WholeInPairs C fresh xs b′
 prepared-in-pairs raw b b′ C xs size P calls =
     record {
-      whole = prepared-demand-3 raw b b′ C (map packed xs) size P (packed-trace calls);
+      whole = prepared-demand-3 raw b b′ C (map packedCall xs) size P (packed-trace calls);
       answered =
           all-observed calls (prepared-store raw b P)
           ∙ ap₂ (λ (D : ℕ) (ts : State). answers D ts (requestsInPairs xs)) (prepared-capacity raw b P ∙ size) (prepared-tuples raw b P);
@@ -139,4 +139,4 @@ prepared-in-pairs raw b b′ C xs size P calls =
 pub pairs-demand-3 : (raw b b′ : List ℕ) (C : ℕ) (xs : List PairsMade) → PreparedBy raw (Capacity C) b → ExecutedInPairs b xs b′ → WholeInPairs C fresh xs b′
 pairs-demand-3 raw b b′ C xs P calls =
     let Q = prepared-by raw b C P in
-    prepared-in-pairs raw b b′ C xs (Q .0) (Q .1) (executed-trace calls)
+    prepared-in-pairs raw b b′ C xs (Q .0) (Q .1) (executed-in-pairs calls)

@@ -15,26 +15,26 @@ use Rattle.model.specs.Refusals.{stop, first, spaceAbsent, nodeAbsent, secondAb
 use Rattle.model.specs.Machine.{outcomeOf, machine}
 use Rattle.model.specs.Buffer.{tuplesOf, isStore}
 use Rattle.calls.proofs.Counts.{would-most}
-use Rattle.pairs.specs.InWords.{wordCount, lentWords}
+use Rattle.pairs.specs.InWords.{mostListed, lentWords}
 
 -- ---- how many words are lent
 
-pub lent-least : (room : ℕ) → ltb room wordCount ≡ true → room ≡ lentWords room
+pub lent-least : (room : ℕ) → ltb room mostListed ≡ true → room ≡ lentWords room
 unfolding lentWords
-lent-least room e = sym (ap (λ (t : Bool). cond t room wordCount) e)
+lent-least room e = sym (ap (λ (t : Bool). cond t room mostListed) e)
 
-pub lent-most : (room : ℕ) → ltb room wordCount ≡ false → wordCount ≡ lentWords room
+pub lent-most : (room : ℕ) → ltb room mostListed ≡ false → mostListed ≡ lentWords room
 unfolding lentWords
-lent-most room e = sym (ap (λ (t : Bool). cond t room wordCount) e)
+lent-most room e = sym (ap (λ (t : Bool). cond t room mostListed) e)
 
-pub lent-within : (room : ℕ) → (lentWords room ≤ wordCount) × (lentWords room ≤ room)
-lent-within room = go (ltb room wordCount) refl
+pub lent-within : (room : ℕ) → (lentWords room ≤ mostListed) × (lentWords room ≤ room)
+lent-within room = go (ltb room mostListed) refl
   where
-    go : (t : Bool) → ltb room wordCount ≡ t → (lentWords room ≤ wordCount) × (lentWords room ≤ room)
-    go true e = let h = ltb-true room wordCount e in (omega (arith, lent-least room e, h), omega (arith, lent-least room e))
-    go false e = let h = ltb-false room wordCount e in (omega (arith, lent-most room e), omega (arith, lent-most room e, h))
+    go : (t : Bool) → ltb room mostListed ≡ t → (lentWords room ≤ mostListed) × (lentWords room ≤ room)
+    go true e = let h = ltb-true room mostListed e in (omega (arith, lent-least room e, h), omega (arith, lent-least room e))
+    go false e = let h = ltb-false room mostListed e in (omega (arith, lent-most room e), omega (arith, lent-most room e, h))
 
-pub lent-in-words : (ws : List ℕ) (room lent : ℕ) → length ws ≡ wordCount → lent ≡ lentWords room → lent ≤ length ws
+pub lent-in-words : (ws : List ℕ) (room lent : ℕ) → length ws ≡ mostListed → lent ≡ lentWords room → lent ≤ length ws
 lent-in-words ws room lent enough L = omega (arith, enough, L, lent-within room .0)
 
 -- ---- the same call
@@ -42,18 +42,18 @@ lent-in-words ws room lent enough L = omega (arith, enough, L, lent-within room 
 module _ (b : List ℕ) (e : isStore b ≡ true) (c : Call) (room : ℕ) where
   same-short : listShort c (tuplesOf b) (lentWords room) ≡ listShort c (tuplesOf b) room
   unfolding listShort
-  same-short = go (ltb room wordCount) refl
+  same-short = go (ltb room mostListed) refl
     where
       k : ℕ
       k = length (wouldList (operatorOf (c .operator)) c (tuplesOf b))
 
-      most : k ≤ wordCount
+      most : k ≤ mostListed
       most = would-most b e (operatorOf (c .operator)) c
 
-      go : (t : Bool) → ltb room wordCount ≡ t → ltb (lentWords room) k ≡ ltb room k
+      go : (t : Bool) → ltb room mostListed ≡ t → ltb (lentWords room) k ≡ ltb room k
       go true h = ap (λ (n : ℕ). ltb n k) (sym (lent-least room h))
       go false h =
-          let low = ltb-false room wordCount h in
+          let low = ltb-false room mostListed h in
           le-ltb (lentWords room) k (omega (arith, most, lent-most room h)) ∙ sym (le-ltb room k (omega (arith, most, low)))
 
   pub same-refusal : (C : ℕ) → refusalOf C (tuplesOf b) c (lentWords room) ≡ refusalOf C (tuplesOf b) c room

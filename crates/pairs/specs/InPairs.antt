@@ -56,8 +56,8 @@ pub data TraceInPairs : List ℕ → List PairsMade → List ℕ → Type 0 wher
   pairs-then : {b b′ b″ : List ℕ} {x : PairsMade} {xs : List PairsMade} → CallInPairs b (x .lent) (x .call) (x .answer) b′ (x .left) → TraceInPairs b′ xs b″ → TraceInPairs b (x ∷ xs) b″
 
 -- a call with its list packed
-abbrev pub packed : PairsMade → CallMade
-packed x = record { call = x .call; lent = map pack (x .lent); answer = x .answer; left = map pack (x .left) }
+abbrev pub packedCall : PairsMade → CallMade
+packedCall x = record { call = x .call; lent = map pack (x .lent); answer = x .answer; left = map pack (x .left) }
 
 -- what the machine is fed: "only the calls: operator, fields and the length of the call's answer list"
 abbrev pub requestsInPairs : List PairsMade → List Request
@@ -70,6 +70,6 @@ repliesInPairs xs = map (λ (x : PairsMade). observedInPairs (x .answer) (x .lef
 -- what is claimed of a list of calls made from a store of C records that holds the tuples ts, to the buffer b
 pub record WholeInPairs (C : ℕ) (ts : State) (xs : List PairsMade) (b : List ℕ) : Type 0 where
   -- all that demand 3 claims of calls with packed lists
-  pub whole : WholeList C ts (map packed xs) b
+  pub whole : WholeList C ts (map packedCall xs) b
   -- demand 3: "the answers are those of 01's tuple machine", in pairs
   pub answered : repliesInPairs xs ≡ answers C ts (requestsInPairs xs)

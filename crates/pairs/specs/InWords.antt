@@ -10,12 +10,12 @@ use Rattle.model.specs.declared.Answer.{Answer}
 use Rattle.model.specs.OneCall.{listCount, OneCall}
 
 -- no call lists more: two words for each tuple that a store can hold (docs/DECISIONS.md: B-12)
-abbrev pub wordCount : ℕ
-wordCount = 4096
+abbrev pub mostListed : ℕ
+mostListed = 4096
 
 -- how many words are lent to a call whose list has so much room
 unfoldable pub lentWords : ℕ → ℕ
-lentWords room = cond (ltb room wordCount) room wordCount
+lentWords room = cond (ltb room mostListed) room mostListed
 
 -- the call c with an answer list of so much room, on the buffer b, gives the answer a and leaves the buffer b′; the words ws become ws′
 pub record CallInWords (b : List ℕ) (c : Call) (room : ℕ) (ws : List ℕ) (a : Answer) (b′ ws′ : List ℕ) : Type 0 where

@@ -8,7 +8,7 @@ ghost use mathlib.Core.Path.{_≡_};
 ghost use Prim.Native.Nat.{_<_, _≤_};
 ghost use lib.ListN.{length, getD};
 ghost use Rattle.model.specs.OneCall.{listCount, unpack};
-ghost use Rattle.pairs.specs.InWords.{wordCount, lentWords, CallInWords};
+ghost use Rattle.pairs.specs.InWords.{mostListed, lentWords, CallInWords};
 ghost use Rattle.pairs.specs.InPairs.{unpackedOnto, CallInPairs};
 
 // The pair that is packed in a word.
@@ -66,7 +66,7 @@ fn lent_words(room: usize) -> usize
 
 // One call on any buffer with an answer list of so much room: what it lists stands in the first words.
 fn execute_words(store: &mut [u32], call: Call, room: usize, words: &mut [u32]) -> Answer
-    requires { ⌜ length (now words) ≡ wordCount ⌝ }
+    requires { ⌜ length (now words) ≡ mostListed ⌝ }
     ensures { λ r. ⌜ CallInWords (now (store .entry)) call room (now (words .entry)) r (now (store .exit)) (now (words .exit)) ⌝ }
 {
     let lent = lent_words(room);

@@ -23,7 +23,8 @@ use Rattle.lines.specs.Calls.{readLine}
 use Rattle.print.specs.Answers.{answerText, answerLine, mostLine, Put, Printable}
 use Rattle.print.proofs.Lengths.{line-printable}
 use Rattle.script.specs.Scripts.{scriptRecords, scriptPlaces, readingOutcome, lineOutcome}
-use Rattle.script.specs.Runs.{Ready, Called, call, no-call, LineRun, lineList}
+use Rattle.records.proofs.Words.{capacity-length}
+use Rattle.script.specs.Runs.{Ready, LineCalled, call, no-call, LineRun, lineList}
 
 -- ---- what was run
 
@@ -52,7 +53,7 @@ module _ (b l : List ℕ) (line : Text) (out : Text) (at : ℕ) where
   call-run c a b′ l′ end out′ R e O k f room P =
       record {
         called =
-            subst (Called b l b′ l′) (sym e)
+            subst (LineCalled b l b′ l′) (sym e)
             (call (subst (λ (x : Answer). OnStore b l c x b′ l′) (O .answer) O));
         places = k;
         put = subst (λ (r : Reply). Put (answerLine r) out at end out′) (call-reply c a b′ l′ R e O) P;
@@ -83,7 +84,7 @@ module _ (b l : List ℕ) (line : Text) (out : Text) (at : ℕ) where
       → LineRun b l line out at b l end out′
   refused-run number end out′ e room P =
       record {
-        called = subst (Called b l b l) (sym e) (no-call refl refl);
+        called = subst (LineCalled b l b l) (sym e) (no-call refl refl);
         places = refl;
         put = subst (λ (r : Reply). Put (answerLine r) out at end out′) (refused-reply number e) P;
         within = omega (arith, P .place, refused-printable number room .room);
@@ -99,16 +100,12 @@ pub record LineLeft (b l : List ℕ) (line : Text) (b′ l′ : List ℕ) : Type
   pub past : pastRecords b′ ≡ pastRecords b
   pub list : l′ ≡ lineList (tuplesOf b) (readLine line) l
 
-capacity-kept : (b b′ : List ℕ) → length b′ ≡ length b → capacityOf b′ ≡ capacityOf b
-unfolding capacityOf
-capacity-kept b b′ e = cc
-
 module _ (b l : List ℕ) (R : Ready b l) where
-  left-of : (r : Reading) (line : Text) (b′ l′ : List ℕ) → readLine line ≡ r → length l′ ≡ length l → Called b l b′ l′ r → LineLeft b l line b′ l′
+  left-of : (r : Reading) (line : Text) (b′ l′ : List ℕ) → readLine line ≡ r → length l′ ≡ length l → LineCalled b l b′ l′ r → LineLeft b l line b′ l′
   unfolding lineOutcome readingOutcome lineList
   left-of (Read c) line b′ l′ e k (call O) =
       record {
-        ready = record { store = O .store; records = capacity-kept b b′ (O .size) ∙ R .records; places = k ∙ R .places };
+        ready = record { store = O .store; records = capacity-length b b′ (O .size) ∙ R .records; places = k ∙ R .places };
         tuples =
             O .tuples
             ∙ ap (λ (o : Outcome). o .state) (as-machine b l line line 0 c R)

@@ -27,13 +27,13 @@ pub record Ready (b l : List ℕ) : Type 0 where
 -- ---- one line
 
 -- a line that reads as a call is that call; one that does not makes none
-pub data Called (b l : List ℕ) (b′ l′ : List ℕ) : Reading → Type 0 where
-  call : {c : Call} → OnStore b l c (answerOf (machine (capacityOf b) (tuplesOf b) c (length l) .answer)) b′ l′ → Called b l b′ l′ (Read c)
-  no-call : {number : ℕ} → b′ ≡ b → l′ ≡ l → Called b l b′ l′ (Refused number)
+pub data LineCalled (b l : List ℕ) (b′ l′ : List ℕ) : Reading → Type 0 where
+  call : {c : Call} → OnStore b l c (answerOf (machine (capacityOf b) (tuplesOf b) c (length l) .answer)) b′ l′ → LineCalled b l b′ l′ (Read c)
+  no-call : {number : ℕ} → b′ ≡ b → l′ ≡ l → LineCalled b l b′ l′ (Refused number)
 
 -- a line that is run on a store: what it leaves of the store and the list, and its answer in the output
 pub record LineRun (b l : List ℕ) (line : Text) (out : Text) (at : ℕ) (b′ l′ : List ℕ) (end : ℕ) (out′ : Text) : Type 0 where
-  pub called : Called b l b′ l′ (readLine line)
+  pub called : LineCalled b l b′ l′ (readLine line)
   pub places : length l′ ≡ length l
   pub put : Put (answerLine (lineOutcome (tuplesOf b) line .answer)) out at end out′
   pub within : end ≤ length out

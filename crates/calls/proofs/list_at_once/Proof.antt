@@ -1,4 +1,6 @@
-use Rattle.calls.proofs.AtOnce.{other-operator, name-zero, no-room, room-enough, nowhere-near, all-listed}
+use Rattle.calls.proofs.AtOnce.{other-operator, name-zero, no-room, room-enough, all-listed}
+use Rattle.edit.proofs.Built.{store-linked}
+use Rattle.conditions.proofs.Nearby.{nowhere-near}
 use Rattle.model.proofs.Bools.{not-no, not-yes}
 use Rattle.edit.proofs.Built.{store-linked}
 use Rattle.listing.proofs.Stores.{store-readable}
@@ -38,7 +40,7 @@ returns-3 c = no-room _ _ (c .before .before .before .before .before .before .be
 
 -- src/lib.rt:37:5
 write-listed-requires : tie.Need-write-listed-requires
-write-listed-requires c κs = (store-readable _ (c .before .before .before .before .before .before .before .before .before .before .before .before .before .pre), nowhere-near _, tt, room-enough (c .before .before .before .before .before .before .before .before .before .before .before .before .before .args .c) _ _ _ (c .before .before .before .before .before .surely-fits .ensures) (not-no _ (c .before .before .before .before .if3 .left)))
+write-listed-requires c κs = (store-readable _ (c .before .before .before .before .before .before .before .before .before .before .before .before .before .pre), nowhere-near _ (store-linked _ (c .before .before .before .before .before .before .before .before .before .before .before .before .before .pre)), tt, room-enough (c .before .before .before .before .before .before .before .before .before .before .before .before .before .args .c) _ _ _ (c .before .before .before .before .before .surely-fits .ensures) (not-no _ (c .before .before .before .before .if3 .left)))
 
 -- src/lib.rt:17:1
 same-length : tie.Need-same-length
