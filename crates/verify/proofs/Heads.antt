@@ -1,16 +1,17 @@
 -- Length and heads: what makes chains walkable.
-use mathlib.Core.Bool.{Bool, true, false, _&&_}
+use mathlib.Core.Bool.{true, false}
 use mathlib.Core.List.{List}
-use mathlib.Core.Path.{_≡_, refl, sym, ap, ap₂, _∙_}
-use Prim.Native.Nat.{ℕ, zero, suc, _-_, _≤_, _<_}
+use mathlib.Core.Path.{_≡_, sym, ap₂, _∙_}
+use Prim.Native.Nat.{ℕ, _≤_, _<_}
 use native.Mathlib.Omega.{arith}
 use lib.Dec.{eqb, leb}
 use lib.ListN.{length}
 use borrow.Author.Tests.{eq-eqb, ne-eqb, leb-true, le-leb, lt-leb}
-use Rattle.model.specs.Buffer.{word, fitsLength, capacityOf, everyRecord}
+use Rattle.model.specs.Buffer.{word, fitsLength, capacityOf}
 use Rattle.model.proofs.Bools.{and-left, and-right}
 use Rattle.model.proofs.Store.{fits-least, fits-most, fits-length}
-use Rattle.verify.specs.Checks.{headsFit, Walkable}
+use Rattle.support.specs.Presence.{Walkable}
+use Rattle.verify.specs.Checks.{headsFit}
 use Rattle.records.proofs.Sizes.{too-short, too-long}
 
 -- ---- length and heads
@@ -49,24 +50,6 @@ fit-least b e = fits-least b (and-left (fitsLength b) _ e)
 pub fit-most : (b : List ℕ) → headsFit b ≡ true → length b ≤ 12297
 unfolding headsFit
 fit-most b e = fits-most b (and-left (fitsLength b) _ e)
-
--- ---- a test of the records 1 to C
-
-pub every-on : (p : ℕ → Bool) (i : ℕ) → 0 < i → p i ≡ true → everyRecord p i ≡ everyRecord p (i - 1)
-unfolding everyRecord
-every-on p zero h e = absurd (omega arith)
-every-on p (suc i) h e =
-    let z : i ≡ suc i - 1 = omega arith in
-    ap (λ (t : Bool). t && everyRecord p i) e ∙ ap (everyRecord p) z
-
-pub every-stop : (p : ℕ → Bool) (i : ℕ) → 0 < i → p i ≡ false → everyRecord p i ≡ false
-unfolding everyRecord
-every-stop p zero h e = absurd (omega arith)
-every-stop p (suc i) h e = ap (λ (t : Bool). t && everyRecord p i) e
-
-pub every-none : (p : ℕ → Bool) → everyRecord p 0 ≡ true
-unfolding everyRecord
-every-none p = refl
 
 -- the test makes chains walkable
 pub walkable : (b : List ℕ) → headsFit b ≡ true → Walkable b

@@ -1,12 +1,9 @@
 pub mod Once
 pub mod Heads
 pub mod Walks
-pub mod Rest
 pub mod KeyTests
-pub mod Support
-pub mod EdgeEnds
-pub mod Hints
 pub mod Parts
-pub mod Shows
+pub mod Ascents
+pub mod Settled
 pub mod OneWalk
 pub mod UsedRuns

@@ -11,9 +11,10 @@ use Rattle.model.specs.declared.Key.{Key}
 use Rattle.model.specs.Buffer.{word, capacityOf, next, keyAt}
 use Rattle.model.proofs.Bools.{and-both}
 use Rattle.verify.specs.declared.chains.Walk.{Walk}
-use Rattle.verify.specs.declared.ends.Found.{Found}
+use Rattle.support.specs.declared.ends.Found.{Found}
 use Rattle.verify.specs.declared.keys.Used.{Used}
-use Rattle.verify.specs.Checks.{stepped, mayMeet, keyFollows, stoppedUsed, startsRight, withNamed, foundWith, listWith, UsedRun, runStopped, runEnded, mayTake, usedRun, usedRunOf}
+use Rattle.support.specs.Presence.{withNamed, foundWith, listWith}
+use Rattle.verify.specs.Checks.{stepped, mayMeet, keyFollows, stoppedUsed, startsRight, UsedRun, runStopped, runEnded, mayTake, usedRun, usedRunOf}
 
 abbrev left-of : Used → List ℕ → List ℕ → UsedRun
 left-of u marks list = record { used = u; marks = marks; list = list }

@@ -1,5 +1,5 @@
 -- Walks of at most C records, and what they say of the two chains.
-use mathlib.Core.Bool.{Bool, true, false, cond, not, _&&_, _||_, and-false, false≢true}
+use mathlib.Core.Bool.{Bool, true, false, cond, not, _&&_, _||_, and-false}
 use mathlib.Core.List.{List, [], _∷_, _++_}
 use mathlib.Core.Logic.{_≢_}
 use mathlib.Core.Option.{Option, none, some, Option·map}
@@ -12,13 +12,15 @@ use borrow.Author.Tests.{eqb-true, eqb-false, eq-eqb, ne-eqb, le-leb, lt-leb, le
 use Rattle.model.specs.Buffer.{word, capacityOf, next, walk, ends, orNothing, usedChain, freeChain, usedOf, freeOf, count}
 use Rattle.model.specs.Rules.{Chain}
 use Rattle.model.proofs.Bools.{and-left, and-right, and-both}
-use Rattle.model.proofs.Chains.{some-list, none≢some-list, Within, walk-chain, chain-within, count-append, miss}
+use Rattle.model.proofs.Chains.{Within, walk-chain, chain-within, count-append, miss}
 use Rattle.model.proofs.Steps.{every-record}
 use Rattle.model.proofs.Store.{record-every}
 use Rattle.verify.specs.declared.chains.Walk.{Walk}
 use Rattle.verify.specs.declared.chains.Walked.{Walked}
-use Rattle.verify.specs.Checks.{Walkable, nextsWithin, metOnce, chainsRight, linksRight, allWithin, endsWithin, steps, lastMet, stoppedWalk, walkedOn, walkedFrom, stepped, inRun, alongRun, FreeWalk}
+use Rattle.support.specs.Presence.{Walkable, allWithin, endsWithin}
+use Rattle.verify.specs.Checks.{nextsWithin, metOnce, chainsRight, linksRight, steps, lastMet, stoppedWalk, walkedOn, walkedFrom, stepped, inRun, alongRun, FreeWalk}
 use Rattle.records.proofs.Sizes.{some-record}
+use Rattle.support.proofs.ChainEnds.{Met, met-by-walk}
 use Rattle.verify.proofs.Once.{lastOr, once-test}
 
 -- ---- one walk
@@ -216,19 +218,6 @@ free-first b w C e f =
 
 -- ---- a walk that ends
 
-walk-short : (link : ℕ → ℕ) (most i : ℕ) (is : List ℕ) → walk link most i ≡ some is → length is ≤ most
-unfolding walk
-walk-short link zero zero is e = omega (arith, ap length (some-list e))
-walk-short link zero (suc i) is e = absurd (none≢some-list e)
-walk-short link (suc most) zero is e = omega (arith, ap length (some-list e))
-walk-short link (suc most) (suc i) is e = go (walk link most (link (suc i))) refl (walk-short link most (link (suc i))) e
-  where
-    go : (r : Option (List ℕ)) → walk link most (link (suc i)) ≡ r
-        → ((js : List ℕ) → walk link most (link (suc i)) ≡ some js → length js ≤ most)
-        → Option·map (λ (is : List ℕ). suc i ∷ is) r ≡ some is → length is ≤ suc most
-    go none f ih h = absurd (none≢some-list h)
-    go (some js) f ih h = omega (arith, ih js f, ap length (some-list h))
-
 steps-most : (link : ℕ → ℕ) (most i : ℕ) → steps link most i ≤ most
 unfolding steps
 steps-most link zero i = omega arith
@@ -252,42 +241,10 @@ last-chain link (suc most) zero d (j ∷ js) c h = absurd (c .0 refl)
 last-chain link (suc most) (suc i) d (j ∷ js) c h =
     last-chain link most (link (suc i)) (suc i) js (c .2) (omega arith) ∙ ap (λ (k : ℕ). lastOr k js) (sym (c .1))
 
--- the records of a chain that ends
-pub record Met (b : List ℕ) (head : ℕ) (is : List ℕ) : Type 0 where
-  pub chain : Chain (next b) head is
-  pub all : allWithin (capacityOf b) is ≡ true
-  pub within : Within (capacityOf b) is
-  pub short : length is ≤ capacityOf b
-
--- the records of a chain are not 0
-chain-all : (link : ℕ → ℕ) (C i : ℕ) (is : List ℕ) → Chain link i is → allWithin C is ≡ true → Within C is
-unfolding allWithin
-chain-all link C i [] c t = tt
-chain-all link C i (j ∷ js) c t =
-    let named : i ≢ 0 = c .0 in
-    let at : j ≡ i = c .1 in
-    (omega arith, leb-true j C (and-left (leb j C) _ t), chain-all link C (link i) js (c .2) (and-right (leb j C) _ t))
-
 within-all : (C : ℕ) (is : List ℕ) → Within C is → allWithin C is ≡ true
 unfolding allWithin
 within-all C [] w = refl
 within-all C (i ∷ is) w = and-both (leb i C) _ (le-leb i C (w .1)) (within-all C is (w .2))
-
-pub met-by-walk : (b : List ℕ) (head : ℕ) → endsWithin (capacityOf b) (walk (next b) (capacityOf b) head) ≡ true
-    → Met b head (orNothing (walk (next b) (capacityOf b) head))
-unfolding endsWithin orNothing
-met-by-walk b head e = go (walk (next b) (capacityOf b) head) refl e
-  where
-    go : (r : Option (List ℕ)) → walk (next b) (capacityOf b) head ≡ r → endsWithin (capacityOf b) r ≡ true → Met b head (orNothing r)
-    go none f t = absurd (false≢true t)
-    go (some is) f t =
-        let c = walk-chain (next b) (capacityOf b) head is f in
-        record {
-          chain = c;
-          all = t;
-          within = chain-all (next b) (capacityOf b) head is c t;
-          short = walk-short (next b) (capacityOf b) head is f;
-        }
 
 pub ends-by-walk : (C : ℕ) (r : Option (List ℕ)) → endsWithin C r ≡ true → ends r ≡ true
 unfolding endsWithin ends

@@ -6,7 +6,8 @@ ghost use mathlib.Core.Logic.{_≢_};
 ghost use mathlib.Core.Path.{_≡_};
 ghost use Prim.Native.Nat.{_≤_};
 ghost use Rattle.model.specs.Buffer.{word, capacityOf};
-ghost use Rattle.verify.specs.Checks.{headsFit, Walkable, stoppedWalk, walkedOn, walkedFrom, stepped, inRun, alongRun, FreeWalk, linksRight};
+ghost use Rattle.support.specs.Presence.{Walkable};
+ghost use Rattle.verify.specs.Checks.{headsFit, stoppedWalk, walkedOn, walkedFrom, stepped, inRun, alongRun, FreeWalk, linksRight};
 
 // A walk of a chain over at most C records.
 pub struct Walk {

@@ -1,16 +1,17 @@
 // The keys of the used chain: do they ascend, and is each one that a store may hold.
 use super::chains::Walk;
 use super::chains::step;
-use super::ends::Found;
-use super::ends::take;
 use model::Key;
 use records::capacity;
 use records::node_key;
+use support::ends::Found;
+use support::ends::take;
 ghost use mathlib.Core.Bool.{true};
 ghost use mathlib.Core.Path.{_≡_};
 ghost use lib.ListN.{length};
 ghost use Rattle.model.specs.Buffer.{word, smallKey};
-ghost use Rattle.verify.specs.Checks.{Walkable, shapedKey, goodKey, mayMeet, keyFollows, startsRight, stoppedUsed, walkedOf, usedWalk, usedRunOf, UsedFound, Marks, keptCount};
+ghost use Rattle.support.specs.Presence.{Walkable, shapedKey, goodKey, Marks, keptCount};
+ghost use Rattle.verify.specs.Checks.{mayMeet, keyFollows, startsRight, stoppedUsed, walkedOf, usedWalk, usedRunOf, UsedFound};
 
 // Are the words of a key at most 65,535.
 fn key_small(k: Key) -> bool

@@ -1,35 +1,14 @@
 // The exact check of a store.
 mod chains;
-mod edge_ends;
-mod ends;
 mod keys;
-mod marks;
-mod named;
-mod seek;
 
 use chains::Walked;
-use ends::Found;
+use support::named_right;
 ghost use mathlib.Core.Bool.{_&&_};
 ghost use mathlib.Core.Path.{_≡_};
-ghost use Rattle.model.specs.Buffer.{tuplesOf, everyKey, sound, isStore};
-ghost use Rattle.verify.specs.Checks.{Walkable, linksRight, Sorted, supported, Decided};
-
-// Is all there that the tuples name, after the walk of the used chain.
-// What the walk found can only say yes; where it does not, the whole chain is searched again, and the first edge tuple without both ends ends the check.
-fn named_right(b: &[u32], marks: &[u32], list: &[u16], found: Found) -> bool
-    requires { ⌜ Sorted (now b) × Decided (now b) (now marks) (now list) found ⌝ }
-    ensures { λ r. ⌜ r ≡ everyKey (supported (tuplesOf (now (b .entry)))) (tuplesOf (now (b .entry))) ⌝ }
-{
-    if found.sure {
-        if ends::all_ends(b, marks, list, found.kept) {
-            return true;
-        }
-    }
-    if !named::all_named(b) {
-        return false;
-    }
-    edge_ends::edges_ended(b)
-}
+ghost use Rattle.model.specs.Buffer.{tuplesOf, sound, isStore};
+ghost use Rattle.support.specs.Presence.{Walkable};
+ghost use Rattle.verify.specs.Checks.{linksRight};
 
 // Are the chains and the tuples of the used chain right; marks and list are local to one check.
 fn records_right(b: &[u32]) -> bool

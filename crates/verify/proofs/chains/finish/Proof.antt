@@ -4,7 +4,7 @@ use Prim.Native.Nat.{ℕ, _≤_, _-_}
 use native.Mathlib.Omega.{arith}
 use Rattle.model.specs.Buffer.{capacityOf}
 use Rattle.verify.specs.Checks.{walkedOn}
-use Rattle.verify.proofs.Rest.{record-inside}
+use Rattle.support.proofs.Rest.{record-inside}
 use Rattle.verify.proofs.Walks.{walked-run, walked-end, walked-long, walked-far}
 use Rattle.verify.proofs.chains.finish.Statement.{statement}
 use Rattle.verify.proofs.chains.finish.Tie as tie

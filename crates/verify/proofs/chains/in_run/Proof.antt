@@ -1,7 +1,7 @@
 use mathlib.Core.Path.{sym}
 use native.Mathlib.Omega.{arith}
 use Rattle.model.specs.Buffer.{capacityOf}
-use Rattle.verify.proofs.Rest.{record-inside}
+use Rattle.support.proofs.Rest.{record-inside}
 use Rattle.verify.proofs.Walks.{run-none, run-far, run-here}
 use Rattle.verify.proofs.chains.in_run.Statement.{statement}
 use Rattle.verify.proofs.chains.in_run.Tie as tie

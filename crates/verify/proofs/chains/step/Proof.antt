@@ -1,5 +1,5 @@
 use Rattle.records.proofs.Sizes.{room}
-use Rattle.verify.proofs.Rest.{record-inside}
+use Rattle.support.proofs.Rest.{record-inside}
 use Rattle.verify.proofs.Walks.{step-ended, step-far, step-on}
 use native.Mathlib.Omega.{arith}
 use borrow.Author.Needs.{needs}

@@ -1,5 +1,5 @@
 use native.Mathlib.Omega.{arith}
-use Rattle.verify.proofs.Rest.{record-inside}
+use Rattle.support.proofs.Rest.{record-inside}
 use Rattle.verify.proofs.OneWalk.{starts-none, starts-some}
 use borrow.Author.Needs.{needs}
 use Rattle.verify.proofs.keys.starts_right.Statement.{statement}

@@ -8,7 +8,7 @@ use Rattle.model.specs.Buffer.{capacityOf}
 use Rattle.verify.specs.Checks.{walkedOf, UsedFound, usedRun, usedRunOf}
 use Rattle.verify.specs.declared.keys.Used.{Used}
 use Rattle.records.proofs.Sizes.{some-record}
-use Rattle.verify.proofs.Rest.{record-inside}
+use Rattle.support.proofs.Rest.{record-inside}
 use Rattle.verify.proofs.OneWalk.{Using, head-some, not-started, using-start, using-far, using-high, using-left, using-low, using-room, using-enough, using-no, using-good, using-next, using-end, using-found}
 use Rattle.verify.proofs.UsedRuns.{run-unstarted, run-started, run-end, run-far, run-no, run-on}
 use Rattle.verify.proofs.keys.walk_used.Statement.{statement}
@@ -19,7 +19,7 @@ use Rattle.records.proofs.head_word.Reads as head-word-reads
 use Rattle.records.proofs.key_of.Reads as key-of-reads
 use Rattle.records.proofs.next_of.Reads as next-of-reads
 use Rattle.verify.proofs.chains.step.Reads as step-reads
-use Rattle.verify.proofs.ends.take.Reads as take-reads
+use Rattle.support.proofs.ends.take.Reads as take-reads
 use Rattle.verify.proofs.keys.ended.Reads as ended-reads
 use Rattle.verify.proofs.keys.free_start.Reads as free-start-reads
 use Rattle.verify.proofs.keys.key_follows.Reads as key-follows-reads
