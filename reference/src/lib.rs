@@ -1,6 +1,6 @@
-//! A second, independent implementation of the graph store of document 01.
+//! A second, independent implementation of the graph store of document 01, with request 1 of document 02.
 //!
-//! It is written from document 01 (and the manual, GRASPER 1.0, 1978, where
+//! It is written from these (and the manual, GRASPER 1.0, 1978, where
 //! document 01 points to it), to be plainly right rather than fast.
 
 pub mod buffer;

@@ -31,11 +31,12 @@ use Rattle.model.specs.OneCall.{answerOf, listAfter, writes, OnStore}
 use Rattle.model.proofs.Bools.{or-left, and-left, and-right, and-both, not-yes, no-not, neither, failed, clash}
 use Rattle.model.proofs.Entries.{Member, samePair, own-pair, listed-sound}
 use Rattle.model.proofs.Refusals.{reading}
+use Rattle.model.proofs.Store.{tuples-fit}
 use Rattle.edit.proofs.Built.{store-linked, store-tuples}
 use Rattle.list.specs.Queries.{written, mostOf}
 use Rattle.listing.specs.Lists.{queryOf}
 use Rattle.listing.proofs.Asked.{surely-not-short}
-use Rattle.refusals.proofs.Stops.{passes, nothing-left, as-asked, not-refused, tuples-most}
+use Rattle.refusals.proofs.Stops.{passes, nothing-left, as-asked, not-refused}
 use Rattle.calls.specs.AtOnce.{sin, atOnce, listedAtOnce}
 
 -- ---- an entry shows what the call names
@@ -180,7 +181,7 @@ at-once-known b l l′ c k store N K h L = go (atOnce c (length (tuplesOf b)) (l
         let T = ends-there (sOf c) (nOf c) ts (p .0) R (p .1) in
         listed-known b l l′ c k store N (sin-operator c E)
         (nothing-stops (capacityOf b) ts c (length l) E N (not-yes (zeroName c) (and-left (not (zeroName c)) fits rest))
-        (and-right (not (zeroName c)) fits rest) (tuples-most b (store-linked b store)) T)
+        (and-right (not (zeroName c)) fits rest) (tuples-fit b (store-linked b store .chains)) T)
         K L
 
 -- where there is none, the list is as it was ..

@@ -16,11 +16,12 @@ use Rattle.model.specs.declared.Operator.the-variants.{Create, Bind, Value as V
 use Rattle.model.specs.declared.Pair.{Pair}
 use Rattle.model.specs.Operators.{operatorOf}
 use Rattle.model.specs.Pairs.{pair, edgeOf, nodeOf, pairsOf, edgeNames, nodeNames, only, withEdge, withNode}
-use Rattle.model.specs.Steps.{nOf, gOf, mOf, sOf, listed, wouldList, reply, idleReply}
+use Rattle.model.specs.Steps.{nOf, gOf, mOf, sOf, listed, wouldList, reply}
 use Rattle.model.specs.Refusals.{selectsNothing, refusalOf}
 use Rattle.model.specs.Buffer.{capacityOf, tuplesOf, isStore}
 use Rattle.model.specs.Machine.{Outcome, step, idle, outcomeOf, machine}
 use Rattle.model.specs.OneCall.{answerOf, listCount, OnStore}
+use Rattle.model.proofs.CallLists.{idle-lists-none}
 use Rattle.model.proofs.Refusals.{either-outcome}
 use Rattle.list.proofs.Counted.{length-ascending}
 use Rattle.listing.proofs.Stores.{store-readable}
@@ -76,7 +77,7 @@ module _ (b : List ℕ) (e : isStore b ≡ true) where
 
 -- an answer of the machine lists no more
 pub machine-most : (b : List ℕ) (c : Call) (room : ℕ) → isStore b ≡ true → listCount (answerOf (machine (capacityOf b) (tuplesOf b) c room .answer)) ≤ 4096
-unfolding machine outcomeOf reply idleReply answerOf listCount
+unfolding machine outcomeOf reply answerOf listCount
 machine-most b c room store = go (refusalOf (capacityOf b) (tuplesOf b) c room)
   where
     of-reply : (op : Operator) → listCount (answerOf (reply op c (tuplesOf b))) ≤ 4096
@@ -87,19 +88,11 @@ machine-most b c room store = go (refusalOf (capacityOf b) (tuplesOf b) c room)
     of-reply (Destroy r) = omega arith
     of-reply (Lists l) = most-listed b store l c
 
-    of-idle : (op : Operator) → listCount (answerOf (idleReply op c)) ≤ 4096
-    of-idle (Create o) = omega arith
-    of-idle (Bind o) = omega arith
-    of-idle (Values o) = omega arith
-    of-idle (Exists o) = omega arith
-    of-idle (Destroy r) = omega arith
-    of-idle (Lists l) = omega arith
-
     go : (r : Option ℕ) → listCount (answerOf (outcomeOf r (tuplesOf b) c .answer)) ≤ 4096
     go (some number) = omega arith
     go none =
         either-outcome (λ (o : Outcome). listCount (answerOf (o .answer)) ≤ 4096) (selectsNothing c) (idle c (tuplesOf b)) (step c (tuplesOf b))
-        (λ e. of-idle (operatorOf (c .operator))) (λ e. of-reply (operatorOf (c .operator)))
+        (λ e. omega (arith, idle-lists-none (operatorOf (c .operator)) c)) (λ e. of-reply (operatorOf (c .operator)))
 
 -- .. and so does a call
 pub answer-most : (b l b′ l′ : List ℕ) (c : Call) (a : Answer) → isStore b ≡ true → OnStore b l c a b′ l′ → listCount a ≤ 4096

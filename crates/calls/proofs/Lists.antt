@@ -16,11 +16,11 @@ use Rattle.model.specs.declared.Preparation.the-variants.{Capacity}
 use Rattle.model.specs.Tuples.{fresh}
 use Rattle.model.specs.Buffer.{fitsLength, capacityOf, Prepared, Preparing}
 use Rattle.model.specs.Refusals.{selectsNothing}
-use Rattle.model.specs.NoSelection.{Unnoticed}
-use Rattle.model.specs.CallLists.{CallMade, Trace, end, then, WholeList}
+use Rattle.model.specs.NoSelection.{WithoutEffect}
+use Rattle.model.specs.CallLists.{CallMade, Trace, end, then, requests, WholeList}
 use Rattle.model.proofs.Bools.{and-left, and-right}
 use Rattle.model.proofs.CallLists.{demand-3}
-use Rattle.model.proofs.NoSelection.{nothing-unnoticed}
+use Rattle.model.proofs.NoSelection.{nothing-without-effect}
 use Rattle.fresh.proofs.prepare.Kinds as prepare-kinds
 use Rattle.fresh.proofs.prepare.Reads as prepare-reads
 use Rattle.calls.proofs.execute.Kinds as kinds
@@ -77,7 +77,10 @@ entry-demand-3 raw b b′ C xs P calls =
     let Q = prepared-by raw b C P in
     prepared-demand-3 raw b b′ C xs (Q .0) (Q .1) (executed-trace calls)
 
--- request 1: a call of `execute` with nothing as its space, wherever it stands in the list, changes no other answer and no tuple
-pub entry-nothing : (raw b b′ : List ℕ) (C : ℕ) (xs : List CallMade) (x : CallMade) (ys : List CallMade) → selectsNothing (x .call) ≡ true
-    → PreparedBy raw (Capacity C) b → Executed b (xs ++ (x ∷ ys)) b′ → Unnoticed C fresh xs x ys b′
-entry-nothing raw b b′ C xs x ys e P calls = nothing-unnoticed C fresh xs x ys b′ e (entry-demand-3 raw b b′ C (xs ++ (x ∷ ys)) P calls)
+-- request 1: calls of `execute` on one fresh store, and the same calls with one more among them that has nothing as its space, wherever it stands:
+-- all other answers and the tuples are the same
+pub entry-nothing : (raw b b′ b″ : List ℕ) (C : ℕ) (xs : List CallMade) (x : CallMade) (ys zs : List CallMade) → selectsNothing (x .call) ≡ true
+    → requests zs ≡ requests (xs ++ ys) → PreparedBy raw (Capacity C) b → Executed b (xs ++ (x ∷ ys)) b′ → Executed b zs b″
+    → WithoutEffect C fresh xs x ys b′ zs b″
+entry-nothing raw b b′ b″ C xs x ys zs e same P with-it without-it =
+    nothing-without-effect C fresh xs x ys b′ zs b″ e same (entry-demand-3 raw b b′ C (xs ++ (x ∷ ys)) P with-it) (entry-demand-3 raw b b″ C zs P without-it)

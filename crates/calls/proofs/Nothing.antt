@@ -1,6 +1,6 @@
 -- A call with nothing as its space (request 1): the call alone decides its answer, and no word is changed.
 use mathlib.Core.Bool.{Bool, true, false, cond, _&&_, false≢true}
-use mathlib.Core.List.{List, [], _∷_}
+use mathlib.Core.List.{List}
 use mathlib.Core.Option.{Option, none, some}
 use mathlib.Core.Path.{_≡_, refl, sym, ap, _∙_}
 use Prim.Native.Nat.{ℕ}
@@ -10,7 +10,6 @@ use Rattle.model.specs.declared.Answer.{Answer}
 use Rattle.model.specs.declared.Answer.the-variants.{Refusal}
 use Rattle.model.specs.declared.Call.{Call}
 use Rattle.model.specs.declared.Operator.{Operator}
-use Rattle.model.specs.declared.Operator.the-variants.{Create, Bind, Value as Values, Exists, Destroy, List as Lists}
 use Rattle.model.specs.declared.Space.{Space}
 use Rattle.model.specs.declared.Space.the-variants.{Universe, Numbered, Nothing}
 use Rattle.model.specs.Operators.{operatorOf, readsOf}
@@ -21,6 +20,7 @@ use Rattle.model.specs.Machine.{Outcome}
 use Rattle.model.specs.OneCall.{answerOf, listAfter, OnStore}
 use Rattle.model.specs.NoSelection.{refusalOr, nothingReply}
 use Rattle.model.proofs.Bools.{and-left, and-right}
+use Rattle.model.proofs.CallLists.{idle-unwritten}
 use Rattle.model.proofs.NoSelection.{nothing-idle}
 use Rattle.decode.proofs.Refused.{reads-space-operator}
 
@@ -83,17 +83,12 @@ module _ (c : Call) (e : selectsNothing c ≡ true) where
 
 -- no place of the answer list is written
 unwritten : (c : Call) (l : List ℕ) → l ≡ listAfter (nothingReply c) l
-unfolding nothingReply refusalOr idleReply listAfter
-unwritten c l = go (first (ofCall c)) (operatorOf (c .operator))
+unfolding nothingReply refusalOr listAfter
+unwritten c l = go (first (ofCall c))
   where
-    go : (r : Option ℕ) (op : Operator) → l ≡ listAfter (refusalOr (idleReply op c) r) l
-    go (some number) op = refl
-    go none (Create o) = refl
-    go none (Bind o) = refl
-    go none (Values o) = refl
-    go none (Exists o) = refl
-    go none (Destroy r) = refl
-    go none (Lists x) = refl
+    go : (r : Option ℕ) → l ≡ listAfter (refusalOr (idleReply (operatorOf (c .operator)) c) r) l
+    go (some number) = refl
+    go none = idle-unwritten (operatorOf (c .operator)) c l
 
 pub nothing-known : (b l : List ℕ) (c : Call) (a : Answer) (t : Bool) → isStore b ≡ true → t ≡ selectsNothing c → t ≡ true → a ≡ answerOf (nothingReply c)
     → OnStore b l c a b l

@@ -7,7 +7,7 @@ use lib.Dec.{eqb, leb, ltb}
 use borrow.Author.Tests.{eqb-true, eqb-false, ltb-true, ltb-false, lt-leb, ne-eqb}
 use Rattle.model.specs.declared.Reads.{Reads}
 use Rattle.model.specs.Operators.{fields, readsOf, within}
-use Rattle.model.proofs.Bools.{neither}
+use Rattle.model.proofs.Bools.{neither, and-never}
 
 -- f and g are the same at the k numbers from low on
 abbrev pub Same : {A : Type 0} → (ℕ → A) → (ℕ → A) → ℕ → ℕ → Type 0
@@ -122,11 +122,7 @@ reads-from-47 o h l m n =
 
 -- a range that ends below o; one that begins above it
 pub above : (low high o : ℕ) → high < o → within low high o ≡ false
-above low high o h = go (leb low o) (leb o high) (lt-leb o high h)
-  where
-    go : (a b : Bool) → b ≡ false → (a && b) ≡ false
-    go true b e = e
-    go false b e = refl
+above low high o h = and-never (leb low o) (leb o high) (lt-leb o high h)
 
 pub under : (low high o : ℕ) → o < low → within low high o ≡ false
 under low high o h = ap (λ (b : Bool). b && leb o high) (lt-leb low o h)

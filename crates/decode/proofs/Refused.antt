@@ -1,5 +1,7 @@
 -- Conditions 2 to 4 and 12 by their tests.
 use mathlib.Core.Bool.{Bool, true, false, not, _&&_, _||_, true≢false}
+use mathlib.Core.List.{[], _∷_}
+use mathlib.Core.Logic.{inl, inr}
 use mathlib.Core.Path.{_≡_, refl, sym, ap, _∙_}
 use Prim.Native.Nat.{ℕ, _≤_, _<_}
 use native.Mathlib.Omega.{arith}
@@ -7,9 +9,14 @@ use lib.Dec.{eqb, leb, ltb}
 use borrow.Author.Tests.{lt-ltb, le-ltb, le-leb, lt-leb, leb-true, leb-false, eq-eqb, ne-eqb}
 use Rattle.model.specs.declared.Call.{Call}
 use Rattle.model.specs.declared.Reads.{Reads}
+use types.Run.{OneOf}
+use denote.Enum.Declared.{tagOf}
+use Rattle.model.proofs.Space.{the-type}
+use Rattle.model.specs.declared.Space.{Space}
+use Rattle.model.specs.declared.Space.the-variants.{Universe, Numbered, Nothing}
 use Rattle.model.specs.Operators.{within, readsOf}
 use Rattle.model.specs.Steps.{nOf, gOf, mOf}
-use Rattle.model.proofs.Bools.{or-left, or-right, neither, not-yes, not-no}
+use Rattle.model.proofs.Bools.{or-left, or-right, and-never, neither, not-yes, not-no}
 use Rattle.model.specs.Refusals.{zeroSpace, zeroName, noOperator, isUniverse, isNothing, selectsNothing, needsSpace, destroysUniverse}
 use Rattle.decode.proofs.Ranges.{every, above, under, reads-0, reads-above}
 
@@ -101,6 +108,17 @@ not-55 c n = go (eqb (c .operator) 55) (ne-eqb (c .operator) 55 n)
 
 -- ---- nothing
 
+-- a space whose variant is one of the first two
+pub not-nothing : (s : Space) → OneOf (0 ∷ 1 ∷ []) (tagOf the-type s) → false ≡ isNothing s
+unfolding isNothing
+not-nothing Universe k = refl
+not-nothing (Numbered x) k = refl
+not-nothing Nothing k = absurd (go k)
+  where
+    go : OneOf (0 ∷ 1 ∷ []) 2 → ⊥
+    go (inl e) = omega (arith, e)
+    go (inr e) = omega (arith, e)
+
 -- a number that reads a space is an operator's
 pub reads-space-operator : (c : Call) → readsOf (c .operator) .s ≡ true → noOperator c ≡ false
 unfolding noOperator
@@ -116,11 +134,7 @@ reads-space-operator c e = go (leb 1 (c .operator)) (leb (c .operator) 57) refl 
 
 pub selects-some : (c : Call) (x : Bool) → x ≡ isNothing (c .s) → not x ≡ true → false ≡ selectsNothing c
 unfolding selectsNothing
-selects-some c x X e = sym (ap (λ (b : Bool). (readsOf (c .operator) .s) && b) (sym X ∙ not-yes x e) ∙ none (readsOf (c .operator) .s))
-  where
-    none : (b : Bool) → (b && false) ≡ false
-    none true = refl
-    none false = refl
+selects-some c x X e = sym (and-never (readsOf (c .operator) .s) (isNothing (c .s)) (sym X ∙ not-yes x e))
 
 pub selects-as-read : (c : Call) (r : Reads) (x : Bool) → r ≡ readsOf (c .operator) → x ≡ isNothing (c .s) → not x ≡ false → r .s ≡ selectsNothing c
 unfolding selectsNothing

@@ -157,9 +157,8 @@ fn is_nothing(s: Space) -> bool
     ensures { λ r. ⌜ r ≡ isNothing s ⌝ }
 {
     match s {
-        Space::Universe => false,
-        Space::Numbered(_) => false,
         Space::Nothing => true,
+        _ => false,
     }
 }
 

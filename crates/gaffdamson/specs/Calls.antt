@@ -20,7 +20,7 @@ use Rattle.gaffdamson.specs.Numbers.{PackedAs, packedPreparation}
 
 -- ---- one call
 
--- the call with these fields; the space by its form (0: UNIVERSE, any other number: the space numbered s), as in a run of calls
+-- the call with these fields; the space by its form (0: UNIVERSE, 2: nothing, any other number: the space numbered s), as in a run of calls
 unfoldable pub callOf : ℕ → ℕ → ℕ → ℕ → ℕ → ℕ → ℕ → Call
 callOf operator n g m v form s =
     record {

@@ -25,7 +25,7 @@ use Rattle.lines.specs.Lines.{inFront, wordsOf}
 use Rattle.letters.specs.OperatorWords.{operatorWords, numberFrom, operatorNumber}
 use Rattle.lines.specs.Calls.{mostValue, withNumber, takeNumber, takeSpace, complete, callOf, inOrder, spaceThenValue, spaces, arguments, readWords, readLine}
 use Rattle.model.specs.Unread.{readable}
-use Rattle.lines.specs.Reachable.{joined, lettersOf, spaceText, ifRead, orderedOf, argumentsOf, lineOf, SpaceFits, Fitting}
+use Rattle.lines.specs.Reachable.{joined, lettersOf, spaceText, ifRead, fieldsThen, orderedOf, argumentsOf, lineOf, shortLineOf, SpaceFits, Fitting}
 use Rattle.lines.proofs.CallLaws.{behindN, behindG, behindM, behindV}
 
 -- words without a blank, joined, are parted again
@@ -91,14 +91,19 @@ letters-plain : (o : ℕ) → 1 ≤ o → o ≤ 57 → plain (lettersOf o) ≡ t
 unfolding everyRecord lettersOf operatorWords
 letters-plain o h k = every-record (λ (i : ℕ). plain (lettersOf i)) 57 refl o h k
 
-ordered-plain : (c : Call) → Fitting c → allPlain (orderedOf c) ≡ true
-unfolding orderedOf
-ordered-plain c f =
+fields-plain : (c : Call) → Fitting c → (ws : List Text) → allPlain ws ≡ true → allPlain (fieldsThen c ws) ≡ true
+unfolding fieldsThen
+fields-plain c f ws h =
     read-plain (readsOf (c .operator) .n) _ _ (printed-plain (c .n .0) (omega (arith, f .nodeFits)))
     (read-plain (readsOf (c .operator) .g) _ _ (printed-plain (c .g .0) (omega (arith, f .edgeFits)))
     (read-plain (readsOf (c .operator) .m) _ _ (printed-plain (c .m .0) (omega (arith, f .otherFits)))
-    (read-plain (readsOf (c .operator) .v) _ _ (printed-plain (c .v) (f .valueFits))
-    (read-plain (readsOf (c .operator) .s) _ [] (space-plain (c .s) (f .spaceFits)) refl))))
+    (read-plain (readsOf (c .operator) .v) _ ws (printed-plain (c .v) (f .valueFits)) h)))
+
+ordered-plain : (c : Call) → Fitting c → allPlain (orderedOf c) ≡ true
+unfolding orderedOf
+ordered-plain c f =
+    fields-plain c f (ifRead (readsOf (c .operator) .s) (spaceText (c .s)) [])
+    (read-plain (readsOf (c .operator) .s) _ [] (space-plain (c .s) (f .spaceFits)) refl)
 
 either : (b : Bool) (x y : List Text) → allPlain x ≡ true → allPlain y ≡ true → allPlain (cond b x y) ≡ true
 either true x y e f = e
@@ -159,13 +164,13 @@ whole c f = ap readWords (parted (lettersOf (c .operator)) (argumentsOf c) (lett
 -- 57, 56 and 52
 
 reads-57 : (n g m v : ℕ) (s : Space) → n ≤ mostName → arguments (operatorNumber (lettersOf 57)) (argumentsOf (callOf 57 n g m v s)) ≡ Read (readable (callOf 57 n g m v s))
-unfolding lettersOf operatorWords operatorNumber numberFrom sameText arguments argumentsOf orderedOf ifRead readsOf spaces takeNumber withNumber complete readable
+unfolding lettersOf operatorWords operatorNumber numberFrom sameText arguments argumentsOf orderedOf fieldsThen ifRead readsOf spaces takeNumber withNumber complete readable
 reads-57 n g m v s h =
     let b = reads-back mostName n h (omega arith) in
     rw b
 
 reads-56 : (n g m v : ℕ) (s : Space) → arguments (operatorNumber (lettersOf 56)) (argumentsOf (callOf 56 n g m v s)) ≡ Read (readable (callOf 56 n g m v s))
-unfolding lettersOf operatorWords operatorNumber numberFrom sameText arguments argumentsOf orderedOf ifRead readsOf spaces readable
+unfolding lettersOf operatorWords operatorNumber numberFrom sameText arguments argumentsOf orderedOf fieldsThen ifRead readsOf spaces readable
 reads-56 n g m v s = refl
 
 value-last : (s : Space) (v : ℕ) → v ≤ mostValue → takeNumber true mostValue (printedNumber v ∷ []) (λ (x : ℕ) (ws : List Text). complete (callOf 52 0 0 0 x s) ws) ≡ Read (callOf 52 0 0 0 v s)
@@ -195,20 +200,31 @@ unfolding ifRead
 space-last true optional s then e h = take-space optional s [] then h
 space-last false optional s then e h = absurd (true≢false (sym e))
 
-in-order : (c : Call) → Fitting c → c .operator ≤ 55 → inOrder (c .operator) (orderedOf c) ≡ Read (readable c)
-unfolding inOrder orderedOf readable complete
-in-order c f k =
+-- what is left of the call when n, g, m and v are read: the space
+abbrev fieldsRead : Call → Space → List Text → Reading
+fieldsRead c s ws =
+    let r = readsOf (c .operator) in
+    complete (callOf (c .operator) (cond (r .n) (c .n .0) 0) (cond (r .g) (c .g .0) 0) (cond (r .m) (c .m .0) 0) (cond (r .v) (c .v) 0) s) ws
+
+fields-in-order : (c : Call) → Fitting c → (ws : List Text) → inOrder (c .operator) (fieldsThen c ws) ≡ takeSpace (within 1 50 (c .operator)) ws (fieldsRead c)
+unfolding inOrder fieldsThen
+fields-in-order c f ws =
     let o = c .operator in
     let r = readsOf (c .operator) in
     let n = cond (r .n) (c .n .0) 0 in
     let g = cond (r .g) (c .g .0) 0 in
     let m = cond (r .m) (c .m .0) 0 in
-    let v = cond (r .v) (c .v) 0 in
     take-printed (r .n) mostName (c .n .0) _ (behindN o) (f .nodeFits) (omega arith)
     ∙ take-printed (r .g) mostName (c .g .0) _ (behindG o n) (f .edgeFits) (omega arith)
     ∙ take-printed (r .m) mostName (c .m .0) _ (behindM o n g) (f .otherFits) (omega arith)
-    ∙ take-printed (r .v) mostValue (c .v) _ (behindV o n g m) (f .valueFits) (omega arith)
-    ∙ space-last (r .s) (within 1 50 o) (c .s) (λ (s : Space) (ws : List Text). complete (callOf o n g m v s) ws) (space-asked o (f .least) k) (f .spaceFits)
+    ∙ take-printed (r .v) mostValue (c .v) ws (behindV o n g m) (f .valueFits) (omega arith)
+
+in-order : (c : Call) → Fitting c → c .operator ≤ 55 → inOrder (c .operator) (orderedOf c) ≡ Read (readable c)
+unfolding orderedOf readable complete
+in-order c f k =
+    let r = readsOf (c .operator) in
+    fields-in-order c f (ifRead (r .s) (spaceText (c .s)) [])
+    ∙ space-last (r .s) (within 1 50 (c .operator)) (c .s) (fieldsRead c) (space-asked (c .operator) (f .least) k) (f .spaceFits)
 
 reads-other : (c : Call) → Fitting c → c .operator ≤ 55 → (c .operator ≡ 52 → ⊥) → arguments (operatorNumber (lettersOf (c .operator))) (argumentsOf c) ≡ Read (readable c)
 unfolding arguments argumentsOf
@@ -237,3 +253,25 @@ no-operator-out-of-reach c f = whole c f ∙ go (eqb (c .operator) 57) refl (eqb
         let p = eqb-false (c .operator) 57 e in
         let q = eqb-false (c .operator) 56 h in
         reads-other c f (omega (arith, f .last)) (eqb-false (c .operator) 52 k)
+
+-- ---- without s
+
+-- "For 1–50 the last, s, may be missing and means UNIVERSE"
+missing-last : (c : Call) → within 1 50 (c .operator) ≡ true → c .s ≡ Universe → takeSpace (within 1 50 (c .operator)) [] (fieldsRead c) ≡ Read (readable c)
+unfolding takeSpace readable complete
+missing-last c h e =
+    let least = leb-true 1 (c .operator) (and-left (leb 1 (c .operator)) (leb (c .operator) 50) h) in
+    let most = leb-true (c .operator) 50 (and-right (leb 1 (c .operator)) (leb (c .operator) 50) h) in
+    let read = space-asked (c .operator) least (omega (arith, most)) in
+    rw (h, read, e)
+
+pub space-left-out : (c : Call) → Fitting c → within 1 50 (c .operator) ≡ true → c .s ≡ Universe → readLine (shortLineOf c) ≡ Read (readable c)
+unfolding readLine readWords shortLineOf arguments
+space-left-out c f h e =
+    let most = leb-true (c .operator) 50 (and-right (leb 1 (c .operator)) (leb (c .operator) 50) h) in
+    let z = ne-eqb (c .operator) 0 (λ k. omega (arith, f .least)) in
+    let p = ne-eqb (c .operator) 52 (λ k. omega (arith, most)) in
+    let q = ne-eqb (c .operator) 56 (λ k. omega (arith, most)) in
+    let i = number-back (c .operator) (f .least) (omega (arith, most)) in
+    ap readWords (parted (lettersOf (c .operator)) (fieldsThen c []) (letters-plain (c .operator) (f .least) (f .last)) (fields-plain c f [] refl))
+    ∙ rw (i, z, p, q) (fields-in-order c f [] ∙ missing-last c h e)

@@ -34,14 +34,17 @@ unfoldable pub ifRead : Bool → Text → List Text → List Text
 ifRead false w ws = ws
 ifRead true w ws = w ∷ ws
 
--- "n g m v s", those that are read
-unfoldable pub orderedOf : Call → List Text
-orderedOf c =
+-- "n g m v", those that are read, in front of what follows them
+unfoldable pub fieldsThen : Call → List Text → List Text
+fieldsThen c ws =
     ifRead (readsOf (c .operator) .n) (printedNumber (c .n .0))
     (ifRead (readsOf (c .operator) .g) (printedNumber (c .g .0))
     (ifRead (readsOf (c .operator) .m) (printedNumber (c .m .0))
-    (ifRead (readsOf (c .operator) .v) (printedNumber (c .v))
-    (ifRead (readsOf (c .operator) .s) (spaceText (c .s)) []))))
+    (ifRead (readsOf (c .operator) .v) (printedNumber (c .v)) ws)))
+
+-- "n g m v s", those that are read
+unfoldable pub orderedOf : Call → List Text
+orderedOf c = fieldsThen c (ifRead (readsOf (c .operator) .s) (spaceText (c .s)) [])
 
 -- "52 s v"
 unfoldable pub argumentsOf : Call → List Text
@@ -50,6 +53,10 @@ argumentsOf c = cond (eqb (c .operator) 52) (spaceText (c .s) ∷ printedNumber 
 -- the line that makes a call
 unfoldable pub lineOf : Call → Text
 lineOf c = joined (lettersOf (c .operator)) (argumentsOf c)
+
+-- "For 1–50 the last, s, may be missing": the line that makes the call on UNIVERSE without it
+unfoldable pub shortLineOf : Call → Text
+shortLineOf c = joined (lettersOf (c .operator)) (fieldsThen c [])
 
 -- "names to 65,535, values to 4,294,967,295": a space that is a number is a name
 abbrev pub SpaceFits : Space → Type 0

@@ -17,7 +17,7 @@ use Rattle.model.specs.Tuples.{Tuples}
 use Rattle.model.specs.Pairs.{pair, onlyIf, outPair, inPair}
 use Rattle.model.specs.Buffer.{word, next, keyAt, tupleAt, usedOf, tuplesOf}
 use Rattle.model.specs.Rules.{Chain}
-use Rattle.model.proofs.Bools.{not-yes, or-cases, or-left, or-right, or-no-left, or-no-right}
+use Rattle.model.proofs.Bools.{not-yes, and-never, or-cases, or-left, or-right, or-no-left, or-no-right}
 use Rattle.model.proofs.Order.{keys, compare-eq, compare-lt, compare-gt}
 use Rattle.model.proofs.Ordered.{Below}
 use Rattle.chain.specs.declared.Place.{Place}
@@ -39,10 +39,6 @@ Silent q [] = Unit {0}
 Silent q (t ∷ ts) = (headCode (firstAt q (t .key)) ≡ 0) × (headCode (secondAt q (t .key)) ≡ 0) × Silent q ts
 
 -- ---- a key outside gives no entry
-
-and-never : (t u : Bool) → u ≡ false → (t && u) ≡ false
-and-never true u e = e
-and-never false u e = refl
 
 module _ (q : PairQuery) (k : Key) where
   pairs-silent : pairsOutside (q .d) (q .s) (q .n) k ≡ true → (headCode (firstAt (Pairs q) k) ≡ 0) × (headCode (secondAt (Pairs q) k) ≡ 0)

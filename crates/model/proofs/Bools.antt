@@ -39,6 +39,10 @@ pub and-both : (a b : Bool) → a ≡ true → b ≡ true → (a && b) ≡ true
 and-both true b e f = f
 and-both false b e f = e
 
+pub and-never : (a b : Bool) → b ≡ false → (a && b) ≡ false
+and-never true b e = e
+and-never false b e = refl
+
 pub and-no : (a b : Bool) → (a && b) ≡ false → a ≡ true → b ≡ false
 and-no true b e f = e
 and-no false b e f = absurd (false≢true f)

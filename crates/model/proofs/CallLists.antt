@@ -34,7 +34,7 @@ use Rattle.model.proofs.Taken.{EveryPair}
 use Rattle.model.proofs.Entries.{listed-sound}
 use Rattle.model.proofs.Steps.{every-member}
 use Rattle.model.proofs.Refusals.{either-outcome, full-exactly}
-use Rattle.model.proofs.Store.{store-rules, chains-count}
+use Rattle.model.proofs.Store.{store-rules, chains-count, tuples-fit}
 use Rattle.model.proofs.Prepared.{prepared-capacity, prepared-store, prepared-tuples}
 
 -- ---- pairs and words
@@ -107,6 +107,25 @@ observed-reply (Exists o) c ts l R = refl
 observed-reply (Destroy r) c ts l R = refl
 observed-reply (Lists x) c ts l R = observed-list (listed x c ts) l (listed-small ts R x c)
 
+-- with nothing as the space no pair is listed, and no place of the list is written
+pub idle-lists-none : (op : Operator) (c : Call) → listCount (answerOf (idleReply op c)) ≡ 0
+unfolding idleReply answerOf listCount
+idle-lists-none (Create o) c = refl
+idle-lists-none (Bind o) c = refl
+idle-lists-none (Values o) c = refl
+idle-lists-none (Exists o) c = refl
+idle-lists-none (Destroy r) c = refl
+idle-lists-none (Lists x) c = refl
+
+pub idle-unwritten : (op : Operator) (c : Call) (l : List ℕ) → l ≡ listAfter (idleReply op c) l
+unfolding idleReply listAfter
+idle-unwritten (Create o) c l = refl
+idle-unwritten (Bind o) c l = refl
+idle-unwritten (Values o) c l = refl
+idle-unwritten (Exists o) c l = refl
+idle-unwritten (Destroy r) c l = refl
+idle-unwritten (Lists x) c l = refl
+
 observed-idle : (op : Operator) (c : Call) (l : List ℕ) → observed (answerOf (idleReply op c)) (listAfter (idleReply op c) l) ≡ idleReply op c
 unfolding idleReply observed answerOf
 observed-idle (Create o) c l = refl
@@ -152,21 +171,13 @@ listed-within C ts c room l = go (refusalOf C ts c room)
         let ps : List Pair = listed x c ts in
         omega (arith, e, length-append (map pack ps) (drop (length ps) l), length-map ps pack, length-drop (length ps) l)
 
-    of-idle : (op : Operator) → listCount (answerOf (idleReply op c)) ≤ length l
-    of-idle (Create o) = omega arith
-    of-idle (Bind o) = omega arith
-    of-idle (Values o) = omega arith
-    of-idle (Exists o) = omega arith
-    of-idle (Destroy r) = omega arith
-    of-idle (Lists x) = omega arith
-
     Within : Outcome → Type 0
     Within o = length (listAfter (o .answer) l) ≡ length l → listCount (answerOf (o .answer)) ≤ length l
 
     go : (r : Option ℕ) → Within (outcomeOf r ts c)
     go (some number) = λ e. omega arith
     go none =
-        either-outcome Within (selectsNothing c) (idle c ts) (step c ts) (λ t e. of-idle (operatorOf (c .operator))) (λ t e. of-reply (operatorOf (c .operator)) e)
+        either-outcome Within (selectsNothing c) (idle c ts) (step c ts) (λ t e. omega (arith, idle-lists-none (operatorOf (c .operator)) c)) (λ t e. of-reply (operatorOf (c .operator)) e)
 
 -- .. nor does a call on a store
 pub answer-within : (b l b′ l′ : List ℕ) (c : Call) (a : Answer) → OnStore b l c a b′ l′ → length l′ ≡ length l → listCount a ≤ length l
@@ -194,12 +205,6 @@ no-calls b e =
       fullExactly = tt;
     }
 
--- the tuples of a store are at most C
-tuples-fit : (b : List ℕ) → isStore b ≡ true → length (tuplesOf b) ≤ capacityOf b
-unfolding tuplesOf
-tuples-fit b e =
-    omega (arith, length-map (usedOf b) (tupleAt b), chains-count b (usedOf b) (freeOf b) (store-rules b e .chains))
-
 -- one call before a list of calls
 pub one-more : (b b′ b″ : List ℕ) (x : CallMade) (xs : List CallMade) → isStore b ≡ true → OneCall b (x .lent) (x .call) (x .answer) b′ (x .left)
     → WholeList (capacityOf b′) (tuplesOf b′) xs b″ → WholeList (capacityOf b) (tuplesOf b) (x ∷ xs) b″
@@ -213,7 +218,7 @@ one-more b b′ b″ x xs e one W =
     let r : Reply = machine C ts (x .call) (length (x .lent)) .answer in
     let told : observed (x .answer) (x .left) ≡ r
     = ap₂ observed (O .answer) (O .list) ∙ observed-machine C ts (x .call) (length (x .lent)) (x .lent) R in
-    let ten = full-exactly C ts (requestOf x) (tuples-fit b e) in
+    let ten = full-exactly C ts (requestOf x) (tuples-fit b (store-rules b e .chains)) in
     record {
       answered = ap₂ _∷_ told (W .answered ∙ ap₂ (λ (D : ℕ) (us : State). answers D us (requests xs)) same (O .tuples));
       store = W .store;

@@ -1,15 +1,15 @@
 -- Request 1 (specs/NoSelection.antt): a call with nothing leaves the state and, wherever it stands in a list, changes no other answer.
-use mathlib.Core.Bool.{Bool, true, cond}
+use mathlib.Core.Bool.{true}
 use mathlib.Core.List.{List, [], _∷_, _++_}
 use mathlib.Core.Option.{Option, none, some}
 use mathlib.Core.Path.{_≡_, refl, sym, ap, _∙_}
 use Prim.Native.Nat.{ℕ}
 use Rattle.model.specs.declared.Call.{Call}
 use Rattle.model.specs.Steps.{Reply}
-use Rattle.model.specs.Refusals.{selectsNothing, first, ofCall, refusalOf}
-use Rattle.model.specs.Machine.{State, Outcome, Request, step, idle, outcomeOf, machine, answers, final}
+use Rattle.model.specs.Refusals.{selectsNothing, first, ofCall}
+use Rattle.model.specs.Machine.{State, Outcome, Request, idle, outcomeOf, machine, answers, final}
 use Rattle.model.specs.CallLists.{CallMade, requestOf, requests, WholeList}
-use Rattle.model.specs.NoSelection.{refusalOr, nothingReply, Unnoticed, NoSelection}
+use Rattle.model.specs.NoSelection.{refusalOr, nothingReply, WithoutEffect, NoSelection}
 use Rattle.model.proofs.Refusals.{not-looked-up}
 use Rattle.model.proofs.Cases.{computed}
 
@@ -58,20 +58,22 @@ requests-append : (xs ys : List CallMade) → requests (xs ++ ys) ≡ requests x
 requests-append [] ys = refl
 requests-append (x ∷ xs) ys = ap (λ (rs : List Request). requestOf x ∷ rs) (requests-append xs ys)
 
--- where demand 3 holds of a list with such a call, the other answers and the tuples are those of the list without it
-pub nothing-unnoticed : (C : ℕ) (ts : State) (xs : List CallMade) (x : CallMade) (ys : List CallMade) (b : List ℕ) → selectsNothing (x .call) ≡ true
-    → WholeList C ts (xs ++ (x ∷ ys)) b → Unnoticed C ts xs x ys b
-nothing-unnoticed C ts xs x ys b e W =
+-- where demand 3 holds of a list with such a call and of the list without it
+pub nothing-without-effect : (C : ℕ) (ts : State) (xs : List CallMade) (x : CallMade) (ys : List CallMade) (b : List ℕ) (zs : List CallMade) (b″ : List ℕ)
+    → selectsNothing (x .call) ≡ true → requests zs ≡ requests (xs ++ ys) → WholeList C ts (xs ++ (x ∷ ys)) b → WholeList C ts zs b″
+    → WithoutEffect C ts xs x ys b zs b″
+nothing-without-effect C ts xs x ys b zs b″ e same W W₀ =
     let with-it = requests-append xs (x ∷ ys) in
-    let without-it = requests-append xs ys in
+    let without-it = same ∙ requests-append xs ys in
     record {
-      answered = W .answered ∙ ap (answers C ts) with-it ∙ nothing-answers C ts (requests xs) (requestOf x) (requests ys) e;
-      without = ap (answers C ts) without-it ∙ answers-append C ts (requests xs) (requests ys);
-      held =
+      withIt = W .answered ∙ ap (answers C ts) with-it ∙ nothing-answers C ts (requests xs) (requestOf x) (requests ys) e;
+      withoutIt = W₀ .answered ∙ ap (answers C ts) without-it ∙ answers-append C ts (requests xs) (requests ys);
+      sameTuples =
           W .held
           ∙ ap (final C ts) with-it
           ∙ nothing-final C ts (requests xs) (requestOf x) (requests ys) e
-          ∙ sym (ap (final C ts) without-it);
+          ∙ sym (ap (final C ts) without-it)
+          ∙ sym (W₀ .held);
     }
 
 -- ---- examples

@@ -7,7 +7,7 @@ use mathlib.Core.Path.{_≡_, refl, sym, ap, ap₂, _∙_, subst}
 use Prim.Native.Nat.{ℕ, zero, suc, _+_, _≤_}
 use native.Mathlib.Omega.{arith}
 use lib.Dec.{eqb, leb}
-use lib.ListN.{length}
+use lib.ListN.{length-map, length}
 use borrow.Author.Tests.{eqb-true, eqb-false, eq-eqb, ne-eqb, leb-true, le-leb}
 use Rattle.model.specs.Ordered.{holds, Ascending}
 use Rattle.model.specs.declared.Key.{Key}
@@ -265,6 +265,11 @@ pub chains-count : (b used free : List ℕ) → ChainRules b used free → lengt
 chains-count b used free R =
     once-length (capacityOf b) used free (chain-within (next b) (capacityOf b) (word b 1) used (R .usedChain) (R .usedHead) (R .nexts))
     (chain-within (next b) (capacityOf b) (word b 2) free (R .freeChain) (R .freeHead) (R .nexts)) (R .once)
+
+-- so there are at most C tuples
+pub tuples-fit : (b : List ℕ) → ChainRules b (usedOf b) (freeOf b) → length (tuplesOf b) ≤ capacityOf b
+unfolding tuplesOf
+tuples-fit b R = omega (arith, length-map (usedOf b) (tupleAt b), chains-count b (usedOf b) (freeOf b) R)
 
 -- a buffer of at most 12,297 words has at most 2,048 records
 pub capacity-most : (b used free : List ℕ) → ChainRules b used free → capacityOf b ≤ 2048

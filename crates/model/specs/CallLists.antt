@@ -44,7 +44,7 @@ requests xs = map requestOf xs
 abbrev pub replies : List CallMade → List Reply
 replies xs = map (λ (x : CallMade). observed (x .answer) (x .left)) xs
 
--- what a call would add; with nothing as its space it adds nothing (request 1)
+-- "the keys that the step would add"; with nothing as the space "C, B and D change nothing" (request 1)
 unfoldable pub toAdd : Call → List Key
 toAdd c = cond (selectsNothing c) [] (wouldAdd (operatorOf (c .operator)) c)
 

@@ -49,7 +49,7 @@ isNothing Universe = false
 isNothing (Numbered s) = false
 isNothing Nothing = true
 
--- request 1: the space of the call is read, and it is nothing
+-- request 1, "a row that selects nothing": the space of the call is read, and it is nothing
 unfoldable pub selectsNothing : Call → Bool
 selectsNothing c = (readsOf (c .operator) .s) && isNothing (c .s)
 

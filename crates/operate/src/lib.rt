@@ -45,7 +45,7 @@ fn name_word(x: u16) -> u32
     x as u32
 }
 
-// The number of a space; 0 for UNIVERSE, and for nothing, where no caller uses it.
+// The number of a space; 0 for UNIVERSE, and for nothing, without effect: here only calls that do not read their space have it.
 pub fn space_number(s: Space) -> u32
     ensures { λ r. ⌜ r ≡ spaceNumber s ⌝ }
     ensures fit { λ _. ⌜ spaceNumber s ≤ mostName ⌝ }

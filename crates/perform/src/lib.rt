@@ -1,5 +1,5 @@
 // The step of an operator on a store, where nothing stops the call.
-// `perform` and `idle` are pub for the crate above, which has proved what they require.
+// `perform` and `idle` are pub for the crate above, which has proved what `perform` requires.
 use model::Answer;
 use model::Call;
 use model::Operator;
@@ -31,7 +31,7 @@ fn space_is_first(o: u32) -> bool
     o <= 52
 }
 
-// The name of a space; 0 for UNIVERSE, and for nothing, where no answer has it.
+// The name of a space; 0 for UNIVERSE, and for nothing, which no call answers (12).
 fn space_name(s: Space) -> u16
     ensures { λ r. ⌜ r ≡ spaceNumber s ⌝ }
 {
@@ -70,7 +70,7 @@ fn destroy(b: &mut [u32], near: Near, r: Removal, c: Call)
     }
 }
 
-// What an operator answers with nothing as its space: no store is read or written. V does not come so far.
+// What an operator answers with nothing as its space: no store is read or written. Condition 12 stops V before.
 pub fn idle(op: Operator, c: Call) -> Answer
     ensures { λ r. ⌜ r ≡ answerOf (idleReply op c) ⌝ }
 {

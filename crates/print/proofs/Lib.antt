@@ -6,3 +6,4 @@ pub mod Entries
 pub mod Lengths
 pub mod Apart
 pub mod Examples
+pub mod OneLine

@@ -18,7 +18,7 @@ use Rattle.model.specs.Buffer.{word, capacityOf, tuplesOf}
 use Rattle.model.specs.Steps.{wouldList, wouldAdd}
 use Rattle.model.specs.Refusals.{Stop, stop, first, selectsNothing, listShort, full, ofCall, ofTuples, ifLookedUp, earlier, refusalOf}
 use Rattle.model.proofs.Bools.{equal, not-yes}
-use Rattle.model.proofs.Store.{chains-count}
+use Rattle.model.proofs.Store.{tuples-fit}
 use Rattle.model.proofs.Refusals.{everyNumber, first-number, asked, looked-up}
 use Rattle.chain.specs.Links.{Linked}
 use Rattle.edit.proofs.Built.{length-tuples}
@@ -100,12 +100,8 @@ pub would-add : (op known : Operator) (c : Call) (ts : Tuples) (x : ℕ) → op 
     → x ≡ length (missing (wouldAdd known c) ts) → x ≡ length (missing (wouldAdd (operatorOf (c .operator)) c) ts)
 would-add op known c ts x O K X = X ∙ ap (λ (o : Operator). length (missing (wouldAdd o c) ts)) (sym K ∙ O)
 
--- there are at most C tuples
-pub tuples-most : (b : List ℕ) → Linked b → length (tuplesOf b) ≤ capacityOf b
-tuples-most b L = omega (arith, length-tuples b, chains-count b _ _ (L .chains))
-
 pub used-fits : (b : List ℕ) (x y : ℕ) → Linked b → x ≡ word b 0 → y ≡ word b 3 → y ≤ x
-used-fits b x y L X Y = omega (arith, X, Y, L .chains .capacity, L .chains .counted, length-tuples b, tuples-most b L)
+used-fits b x y L X Y = omega (arith, X, Y, L .chains .capacity, L .chains .counted, length-tuples b, tuples-fit b (L .chains))
 
 pub free-told : (b : List ℕ) (x y : ℕ) → Linked b → x ≡ word b 0 → y ≡ word b 3 → x - y ≡ capacityOf b - length (tuplesOf b)
 free-told b x y L X Y = ap₂ _-_ (X ∙ L .chains .capacity) (Y ∙ L .chains .counted ∙ sym (length-tuples b))
@@ -119,4 +115,4 @@ left-over C t a h =
 pub full-told : (b : List ℕ) (c : Call) (f a : ℕ) → Linked b → f ≡ capacityOf b - length (tuplesOf b)
     → a ≡ length (missing (wouldAdd (operatorOf (c .operator)) c) (tuplesOf b)) → ltb f a ≡ full (capacityOf b) c (tuplesOf b)
 unfolding full
-full-told b c f a L F A = ap₂ ltb F A ∙ left-over (capacityOf b) (length (tuplesOf b)) _ (tuples-most b L)
+full-told b c f a L F A = ap₂ ltb F A ∙ left-over (capacityOf b) (length (tuplesOf b)) _ (tuples-fit b (L .chains))

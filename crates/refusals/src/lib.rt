@@ -1,4 +1,4 @@
-// Conditions 2 to 10 in their order: which one stops a call on a store whose space is to be looked up.
+// Conditions 2 to 10 in their order: which one stops a call on a store, but for one whose space is read and nothing (`selectsNothing`).
 use conditions::Located;
 use model::Call;
 use model::Listing;
@@ -78,7 +78,7 @@ fn is_full(b: &[u32], near: Near, universe: Near, op: Operator, c: Call) -> bool
 }
 
 // The number of the first of the conditions 2 to 10 that stops a call on a store; 0 for none. `room` is the length of the call's answer list.
-// pub for the crate above, which has proved that the buffer is a store and that the space of the call is to be looked up.
+// pub for the crate above, which has proved that the buffer is a store and that the call is not one with nothing.
 // `l` tells what the call names in its space; `universe` has hints in UNIVERSE. The operator is decoded where no condition on names stops the call.
 pub fn refusal_of(b: &[u32], l: Located, universe: Near, c: Call, room: usize) -> u32
     requires { ⌜ (isStore (now b) ≡ true) × Told (now b) c l × NearIn (now b) universe × (selectsNothing c ≡ false) ⌝ }

@@ -1,5 +1,5 @@
 -- A worked example of the words of calls and answers, by computation: CUS 9; CUN 7 9; BUN 7 3 9; XUN 7 9; SUS with a list of three places; VUN 7 9;
--- and a number that is no operator. A last word that is no whole call is not read.
+-- a number that is no operator; and VUN 7 with nothing as its space. A last word that is no whole call is not read.
 use mathlib.Core.List.{List, [], _∷_}
 use mathlib.Core.Path.{_≡_, refl}
 use Prim.Native.Nat.{ℕ}
@@ -20,6 +20,7 @@ exampleCalls =
     ∷ 56 ∷ 0 ∷ 0 ∷ 0 ∷ 0 ∷ 3
     ∷ 47 ∷ 7 ∷ 589824 ∷ 0 ∷ 1 ∷ 0
     ∷ 58 ∷ 0 ∷ 0 ∷ 0 ∷ 0 ∷ 0
+    ∷ 47 ∷ 7 ∷ 589824 ∷ 0 ∷ 2 ∷ 0
     ∷ 45
     ∷ []
 
@@ -29,8 +30,8 @@ exampleLists = 71 ∷ 72 ∷ 73 ∷ 74 ∷ []
 abbrev exampleMade : List CallMade
 exampleMade = callsMade 10 fresh (callsIn exampleCalls) exampleLists
 
-pub example-answers : answersAfter exampleMade (20 ∷ 21 ∷ 22 ∷ 23 ∷ 24 ∷ 25 ∷ 26 ∷ 27 ∷ 28 ∷ 29 ∷ 30 ∷ 31 ∷ 32 ∷ 33 ∷ 34 ∷ [])
-    ≡ 1 ∷ 9 ∷ 1 ∷ 7 ∷ 1 ∷ 7 ∷ 3 ∷ 1 ∷ 4 ∷ 2 ∷ 2 ∷ 3 ∷ 0 ∷ 2 ∷ 34 ∷ []
+pub example-answers : answersAfter exampleMade (20 ∷ 21 ∷ 22 ∷ 23 ∷ 24 ∷ 25 ∷ 26 ∷ 27 ∷ 28 ∷ 29 ∷ 30 ∷ 31 ∷ 32 ∷ 33 ∷ 34 ∷ 35 ∷ 36 ∷ [])
+    ≡ 1 ∷ 9 ∷ 1 ∷ 7 ∷ 1 ∷ 7 ∷ 3 ∷ 1 ∷ 4 ∷ 2 ∷ 2 ∷ 3 ∷ 0 ∷ 2 ∷ 0 ∷ 12 ∷ 36 ∷ []
 unfolding computed answerOf pack listAfter spaceOf callAt callsFrom callsIn kindOf numberOf callMade callsMade answersAfter
 example-answers = refl
 

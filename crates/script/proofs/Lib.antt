@@ -4,3 +4,4 @@ pub mod LineRuns
 pub mod Lines
 pub mod Turns
 pub mod Whole
+pub mod OutputLines

@@ -94,8 +94,9 @@ impl Refusal {
     pub const LIST_TOO_SHORT: Refusal = Refusal(9);
     /// The tuples present and those to add exceed the capacity.
     pub const FULL: Refusal = Refusal(10);
-    /// The operator has no answer where the space is nothing; tested after
-    /// [`NAME_ZERO`](Refusal::NAME_ZERO).
+    /// VOP, VIP, VUN and CUS to DUS: the space is nothing; tested after
+    /// [`NAME_ZERO`](Refusal::NAME_ZERO) and before
+    /// [`DESTROYS_UNIVERSE`](Refusal::DESTROYS_UNIVERSE).
     pub const NEEDS_SPACE: Refusal = Refusal(12);
 }
 
