@@ -497,9 +497,9 @@ mod tests {
         },
     ];
 
-    #[test]
-    fn each_wrong_call_fails() {
-        for (place, wrong) in WRONG_CALLS.into_iter().enumerate() {
+    /// Each of these calls fails, by words and by pairs.
+    fn each_fails(calls: &[OneCall]) {
+        for (place, &wrong) in calls.iter().enumerate() {
             let by_words = Library {
                 call: wrong,
                 ..HAND_WRITTEN
@@ -511,6 +511,11 @@ mod tests {
             assert!(fails(&by_words), "call {place}");
             assert!(fails(&by_pairs), "call_pairs {place}");
         }
+    }
+
+    #[test]
+    fn each_wrong_call_fails() {
+        each_fails(&WRONG_CALLS);
     }
 
     /// Calls that are wrong where the space is nothing: it is taken for
@@ -565,13 +570,7 @@ mod tests {
 
     #[test]
     fn each_wrong_call_on_nothing_fails() {
-        for (place, wrong) in WRONG_ON_NOTHING.into_iter().enumerate() {
-            let library = Library {
-                call: wrong,
-                ..HAND_WRITTEN
-            };
-            assert!(fails(&library), "call {place}");
-        }
+        each_fails(&WRONG_ON_NOTHING);
     }
 
     /// Runs that take the form 2 for a number, and 3 for nothing.
