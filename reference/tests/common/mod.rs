@@ -3,6 +3,7 @@
 
 pub mod compared;
 pub mod lent;
+pub mod page;
 
 use gaffdamson_reference::machine::Machine;
 use gaffdamson_reference::script;
