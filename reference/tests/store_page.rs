@@ -3,6 +3,7 @@
 mod common;
 
 use common::page;
+use gaffdamson_reference::library::{self, Library};
 use gaffdamson_reference::machine::{Key, Machine, Value};
 use gaffdamson_reference::operators::{self, Argument};
 use gaffdamson_reference::{buffer, chained, script};
@@ -63,22 +64,40 @@ fn the_example_is_a_store_with_the_listed_tuples() {
     assert_eq!(buffer::free_count(&words), free as usize);
 }
 
-/// The calls make the listed tuples; a store made by hand has the very words.
 #[test]
-fn the_example_is_what_its_calls_leave() {
+fn the_calls_of_the_example_make_the_listed_tuples() {
     let page = page::read("STORE.md");
-    let expected = example(&page);
-    let mut words = vec![BEFORE; expected.len()];
-    let capacity = chained::prepare(&mut words).expect("a length of stores");
+    let capacity = example(&page)[0];
     let mut machine = Machine::new(capacity as usize);
     for line in page::block(&page, "calls") {
-        let call = script::read_call(line.as_bytes(), 0).expect("a call");
-        machine.step(&call);
-        chained::execute(&mut words, &call, &mut []);
+        machine.step(&script::read_call(line.as_bytes(), 0).expect("a call"));
     }
     let tuples = machine.tuples().map(numbers_of);
     assert_eq!(tuples.collect::<Vec<_>>(), listed_tuples(&page));
+}
+
+/// Makes the calls of the example, which must leave its very words.
+fn make_example(library: &Library) {
+    let page = page::read("STORE.md");
+    let expected = example(&page);
+    let mut words = vec![BEFORE; expected.len()];
+    assert_eq!((library.prepare)(&mut words), Ok(expected[0]));
+    for line in page::block(&page, "calls") {
+        let call = script::read_call(line.as_bytes(), 0).expect("a call");
+        (library.call)(&mut words, &call, &mut []);
+    }
     assert_eq!(words, expected);
+}
+
+#[test]
+fn the_hand_written_store_makes_the_example() {
+    make_example(&library::HAND_WRITTEN);
+}
+
+#[cfg(feature = "rattle")]
+#[test]
+fn the_proved_store_makes_the_example() {
+    make_example(&library::PROVED);
 }
 
 #[test]
