@@ -79,8 +79,8 @@ static inline uint32_t gaffdamson_number(uint64_t answer) {
  *       10 to 12,297 words
  *   2   the operator is not 1 to 57
  *   3   a name that is read is 0
- *  12   VOP, VIP, VUN, CUS, BUS, VUS, XUS, DUS: the space is nothing; tested
- *       here, after 3 and before 4
+ *  12   VOP, VIP, VUN, CUS, BUS, VUS, XUS, DUS with no selection; tested here,
+ *       after 3 and before 4
  *   4   DUS on UNIVERSE
  *   5   the space is absent (not for CUS, XUS and DUS)
  *   6   node n is absent from the space (COP to SANG, BUN, VUN), or from
@@ -203,13 +203,13 @@ enum {
 };
 
 /*
- * The form of a call's space: UNIVERSE, nothing, or (any other number) the
- * space s. s is read in this last form alone.
+ * The form of a call's space: UNIVERSE, no selection (`-` in a script), or (any
+ * other number) the space s. s is read in this last form alone.
  *
- * With nothing, nothing is looked up in the graph and 5 to 10 are not tested: C,
- * B and D operators change no word and answer n, X operators say no, S
- * operators list nothing. V operators and CUS to DUS are refused, 12. Both SUS
- * do not read the space.
+ * With no selection the graph is not looked at and 5 to 10 are not tested: C, B
+ * and D operators change no word and answer n, X operators say no, S operators
+ * answer an empty list. V operators and CUS to DUS are refused, 12. Both SUS do
+ * not read the space.
  */
 enum {
     GAFFDAMSON_UNIVERSE = 0,

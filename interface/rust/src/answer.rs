@@ -94,7 +94,7 @@ impl Refusal {
     pub const LIST_TOO_SHORT: Refusal = Refusal(9);
     /// The tuples present and those to add exceed the capacity.
     pub const FULL: Refusal = Refusal(10);
-    /// VOP, VIP, VUN and CUS to DUS: the space is nothing; tested after
+    /// VOP, VIP, VUN and CUS to DUS with no selection; tested after
     /// [`NAME_ZERO`](Refusal::NAME_ZERO) and before
     /// [`DESTROYS_UNIVERSE`](Refusal::DESTROYS_UNIVERSE).
     pub const NEEDS_SPACE: Refusal = Refusal(12);
