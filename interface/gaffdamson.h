@@ -126,7 +126,7 @@ enum {
     /* n g m s: the edge's value in s. */
     GAFFDAMSON_VOP = 7,
     GAFFDAMSON_VIP = 8,
-    /* n g m s: is the edge in s? */
+    /* n g m s: is the edge in s? XAP says yes for either direction. */
     GAFFDAMSON_XOP = 9,
     GAFFDAMSON_XIP = 10,
     GAFFDAMSON_XAP = 11,
@@ -194,11 +194,12 @@ enum {
     GAFFDAMSON_VUS = 53,
     /* s: is it there? */
     GAFFDAMSON_XUS = 54,
-    /* s: removes s and all that is in it. */
+    /* s: removes s and what it holds. The nodes and edges themselves stay, in
+     * UNIVERSE and in other spaces. */
     GAFFDAMSON_DUS = 55,
-    /* Lists all spaces, UNIVERSE as 0. */
+    /* Lists all spaces, UNIVERSE first, as 0. */
     GAFFDAMSON_SUS = 56,
-    /* n: lists the spaces that hold n, UNIVERSE as 0. */
+    /* n: lists the spaces that hold n, UNIVERSE first, as 0. */
     GAFFDAMSON_SUS_OF_NODE = 57
 };
 

@@ -21,10 +21,10 @@ pub enum Space {
     Universe,
     /// The space of this name.
     Numbered(SpaceName),
-    /// No selection, `-` in a script: the graph is not looked at, and no word is
-    /// changed. C, B and D operators answer the first node, X operators say no,
-    /// S operators answer an empty list; V operators and CUS to DUS are refused,
-    /// 12. Both SUS do not read the space.
+    /// No selection, `-` in a script: the graph is not looked at, and no word
+    /// is changed. C, B and D operators answer the first node, X operators say
+    /// no, S operators answer an empty list; V operators and CUS to DUS are
+    /// refused, 12. Both SUS do not read the space.
     Nothing,
 }
 

@@ -115,9 +115,10 @@ pub const BUS: u32 = 52;
 pub const VUS: u32 = 53;
 /// `s`: is space s there?
 pub const XUS: u32 = 54;
-/// `s`: removes s and all that is in it.
+/// `s`: removes s and what it holds. The nodes and edges themselves stay, in
+/// UNIVERSE and in other spaces.
 pub const DUS: u32 = 55;
-/// Lists all spaces, UNIVERSE as 0.
+/// Lists all spaces, UNIVERSE first, as 0.
 pub const SUS: u32 = 56;
-/// `n`: lists the spaces that hold n, UNIVERSE as 0.
+/// `n`: lists the spaces that hold n, UNIVERSE first, as 0.
 pub const SUS_OF_NODE: u32 = 57;
