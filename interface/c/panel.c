@@ -21,7 +21,7 @@ typedef struct {
     uint16_t s;
 } call;
 
-/* The space of a call: selection s. A call that says nothing is on UNIVERSE. */
+/* The space of a call: selection s. A call without it is on UNIVERSE. */
 #define SELECTION(number) .form = GAFFDAMSON_NUMBERED, .s = (number)
 
 static const call building[] = {
