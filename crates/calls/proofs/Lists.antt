@@ -1,30 +1,35 @@
--- Demand 3 of the entry: calls of `execute` itself, one after the other, on a buffer that `prepare` has prepared.
--- It rests on what a caller of these functions learns from their own contracts (`Learnt`), so a weaker contract breaks it.
+-- Demands 1 and 3 of the entry: calls of `execute` and `execute_known` themselves, one after the other, on any buffer or on one that `prepare` has prepared.
+-- They rest on what a caller of these functions learns from their own contracts (`Learnt`), so a weaker contract breaks them.
 use mathlib.Core.Bool.{Bool, true, false}
-use mathlib.Core.List.{List, [], _∷_, _++_}
-use mathlib.Core.Path.{_≡_, refl}
-use Prim.Native.Nat.{ℕ, _≤_}
+use mathlib.Core.List.{List, _∷_, _++_, map, map-append}
+use mathlib.Core.Path.{_≡_, refl, ap, _∙_, subst}
+use Prim.Native.Nat.{ℕ, _+_, _*_, _≤_}
 use native.Mathlib.Omega.{arith}
 use lib.Dec.{leb}
-use lib.ListN.{length}
-use borrow.Author.Tests.{leb-true}
+use lib.ListN.{length, replicate, length-replicate}
+use borrow.Author.Tests.{leb-true, le-leb}
 use contract.Lifetimes.{Lfts}
 use borrow.Fn.Kinds.{Dens, resT, endedOf}
 use denote.Triple.Clauses.{AtExit}
 use Rattle.model.specs.declared.Preparation.{Preparation}
 use Rattle.model.specs.declared.Preparation.the-variants.{Capacity}
 use Rattle.model.specs.Tuples.{fresh}
-use Rattle.model.specs.Buffer.{fitsLength, capacityOf, Prepared, Preparing}
+use Rattle.model.specs.Buffer.{fitsLength, capacityOf, tuplesOf, isStore, Prepared, Preparing}
 use Rattle.model.specs.Refusals.{selectsNothing}
 use Rattle.model.specs.NoSelection.{WithoutEffect}
-use Rattle.model.specs.CallLists.{CallMade, Trace, end, then, requests, WholeList}
-use Rattle.model.proofs.Bools.{and-left, and-right}
-use Rattle.model.proofs.CallLists.{demand-3}
+use Rattle.model.specs.Traces.{Trace}
+use Rattle.model.specs.CallLists.{CallMade, OneMade, MeetsDemand1, Exchange, exchangeOf, requests, WholeList}
+use Rattle.model.proofs.Bools.{and-left, and-right, and-both, clash}
+use Rattle.model.proofs.Traces.{trace-each, trace-map}
+use Rattle.model.proofs.CallLists.{MachineStep, whole-list, one-call-machine, demand-3}
+use Rattle.model.proofs.Demand1.{one-call-demand-1}
 use Rattle.model.proofs.NoSelection.{nothing-without-effect}
 use Rattle.fresh.proofs.prepare.Kinds as prepare-kinds
 use Rattle.fresh.proofs.prepare.Reads as prepare-reads
 use Rattle.calls.proofs.execute.Kinds as kinds
 use Rattle.calls.proofs.execute.Reads as reads
+use Rattle.calls.proofs.execute_known.Kinds as known-kinds
+use Rattle.calls.proofs.execute_known.Reads as known-reads
 
 -- a call of `prepare`: the buffer before it, its answer, the buffer after it
 pub data PreparedBy : List ℕ → Preparation → List ℕ → Type 0 where
@@ -34,17 +39,28 @@ pub data PreparedBy : List ℕ → Preparation → List ℕ → Type 0 where
 pub prepared-preparing : {raw b : List ℕ} {r : Preparation} → PreparedBy raw r b → Preparing raw r b
 prepared-preparing (prepared κs a r e P) = P .0
 
--- "Each later call gets the buffer as the call before left it, answered or refused": calls of `execute`, from a buffer to a buffer
-pub data Executed : List ℕ → List CallMade → List ℕ → Type 0 where
-  no-call : {b : List ℕ} → Executed b [] b
-  call-then : {b″ : List ℕ} {xs : List CallMade} (κs : Lfts 2) (a : Dens κs kinds.ps) (r : resT kinds.r κs .Denot) (e : AtExit (endedOf 2 kinds.ps kinds.r) κs)
-      → reads.Learnt κs a r e → Executed (e .0 .now) xs b″
-      → Executed (a .0 .now) (record { call = a .1 .0; lent = a .1 .1 .0 .now; answer = r; left = e .1 .1 .0 .now } ∷ xs) b″
+-- a call of `execute`, or of `execute_known` on a store, from a buffer to a buffer
+pub data ExecutedBy : List ℕ → CallMade → List ℕ → Type 0 where
+  executed : (κs : Lfts 2) (a : Dens κs kinds.ps) (r : resT kinds.r κs .Denot) (e : AtExit (endedOf 2 kinds.ps kinds.r) κs)
+      → reads.Learnt κs a r e
+      → ExecutedBy (a .0 .now) (record { call = a .1 .0; lent = a .1 .1 .0 .now; answer = r; left = e .1 .1 .0 .now }) (e .0 .now)
+  executed-known : (κs : Lfts 2) (a : Dens κs known-kinds.ps) (r : resT known-kinds.r κs .Denot) (e : AtExit (endedOf 2 known-kinds.ps known-kinds.r) κs)
+      → isStore (a .0 .now) ≡ true → known-reads.Learnt κs a r e
+      → ExecutedBy (a .0 .now) (record { call = a .1 .0; lent = a .1 .1 .0 .now; answer = r; left = e .1 .1 .0 .now }) (e .0 .now)
 
--- each of them is one call as document 01 has it
-executed-trace : {b b′ : List ℕ} {xs : List CallMade} → Executed b xs b′ → Trace b xs b′
-executed-trace no-call = end
-executed-trace (call-then κs a r e one rest) = then one (executed-trace rest)
+-- it is one call as document 01 has it
+pub executed-one : {b b′ : List ℕ} {x : CallMade} → ExecutedBy b x b′ → OneMade b x b′
+executed-one (executed κs a r e one) = one
+executed-one (executed-known κs a r e store one) = record { noStore = λ no. absurd (clash store no); onStore = λ yes. one }
+
+-- calls one after the other, from a buffer to a buffer
+abbrev pub Executed : List ℕ → List CallMade → List ℕ → Type 0
+Executed b xs b′ = Trace ExecutedBy b xs b′
+
+executed-machine : (b b′ : List ℕ) (x : CallMade) → ExecutedBy b x b′ → MachineStep b (exchangeOf x) b′
+executed-machine b b′ x made = one-call-machine b b′ x (executed-one made)
+
+-- ---- preparing
 
 -- a buffer for which `prepare` answers C has that C, and C is 1 to 2,048
 capacity-prepared : (raw b : List ℕ) (C : ℕ) → Preparing raw (Capacity C) b → (capacityOf raw ≡ C) × Prepared raw b
@@ -61,26 +77,52 @@ bounds raw e =
     let high : length raw ≤ 12297 = leb-true (length raw) 12297 (and-right (leb 10 (length raw)) (leb (length raw) 12297) e) in
     (omega (arith, low), omega (arith, high))
 
--- demand 3 of calls on a buffer that is prepared
-pub prepared-demand-3 : (raw b b′ : List ℕ) (C : ℕ) (xs : List CallMade) → capacityOf raw ≡ C → Prepared raw b → Trace b xs b′ → WholeList C fresh xs b′
-prepared-demand-3 raw b b′ C xs size P calls =
-    let C′ = bounds raw (P .fits) in
-    demand-3 C raw b b′ xs (omega (arith, size, C′ .0)) (omega (arith, size, C′ .1)) size P calls
-
 -- where `prepare` answers C, the buffer has that C and is prepared
 pub prepared-by : (raw b : List ℕ) (C : ℕ) → PreparedBy raw (Capacity C) b → (capacityOf raw ≡ C) × Prepared raw b
 prepared-by raw b C P = capacity-prepared raw b C (prepared-preparing P)
 
--- demand 3: for every C that `prepare` answers, the buffer that it leaves and every list of calls of `execute`
-pub entry-demand-3 : (raw b b′ : List ℕ) (C : ℕ) (xs : List CallMade) → PreparedBy raw (Capacity C) b → Executed b xs b′ → WholeList C fresh xs b′
+-- that C is 1 to 2,048 ..
+pub capacity-bounds : (raw b : List ℕ) (C : ℕ) → PreparedBy raw (Capacity C) b → (1 ≤ C) × (C ≤ 2048)
+capacity-bounds raw b C P =
+    let Q = prepared-by raw b C P in
+    let C′ = bounds raw (Q .1 .fits) in
+    (omega (arith, Q .0, C′ .0), omega (arith, Q .0, C′ .1))
+
+-- .. and `prepare` answers each of these for a buffer of 4 + 6 × C words
+pub every-capacity : (C : ℕ) → 1 ≤ C → C ≤ 2048 → (raw : List ℕ) × ((b : List ℕ) (r : Preparation) → PreparedBy raw r b → r ≡ Capacity C)
+unfolding fitsLength capacityOf
+every-capacity C least most =
+    let raw : List ℕ = replicate (4 + 6 * C) 0 in
+    let size : length raw ≡ 4 + 6 * C = length-replicate (4 + 6 * C) 0 in
+    let fits : fitsLength raw ≡ true = and-both _ _ (le-leb 10 (length raw) (omega (arith, size))) (le-leb (length raw) 12297 (omega (arith, size))) in
+    let records : capacityOf raw ≡ C = omega (arith, size) in
+    (raw, λ b r P. prepared-preparing P .inside fits .0 ∙ ap Capacity records)
+
+-- ---- demands 1 and 3
+
+-- demand 1: of every call of `execute` and `execute_known`
+pub entry-demand-1 : (b b′ : List ℕ) (x : CallMade) → ExecutedBy b x b′ → MeetsDemand1 b x b′
+entry-demand-1 b b′ x made = one-call-demand-1 b (x .lent) (x .call) (x .answer) b′ (x .left) (executed-one made)
+
+-- demand 3: for every C that `prepare` answers, the buffer that it leaves and every list of calls
+pub entry-demand-3 : (raw b b′ : List ℕ) (C : ℕ) (xs : List CallMade) → PreparedBy raw (Capacity C) b → Executed b xs b′ → WholeList C fresh (map exchangeOf xs) b′
 entry-demand-3 raw b b′ C xs P calls =
     let Q = prepared-by raw b C P in
-    prepared-demand-3 raw b b′ C xs (Q .0) (Q .1) (executed-trace calls)
+    let C′ = capacity-bounds raw b C P in
+    demand-3 C raw b b′ xs (C′ .0) (C′ .1) (Q .0) (Q .1) (trace-each (λ s s′ x made. executed-one made) calls)
 
--- request 1: calls of `execute` on one fresh store, and the same calls with one more among them that has nothing as its space, wherever it stands:
+-- the same claim of a list of calls from any store, not only a fresh one
+pub entry-any-store : (b b′ : List ℕ) (xs : List CallMade) → isStore b ≡ true → Executed b xs b′
+    → WholeList (capacityOf b) (tuplesOf b) (map exchangeOf xs) b′
+entry-any-store b b′ xs store calls = whole-list (trace-map MachineStep exchangeOf executed-machine calls) store
+
+-- request 1: calls on one fresh store, and the same calls with one more among them that has no selection, wherever it stands:
 -- all other answers and the tuples are the same
 pub entry-nothing : (raw b b′ b″ : List ℕ) (C : ℕ) (xs : List CallMade) (x : CallMade) (ys zs : List CallMade) → selectsNothing (x .call) ≡ true
-    → requests zs ≡ requests (xs ++ ys) → PreparedBy raw (Capacity C) b → Executed b (xs ++ (x ∷ ys)) b′ → Executed b zs b″
-    → WithoutEffect C fresh xs x ys b′ zs b″
+    → requests (map exchangeOf zs) ≡ requests (map exchangeOf (xs ++ ys)) → PreparedBy raw (Capacity C) b → Executed b (xs ++ (x ∷ ys)) b′ → Executed b zs b″
+    → WithoutEffect C fresh (map exchangeOf xs) (exchangeOf x) (map exchangeOf ys) b′ (map exchangeOf zs) b″
 entry-nothing raw b b′ b″ C xs x ys zs e same P with-it without-it =
-    nothing-without-effect C fresh xs x ys b′ zs b″ e same (entry-demand-3 raw b b′ C (xs ++ (x ∷ ys)) P with-it) (entry-demand-3 raw b b″ C zs P without-it)
+    nothing-without-effect C fresh (map exchangeOf xs) (exchangeOf x) (map exchangeOf ys) b′ (map exchangeOf zs) b″ e
+    (same ∙ ap requests (map-append exchangeOf xs ys))
+    (subst (λ (es : List Exchange). WholeList C fresh es b′) (map-append exchangeOf xs (x ∷ ys)) (entry-demand-3 raw b b′ C (xs ++ (x ∷ ys)) P with-it))
+    (entry-demand-3 raw b b″ C zs P without-it)

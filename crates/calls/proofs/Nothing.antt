@@ -20,7 +20,7 @@ use Rattle.model.specs.Machine.{Outcome}
 use Rattle.model.specs.OneCall.{answerOf, listAfter, OnStore}
 use Rattle.model.specs.NoSelection.{refusalOr, nothingReply}
 use Rattle.model.proofs.Bools.{and-left, and-right}
-use Rattle.model.proofs.CallLists.{idle-unwritten}
+use Rattle.model.proofs.Demand1.{nothing-unwritten}
 use Rattle.model.proofs.NoSelection.{nothing-idle}
 use Rattle.decode.proofs.Refused.{reads-space-operator}
 
@@ -81,22 +81,13 @@ module _ (c : Call) (e : selectsNothing c ≡ true) where
 
 -- ---- on a store
 
--- no place of the answer list is written
-unwritten : (c : Call) (l : List ℕ) → l ≡ listAfter (nothingReply c) l
-unfolding nothingReply refusalOr listAfter
-unwritten c l = go (first (ofCall c))
-  where
-    go : (r : Option ℕ) → l ≡ listAfter (refusalOr (idleReply (operatorOf (c .operator)) c) r) l
-    go (some number) = refl
-    go none = idle-unwritten (operatorOf (c .operator)) c l
-
 pub nothing-known : (b l : List ℕ) (c : Call) (a : Answer) (t : Bool) → isStore b ≡ true → t ≡ selectsNothing c → t ≡ true → a ≡ answerOf (nothingReply c)
     → OnStore b l c a b l
 nothing-known b l c a t e T y A =
     let m = nothing-idle (capacityOf b) (tuplesOf b) c (length l) (sym T ∙ y) in
     record {
       answer = A ∙ sym (ap (λ (o : Outcome). answerOf (o .answer)) m);
-      list = unwritten c l ∙ sym (ap (λ (o : Outcome). listAfter (o .answer) l) m);
+      list = sym (nothing-unwritten c l) ∙ sym (ap (λ (o : Outcome). listAfter (o .answer) l) m);
       store = e;
       tuples = sym (ap (λ (o : Outcome). o .state) m);
       size = refl;

@@ -3,15 +3,17 @@ use mathlib.Core.Bool.{Bool, true, false, cond, not}
 use mathlib.Core.List.{List, [], _∷_, map}
 use mathlib.Core.Logic.{_≢_}
 use mathlib.Core.Path.{_≡_, refl, sym, ap, ap₂, _∙_, subst}
-use Prim.Native.Nat.{ℕ, _≤_}
+use Prim.Native.Nat.{ℕ, _+_, _≤_}
 use native.Mathlib.Omega.{arith}
 use lib.Dec.{eqb}
-use borrow.Author.Tests.{eq-eqb}
+use lib.ListN.{set}
+use lib.Seq.{getD-set-other}
+use borrow.Author.Tests.{eq-eqb, ne-eqb}
 use Rattle.model.specs.declared.Key.{Key}
 use Rattle.model.specs.Ordered.{holds, Ascending}
 use Rattle.model.specs.Keys.{Value, Tuple, keyOf, spaceKey, compareKeys, sameKey}
 use Rattle.model.specs.Tuples.{Tuples, present, assign}
-use Rattle.model.specs.Buffer.{word, capacityOf, next, keyAt, tupleAt, usedOf, freeOf, tuplesOf, count}
+use Rattle.model.specs.Buffer.{word, recordStart, capacityOf, next, keyAt, tupleAt, usedOf, freeOf, tuplesOf, count}
 use Rattle.model.specs.Rules.{Chain, ChainRules}
 use Rattle.model.proofs.Bools.{clash, or-no-left, or-no-right}
 use Rattle.model.proofs.Order.{keys}
@@ -25,6 +27,7 @@ use Rattle.chain.specs.Links.{Linked, KeepsHints, findIn, Edited}
 use Rattle.model.proofs.Store.{used-of}
 use Rattle.chain.proofs.Found.{present-found, found-inside}
 use Rattle.chain.proofs.Paths.{counted-within}
+use Rattle.edit.specs.Edits.{assignIn, Assigned}
 use Rattle.edit.proofs.Built.{edited, unedited}
 
 -- a key that is missing is assigned nothing
@@ -142,15 +145,38 @@ hints-kept b k v at I L i H h =
       split = used-of (putValue b at v) (usedOf b) (freeOf b) (value-rules b k v at I (usedOf b) (freeOf b) (L .chains)) ∙ R .split;
     }
 
-pub value-set : (b : List ℕ) (k : Key) (v : Value) (at : ℕ) → Linked b → at ≡ findIn (keyAt b) k (usedOf b) → at ≢ 0
-    → (b′ : List ℕ) → b′ ≡ putValue b at v → Edited b b′ (assign k v (tuplesOf b)) × KeepsHints b b′
-value-set b k v at L e d b′ same =
+-- the value of a key that a record holds is set ..
+pub value-set : (b : List ℕ) (k : Key) (v : Value) (at : ℕ) (b′ : List ℕ) → Linked b → at ≡ findIn (keyAt b) k (usedOf b) → at ≢ 0 → b′ ≡ putValue b at v
+    → Assigned b k v b′
+unfolding assignIn
+value-set b k v at b′ L e d same =
     let I = found-inside b k at L e d in
-    subst (λ (x : List ℕ). Edited b x (assign k v (tuplesOf b)) × KeepsHints b x) (sym same) (value-put b k v at I L e d, hints-kept b k v at I L)
+    let held : eqb at 0 ≡ false = ne-eqb at 0 d in
+    subst (Assigned b k v) (sym same)
+    (record {
+      words = ap (λ (t : Bool). cond t b (putValue b at v)) (sym held) ∙ ap (λ (i : ℕ). cond (eqb i 0) b (putValue b i v)) e;
+      edited = value-put b k v at I L e d;
+      hints = hints-kept b k v at I L;
+    })
 
--- nothing is set where the key is missing
-pub value-unset : (b : List ℕ) (k : Key) (v : Value) (at : ℕ) → Linked b → at ≡ findIn (keyAt b) k (usedOf b) → at ≡ 0
-    → Edited b b (assign k v (tuplesOf b))
+-- .. and nothing is set where the key is missing
+pub value-unset : (b : List ℕ) (k : Key) (v : Value) (at : ℕ) → Linked b → at ≡ findIn (keyAt b) k (usedOf b) → at ≡ 0 → Assigned b k v b
+unfolding assignIn
 value-unset b k v at L e z =
-    unedited b (assign k v (tuplesOf b)) L
-    (sym (assign-absent k v (tuplesOf b) (present-found b k L ∙ ap (λ (i : ℕ). not (eqb i 0)) (sym e) ∙ ap not (eq-eqb at 0 z))))
+    record {
+      words = sym (ap (λ (i : ℕ). cond (eqb i 0) b (putValue b i v)) (sym e ∙ z));
+      edited =
+          unedited b (assign k v (tuplesOf b)) L
+          (sym (assign-absent k v (tuplesOf b) (present-found b k L ∙ ap (λ (i : ℕ). not (eqb i 0)) (sym e) ∙ ap not (eq-eqb at 0 z))));
+      hints = λ i H. H;
+    }
+
+-- no word but the value word of the record found is another afterwards
+pub assigned-other : (b : List ℕ) (k : Key) (v : Value) (b′ : List ℕ) (i : ℕ) → Assigned b k v b′ → i ≢ recordStart (findIn (keyAt b) k (usedOf b)) + 5
+    → word b′ i ≡ word b i
+unfolding assignIn putValue
+assigned-other b k v b′ i A d = ap (λ (x : List ℕ). word x i) (A .words) ∙ go (eqb (findIn (keyAt b) k (usedOf b)) 0)
+  where
+    go : (t : Bool) → word (cond t b (set b (recordStart (findIn (keyAt b) k (usedOf b)) + 5) v)) i ≡ word b i
+    go true = refl
+    go false = getD-set-other b (recordStart (findIn (keyAt b) k (usedOf b)) + 5) i v 0 d

@@ -7,11 +7,11 @@ use select::Span;
 ghost use mathlib.Core.Path.{_≡_};
 ghost use mathlib.Core.Bool.{false};
 ghost use Rattle.model.specs.Keys.{spaceKey};
-ghost use Rattle.model.specs.Tuples.{present, add, assign, remove};
+ghost use Rattle.model.specs.Tuples.{present, add, remove};
 ghost use Rattle.model.specs.Buffer.{next, keyAt, usedOf, tuplesOf};
 ghost use Rattle.chain.specs.Links.{Linked, Hint, KeepsHints, placeIn, Edited, Unlinking};
 ghost use Rattle.select.specs.Selections.{takenBy};
-ghost use Rattle.edit.specs.Edits.{Adding, Turned, sweepStart};
+ghost use Rattle.edit.specs.Edits.{Adding, Assigned, Turned, sweepStart};
 
 // Is a key present, by the record at its place. Public for the crates above, which have sought the place.
 pub fn held_at(b: &[u32], k: Key, at: usize) -> bool
@@ -37,11 +37,10 @@ pub fn add_missing(b: &mut [u32], hint: usize, k: Key)
     chain::insert_after(b, place.before, k, 0);
 }
 
-// Sets the value of a key; a key that is missing stays so.
+// Sets the value of a key; a key that is missing stays so. No word is written but the value word of the record that holds the key.
 pub fn assign_value(b: &mut [u32], hint: usize, k: Key, v: u32)
     requires { ⌜ Linked (now b) × Hint (now b) hint ⌝ }
-    ensures { λ _. ⌜ Edited (now (b .entry)) (now (b .exit)) (assign k v (tuplesOf (now (b .entry)))) ⌝ }
-    ensures hints { λ _. ⌜ KeepsHints (now (b .entry)) (now (b .exit)) ⌝ }
+    ensures { λ _. ⌜ Assigned (now (b .entry)) k v (now (b .exit)) ⌝ }
 {
     let at = chain::find(b, hint, k);
     if at == 0 {

@@ -2,3 +2,4 @@ pub mod Outcomes
 pub mod Apart
 pub mod Lists
 pub mod PairLists
+pub mod Doors

@@ -1,7 +1,7 @@
--- Demand 3 of the C functions: calls of `gaffdamson_call`, one after the other, on a buffer that `gaffdamson_prepare` has prepared.
--- It rests on what a caller of these functions learns from their own contracts (`Learnt`), so a weaker contract breaks it.
+-- Demands 1 and 3 of the C functions: calls of `gaffdamson_call`, one after the other, and of `gaffdamson_run`, on any buffer or on one that `gaffdamson_prepare` has prepared.
+-- They rest on what a caller of these functions learns from their own contracts (`Learnt`), so a weaker contract breaks them.
 use mathlib.Core.Bool.{Bool, true, false, cond}
-use mathlib.Core.List.{List, [], _∷_}
+use mathlib.Core.List.{List, map}
 use mathlib.Core.Path.{_≡_, refl, sym, ap, _∙_, subst}
 use Prim.Native.Nat.{ℕ}
 use native.Mathlib.Omega.{arith}
@@ -14,8 +14,13 @@ use Rattle.model.specs.declared.Preparation.the-variants.{Refused, Capacity}
 use Rattle.model.specs.Tuples.{fresh}
 use Rattle.model.specs.Buffer.{fitsLength, capacityOf, Prepared}
 use Rattle.model.specs.OneCall.{OneCall}
-use Rattle.model.specs.CallLists.{CallMade, Trace, end, then, WholeList}
-use Rattle.calls.proofs.Lists.{prepared-demand-3}
+use Rattle.model.specs.Traces.{Trace}
+use Rattle.model.specs.CallLists.{CallMade, OneMade, MeetsDemand1, exchangeOf, WholeList}
+use Rattle.model.proofs.Traces.{trace-map}
+use Rattle.model.proofs.CallLists.{MachineStep, one-call-machine, whole-prepared}
+use Rattle.model.proofs.Demand1.{one-call-demand-1}
+use Rattle.run.specs.Runs.{Ran, RunDemand1, WholeRun}
+use Rattle.run.proofs.Demand.{ran-demand-1, ran-prepared}
 use Rattle.gaffdamson.specs.Numbers.{packed, packedPreparation, answerIn}
 use Rattle.gaffdamson.specs.Calls.{callOf, Called, preparationOf, PreparedAs}
 use Rattle.gaffdamson.proofs.Apart.{answer-back}
@@ -23,6 +28,8 @@ use Rattle.gaffdamson.proofs.gaffdamson_prepare.Kinds as prepare-kinds
 use Rattle.gaffdamson.proofs.gaffdamson_prepare.Reads as prepare-reads
 use Rattle.gaffdamson.proofs.gaffdamson_call.Kinds as kinds
 use Rattle.gaffdamson.proofs.gaffdamson_call.Reads as reads
+use Rattle.gaffdamson.proofs.gaffdamson_run.Kinds as run-kinds
+use Rattle.gaffdamson.proofs.gaffdamson_run.Reads as run-reads
 
 -- a call of `gaffdamson_prepare`: the buffer before it, its answer, the buffer after it
 pub data PreparedFromC : List ℕ → ℕ → List ℕ → Type 0 where
@@ -32,27 +39,37 @@ pub data PreparedFromC : List ℕ → ℕ → List ℕ → Type 0 where
 prepared-from-c : {raw b : List ℕ} {r : ℕ} → PreparedFromC raw r b → PreparedAs raw r b
 prepared-from-c (prepared κs a r e P) = P
 
--- calls of `gaffdamson_call` one after the other, from a buffer to a buffer; of the number that each answers, the answer that a caller reads in it
-pub data CalledFromC : List ℕ → List CallMade → List ℕ → Type 0 where
-  no-call : {b : List ℕ} → CalledFromC b [] b
-  call-then : {b″ : List ℕ} {xs : List CallMade} (κs : Lfts 2) (a : Dens κs kinds.ps) (r : resT kinds.r κs .Denot) (e : AtExit (endedOf 2 kinds.ps kinds.r) κs)
-      → reads.Learnt κs a r e → CalledFromC (e .0 .now) xs b″
+-- a call of `gaffdamson_call`, from a buffer to a buffer; of the number that it answers, the answer that a caller reads in it
+pub data CalledFromC : List ℕ → CallMade → List ℕ → Type 0 where
+  called-from-c : (κs : Lfts 2) (a : Dens κs kinds.ps) (r : resT kinds.r κs .Denot) (e : AtExit (endedOf 2 kinds.ps kinds.r) κs)
+      → reads.Learnt κs a r e
       → CalledFromC (a .0 .now)
       (record {
         call = callOf (a .1 .0) (a .1 .1 .0) (a .1 .1 .1 .0) (a .1 .1 .1 .1 .0) (a .1 .1 .1 .1 .1 .0) (a .1 .1 .1 .1 .1 .1 .0) (a .1 .1 .1 .1 .1 .1 .1 .0);
         lent = a .1 .1 .1 .1 .1 .1 .1 .1 .0 .now;
         answer = answerIn r;
         left = e .1 .1 .1 .1 .1 .1 .1 .1 .0 .now;
-      } ∷ xs)
-      b″
+      })
+      (e .0 .now)
 
--- each of them is one call as document 01 has it
-called-one : (b l : List ℕ) (c : Call) (r : ℕ) (b′ l′ : List ℕ) → Called b l c r b′ l′ → OneCall b l c (answerIn r) b′ l′
-called-one b l c r b′ l′ K = subst (λ (x : Answer). OneCall b l c x b′ l′) (sym (answer-back _ r (K .answer))) (K .call)
+-- it is one call as document 01 has it
+read-in-number : (b l : List ℕ) (c : Call) (r : ℕ) (b′ l′ : List ℕ) → Called b l c r b′ l′ → OneCall b l c (answerIn r) b′ l′
+read-in-number b l c r b′ l′ K = subst (λ (x : Answer). OneCall b l c x b′ l′) (sym (answer-back _ r (K .answer))) (K .call)
 
-called-trace : {b b′ : List ℕ} {xs : List CallMade} → CalledFromC b xs b′ → Trace b xs b′
-called-trace no-call = end
-called-trace (call-then κs a r e one rest) = then (called-one _ _ _ r _ _ one) (called-trace rest)
+pub called-one : {b b′ : List ℕ} {x : CallMade} → CalledFromC b x b′ → OneMade b x b′
+called-one (called-from-c κs a r e K) = read-in-number _ _ _ r _ _ K
+
+-- a call of `gaffdamson_run`: its four slices before it, its answer, three of them after it
+pub data RunFromC : List ℕ → List ℕ → List ℕ → List ℕ → ℕ → List ℕ → List ℕ → List ℕ → Type 0 where
+  run-from-c : (κs : Lfts 4) (a : Dens κs run-kinds.ps) (r : resT run-kinds.r κs .Denot) (e : AtExit (endedOf 4 run-kinds.ps run-kinds.r) κs)
+      → run-reads.Learnt κs a r e
+      → RunFromC (a .0 .now) (a .1 .0 .now) (a .1 .1 .0 .now) (a .1 .1 .1 .0 .now) r (e .0 .now) (e .1 .1 .0 .now) (e .1 .1 .1 .0 .now)
+
+pub c-ran : {b calls answers lists b′ answers′ lists′ : List ℕ} {r : ℕ} → RunFromC b calls answers lists r b′ answers′ lists′
+    → Ran b calls answers lists r b′ answers′ lists′
+c-ran (run-from-c κs a r e R) = R
+
+-- ---- preparing
 
 -- where preparing answers the number of C, the buffer has that C and is prepared
 prepared-c : (raw b : List ℕ) (C r : ℕ) → PreparedAs raw r b → r ≡ packedPreparation (Capacity C) → (capacityOf raw ≡ C) × Prepared raw b
@@ -70,8 +87,28 @@ prepared-c raw b C r P e = go (fitsLength raw) refl
 pub c-prepared : (raw b : List ℕ) (C : ℕ) → PreparedFromC raw (packedPreparation (Capacity C)) b → (capacityOf raw ≡ C) × Prepared raw b
 c-prepared raw b C P = prepared-c raw b C _ (prepared-from-c P) refl
 
--- demand 3: for every C that preparing answers, the buffer that it leaves and every list of calls
-pub c-demand-3 : (raw b b′ : List ℕ) (C : ℕ) (xs : List CallMade) → PreparedFromC raw (packedPreparation (Capacity C)) b → CalledFromC b xs b′ → WholeList C fresh xs b′
+-- ---- demands 1 and 3
+
+-- demand 1: of every call of `gaffdamson_call` ..
+pub c-demand-1 : (b b′ : List ℕ) (x : CallMade) → CalledFromC b x b′ → MeetsDemand1 b x b′
+c-demand-1 b b′ x made = one-call-demand-1 b (x .lent) (x .call) (x .answer) b′ (x .left) (called-one made)
+
+-- .. of every run of `gaffdamson_run`, and of each call of it
+pub c-run-demand-1 : (b calls answers lists : List ℕ) (r : ℕ) (b′ answers′ lists′ : List ℕ) → RunFromC b calls answers lists r b′ answers′ lists′
+    → RunDemand1 b calls answers lists r b′ answers′ lists′
+c-run-demand-1 b calls answers lists r b′ answers′ lists′ made = ran-demand-1 b calls answers lists b′ answers′ lists′ r (c-ran made)
+
+-- demand 3: for every C that preparing answers, the buffer that it leaves and every list of calls ..
+pub c-demand-3 : (raw b b′ : List ℕ) (C : ℕ) (xs : List CallMade) → PreparedFromC raw (packedPreparation (Capacity C)) b → Trace CalledFromC b xs b′
+    → WholeList C fresh (map exchangeOf xs) b′
 c-demand-3 raw b b′ C xs P calls =
     let Q = c-prepared raw b C P in
-    prepared-demand-3 raw b b′ C xs (Q .0) (Q .1) (called-trace calls)
+    whole-prepared raw b b′ C (map exchangeOf xs) (Q .0) (Q .1)
+    (trace-map MachineStep exchangeOf (λ s s′ x made. one-call-machine s s′ x (called-one made)) calls)
+
+-- .. and every run that answers 0
+pub c-run-demand-3 : (raw b calls answers lists b′ answers′ lists′ : List ℕ) (C : ℕ) → PreparedFromC raw (packedPreparation (Capacity C)) b
+    → RunFromC b calls answers lists 0 b′ answers′ lists′ → WholeRun C fresh calls answers lists b′ answers′ lists′
+c-run-demand-3 raw b calls answers lists b′ answers′ lists′ C P made =
+    let Q = c-prepared raw b C P in
+    ran-prepared b calls answers lists b′ answers′ lists′ raw C (Q .0) (Q .1) (c-ran made)

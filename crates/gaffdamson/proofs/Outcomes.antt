@@ -14,7 +14,7 @@ use Rattle.model.specs.declared.Preparation.the-variants.{Refused, Capacity}
 use Rattle.model.specs.Machine.{machine}
 use Rattle.model.specs.Buffer.{fitsLength, capacityOf, tuplesOf, isStore, Preparing}
 use Rattle.model.specs.OneCall.{answerOf, listCount, pack, OneCall}
-use Rattle.calls.proofs.Counts.{answer-most}
+use Rattle.model.proofs.Counts.{answer-most}
 use Rattle.fresh.specs.Prepare.{afterPreparing}
 use Rattle.pairs.specs.InPairs.{CallInPairs}
 use Rattle.gaffdamson.specs.Numbers.{PackedAs, packedPreparation}

@@ -1,6 +1,6 @@
--- Demand 3 of the C functions with lists of pairs: calls of `gaffdamson_call_pairs`, one after the other, on a buffer that `gaffdamson_prepare` has prepared.
--- It rests on what these functions ensure by their own contracts (`Learnt`), so a weaker contract breaks it.
-use mathlib.Core.List.{List, [], _∷_}
+-- Demands 1 and 3 of the C functions with lists of pairs: calls of `gaffdamson_call_pairs`, one after the other, on any buffer or on one that `gaffdamson_prepare` has prepared.
+-- They rest on what these functions ensure by their own contracts (`Learnt`), so a weaker contract breaks them.
+use mathlib.Core.List.{List, map}
 use mathlib.Core.Path.{refl, sym, subst}
 use Prim.Native.Nat.{ℕ}
 use base.Logic.{emp}
@@ -14,8 +14,12 @@ use Rattle.model.specs.declared.Call.{Call}
 use Rattle.model.specs.declared.Pair.{Pair}
 use Rattle.model.specs.declared.Preparation.the-variants.{Capacity}
 use Rattle.model.specs.Tuples.{fresh}
-use Rattle.pairs.specs.InPairs.{CallInPairs, PairsMade, TraceInPairs, pairs-end, pairs-then, WholeInPairs}
-use Rattle.pairs.proofs.Lists.{prepared-in-pairs}
+use Rattle.model.specs.Traces.{Trace}
+use Rattle.model.specs.CallLists.{MeetsDemand1, WholeList}
+use Rattle.model.proofs.Traces.{trace-map}
+use Rattle.model.proofs.CallLists.{MachineStep, whole-prepared}
+use Rattle.pairs.specs.InPairs.{CallInPairs, PairsMade, OneInPairs, exchangeInPairs}
+use Rattle.pairs.proofs.Lists.{pairs-machine, pairs-meet-demand-1}
 use Rattle.gaffdamson.specs.Numbers.{packedPreparation, answerIn}
 use Rattle.gaffdamson.specs.Calls.{callOf, CalledInPairs}
 use Rattle.gaffdamson.proofs.Apart.{answer-back}
@@ -31,30 +35,34 @@ clause κs a r e = all-models _ (λ w. r-last _) (λ w. refl) (λ w. refl) (λ w
 abbrev pub Learnt : (κs : Lfts 2) (a : ArgsD call-pairs.signature κs) (r : ResD call-pairs.signature κs) (e : AtExit call-pairs.ended κs) → Type 0
 Learnt κs a r e = AllOf (clause κs a r e .tells)
 
--- calls of `gaffdamson_call_pairs` one after the other, from a buffer to a buffer; of the number that each answers, the answer that a caller reads in it
-pub data CalledInPairsFromC : List ℕ → List PairsMade → List ℕ → Type 0 where
-  no-call : {b : List ℕ} → CalledInPairsFromC b [] b
-  call-then : {b″ : List ℕ} {xs : List PairsMade} (κs : Lfts 2) (a : ArgsD call-pairs.signature κs) (r : ResD call-pairs.signature κs) (e : AtExit call-pairs.ended κs)
-      → Learnt κs a r e → CalledInPairsFromC (e .0 .now) xs b″
+-- a call of `gaffdamson_call_pairs`, from a buffer to a buffer; of the number that it answers, the answer that a caller reads in it
+pub data CalledInPairsFromC : List ℕ → PairsMade → List ℕ → Type 0 where
+  called-from-c : (κs : Lfts 2) (a : ArgsD call-pairs.signature κs) (r : ResD call-pairs.signature κs) (e : AtExit call-pairs.ended κs)
+      → Learnt κs a r e
       → CalledInPairsFromC (a .0 .now)
       (record {
         call = callOf (a .1 .0) (a .1 .1 .0) (a .1 .1 .1 .0) (a .1 .1 .1 .1 .0) (a .1 .1 .1 .1 .1 .0) (a .1 .1 .1 .1 .1 .1 .0) (a .1 .1 .1 .1 .1 .1 .1 .0);
         lent = a .1 .1 .1 .1 .1 .1 .1 .1 .0 .now;
         answer = answerIn r;
         left = e .1 .1 .1 .1 .1 .1 .1 .1 .0 .now;
-      } ∷ xs)
-      b″
+      })
+      (e .0 .now)
 
--- each of them is one call in pairs
-called-one : (b : List ℕ) (l : List Pair) (c : Call) (r : ℕ) (b′ : List ℕ) (l′ : List Pair) → CalledInPairs b l c r b′ l′ → CallInPairs b l c (answerIn r) b′ l′
-called-one b l c r b′ l′ K = subst (λ (x : Answer). CallInPairs b l c x b′ l′) (sym (answer-back _ r (K .answer))) (K .call)
+-- it is one call in pairs
+read-in-number : (b : List ℕ) (l : List Pair) (c : Call) (r : ℕ) (b′ : List ℕ) (l′ : List Pair) → CalledInPairs b l c r b′ l′ → CallInPairs b l c (answerIn r) b′ l′
+read-in-number b l c r b′ l′ K = subst (λ (x : Answer). CallInPairs b l c x b′ l′) (sym (answer-back _ r (K .answer))) (K .call)
 
-called-trace : {b b′ : List ℕ} {xs : List PairsMade} → CalledInPairsFromC b xs b′ → TraceInPairs b xs b′
-called-trace no-call = pairs-end
-called-trace (call-then κs a r e one rest) = pairs-then (called-one _ _ _ r _ _ one) (called-trace rest)
+pub called-in-pairs : {b b′ : List ℕ} {x : PairsMade} → CalledInPairsFromC b x b′ → OneInPairs b x b′
+called-in-pairs (called-from-c κs a r e K) = read-in-number _ _ _ r _ _ K
+
+-- demand 1: of every call
+pub c-pairs-demand-1 : (b b′ : List ℕ) (x : PairsMade) → CalledInPairsFromC b x b′ → MeetsDemand1 b x b′
+c-pairs-demand-1 b b′ x made = pairs-meet-demand-1 b b′ x (called-in-pairs made)
 
 -- demand 3: for every C that preparing answers, the buffer that it leaves and every list of calls with lists of pairs
-pub c-pairs-demand-3 : (raw b b′ : List ℕ) (C : ℕ) (xs : List PairsMade) → PreparedFromC raw (packedPreparation (Capacity C)) b → CalledInPairsFromC b xs b′ → WholeInPairs C fresh xs b′
+pub c-pairs-demand-3 : (raw b b′ : List ℕ) (C : ℕ) (xs : List PairsMade) → PreparedFromC raw (packedPreparation (Capacity C)) b → Trace CalledInPairsFromC b xs b′
+    → WholeList C fresh (map exchangeInPairs xs) b′
 c-pairs-demand-3 raw b b′ C xs P calls =
     let Q = c-prepared raw b C P in
-    prepared-in-pairs raw b b′ C xs (Q .0) (Q .1) (called-trace calls)
+    whole-prepared raw b b′ C (map exchangeInPairs xs) (Q .0) (Q .1)
+    (trace-map MachineStep exchangeInPairs (λ s s′ x made. pairs-machine s s′ x (called-in-pairs made)) calls)

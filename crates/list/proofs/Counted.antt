@@ -3,19 +3,19 @@ use mathlib.Core.Bool.{Bool, true, false, cond}
 use mathlib.Core.List.{List, [], _∷_, _++_, map, append-assoc}
 use mathlib.Core.Logic.{_≢_, inl, inr}
 use mathlib.Core.Path.{_≡_, refl, sym, ap, ap₂, _∙_}
-use Prim.Native.Nat.{ℕ, suc, _+_, _-_, _*_, _≤_, _<_, Ordering, Ordering·lt, Ordering·eq, Ordering·gt}
+use Prim.Native.Nat.{ℕ, suc, _+_, _-_, _*_, _≤_, _<_}
 use native.Mathlib.Omega.{arith}
 use native.Mathlib.Numerals.{add-one}
 use lib.Dec.{ltb}
 use lib.ListN.{length, drop, set, getD, length-append, length-map, length-drop}
 use lib.Seq.{drop-cons, set-at}
 use Rattle.model.specs.declared.Pair.{Pair}
-use Rattle.model.specs.Ordered.{byOrder, put}
-use Rattle.model.specs.Pairs.{comparePairs, itself, ascending, gather}
+use Rattle.model.specs.Pairs.{gather}
 use Rattle.model.specs.OneCall.{pack}
 use Rattle.model.specs.Tuples.{Tuples}
 use Rattle.model.specs.Buffer.{tupleAt, usedOf, freeOf, tuplesOf}
 use Rattle.model.proofs.Store.{chains-count, capacity-most}
+use Rattle.model.proofs.Counts.{length-ascending}
 use Rattle.list.specs.declared.Query.{Query}
 use Rattle.list.specs.Queries.{firstAt, secondAt, queried, code, codes, leastFrom, Readable, written}
 use Rattle.list.proofs.Members.{entriesAt, Single, single-first, single-second, decoded, list-code}
@@ -82,22 +82,6 @@ module _ (b : List ℕ) (q : Query) (R : Readable b) where
     count-end z = L .count ∙ ap length (list-end z) ∙ length-map (queried q (tuplesOf b)) code
 
 -- ---- how many there are
-
-length-put : (p : Pair) (ps : List Pair) → length (put itself comparePairs p ps) ≤ suc (length ps)
-unfolding put
-length-put p [] = omega arith
-length-put p (q ∷ ps) = go (comparePairs p q) (length-put p ps)
-  where
-    go : (o : Ordering) → length (put itself comparePairs p ps) ≤ suc (length ps)
-        → length (byOrder o (p ∷ q ∷ ps) (q ∷ ps) (q ∷ put itself comparePairs p ps)) ≤ suc (suc (length ps))
-    go Ordering·lt h = omega arith
-    go Ordering·eq h = omega arith
-    go Ordering·gt h = omega arith
-
-pub length-ascending : (ps : List Pair) → length (ascending ps) ≤ length ps
-unfolding ascending
-length-ascending [] = omega arith
-length-ascending (p ∷ ps) = omega (arith, length-put p (ascending ps), length-ascending ps)
 
 pub length-single : (ps : List Pair) → Single ps → length ps ≤ 1
 length-single ps (inl e) = omega (arith, ap length e)

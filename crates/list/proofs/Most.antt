@@ -16,13 +16,14 @@ use Rattle.model.specs.Pairs.{gather}
 use Rattle.model.specs.Tuples.{Tuples}
 use Rattle.model.specs.Buffer.{word, tupleAt, usedOf, freeOf, tuplesOf}
 use Rattle.model.proofs.Store.{chains-count, capacity-most}
+use Rattle.model.proofs.Counts.{length-ascending}
 use Rattle.chain.specs.Links.{Linked}
 use lib.ListN.{length-map}
 use Rattle.list.specs.declared.Query.{Query}
 use Rattle.list.specs.declared.Query.the-variants.{Pairs, Nodes, Spaces, SpacesOf}
 use Rattle.list.specs.Queries.{chosen, secondPairs, firstAt, secondAt, queried, hasSecond, givesTwo, mostOf}
 use Rattle.list.proofs.Members.{entriesAt, single-first}
-use Rattle.list.proofs.Counted.{length-ascending, length-single, length-queried}
+use Rattle.list.proofs.Counted.{length-single, length-queried}
 
 second-none : (d : Direction) → hasSecond d ≡ false → (n : ℕ) (k : Key) → secondPairs d n k ≡ []
 unfolding hasSecond secondPairs

@@ -12,8 +12,6 @@ use Rattle.model.specs.Tuples.{Tuples, present, anyPresent, valueAt, add
 use Rattle.model.specs.declared.Direction.the-variants.{Outpointing, Inpointing, Adjacent}
 use Rattle.model.specs.declared.Object.{Object}
 use Rattle.model.specs.declared.Operator.the-variants.{Create, Exists}
-use Rattle.model.specs.declared.Direction.the-variants.{Outpointing, Inpointing, Adjacent}
-use Rattle.model.specs.declared.Operator.the-variants.{Create, Exists}
 use Rattle.model.specs.Pairs.{pair}
 use Rattle.model.specs.Steps.{yesNo, nOf, gOf, mOf, sOf, objectKeys, created, reply, after}
 use Rattle.model.specs.Rules.{Has}
@@ -116,8 +114,14 @@ Asked Object.US c ts = Has (spaceKey (sOf c)) ts
 yes-said : {b : Bool} → yesNo b ≡ yesNo true → b ≡ true
 yes-said e = cc
 
--- X says yes exactly when what it asks is there (g is not 0: condition 3)
-pub exists-exactly : (o : Object) (c : Call) (ts : Tuples) → gOf c ≢ 0 → (reply (Exists o) c ts ≡ yesNo true) ↔ Asked o c ts
+-- where an edge is asked for, its name is not 0: condition 3 sees to it
+abbrev pub EdgeNamed : Object → Call → Type 0
+EdgeNamed (Object.P d) c = gOf c ≢ 0
+EdgeNamed Object.UN c = Unit {0}
+EdgeNamed Object.US c = Unit {0}
+
+-- X says yes exactly when what it asks is there
+pub exists-exactly : (o : Object) (c : Call) (ts : Tuples) → EdgeNamed o c → (reply (Exists o) c ts ≡ yesNo true) ↔ Asked o c ts
 unfolding reply objectKeys anyPresent
 exists-exactly (Object.P Outpointing) c ts g = (λ e. (g, sym (or-false _) ∙ yes-said e), λ h. ap yesNo (or-false _ ∙ h .1))
 exists-exactly (Object.P Inpointing) c ts g = (λ e. (g, sym (or-false _) ∙ yes-said e), λ h. ap yesNo (or-false _ ∙ h .1))

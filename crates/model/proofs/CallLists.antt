@@ -2,8 +2,7 @@
 -- and leave its tuples (specs/CallLists.antt).
 use mathlib.Core.Bool.{true}
 use mathlib.Core.List.{List, [], _∷_, map}
-use mathlib.Core.Logic.{_↔_, ⊎-elim}
-use mathlib.Core.Option.{Option, none, some}
+use mathlib.Core.Logic.{⊎-elim}
 use mathlib.Core.Path.{_≡_, refl, sym, ap, ap₂, _∙_, subst}
 use Prim.Native.Nat.{ℕ, _+_, _-_, _*_, _/_, _%_, _≤_}
 use native.Mathlib.Omega.{arith}
@@ -11,30 +10,27 @@ use lib.ListN.{length, drop, length-append, length-drop, length-map}
 use lib.Seq.{take-at}
 use Rattle.model.specs.declared.Call.{Call}
 use Rattle.model.specs.declared.Answer.{Answer}
-use Rattle.model.specs.declared.Answer.the-variants.{Refusal}
 use Rattle.model.specs.declared.Pair.{Pair}
 use Rattle.model.specs.Keys.{mostName}
 use Rattle.model.specs.Tuples.{Tuples, fresh}
 use Rattle.model.specs.declared.Direction.{Direction}
 use Rattle.model.specs.declared.Direction.the-variants.{Outpointing, Inpointing, Adjacent}
 use Rattle.model.specs.declared.Listing.{Listing}
-use Rattle.model.specs.declared.Operator.{Operator}
-use Rattle.model.specs.declared.Operator.the-variants.{Create, Bind, Value as Values, Exists, Destroy, List as Lists}
-use Rattle.model.specs.Operators.{operatorOf}
 use Rattle.model.specs.Pairs.{pair, edgeOf, nodeOf}
-use Rattle.model.specs.Steps.{Reply, refusal, name, valued, yesNo, pairs, nOf, sOf, listed, reply, idleReply}
-use Rattle.model.specs.Refusals.{selectsNothing, refusalOf}
-use Rattle.model.specs.Machine.{State, Outcome, step, idle, outcomeOf, machine, answers, final}
-use Rattle.model.specs.Buffer.{capacityOf, tupleAt, usedOf, freeOf, tuplesOf, isStore}
+use Rattle.model.specs.Steps.{Reply, pairs, nOf, sOf, listed}
+use Rattle.model.specs.Machine.{State, machine, answers, final}
+use Rattle.model.specs.Buffer.{capacityOf, tupleAt, usedOf, freeOf, tuplesOf, isStore, Prepared}
 use Rattle.model.specs.Rules.{TupleRules}
 use Rattle.model.specs.Entries.{PointsOut, PointsIn, IsPair, Entry}
-use Rattle.model.specs.OneCall.{answerOf, listCount, nameCount, pack, unpack, listAfter, observed, OnStore, OneCall}
-use Rattle.model.specs.CallLists.{CallMade, Trace, end, then, requestOf, requests, FullExactly, WholeList, Demand3}
+use Rattle.model.specs.Traces.{Trace, end, then}
+use Rattle.model.specs.OneCall.{answerOf, listCount, nameCount, pack, unpack, listAfter, observed, OnStore}
+use Rattle.model.specs.CallLists.{CallMade, OneMade, Exchange, exchangeOf, requests, FullExactly, WholeList, Demand3}
 use Rattle.model.proofs.Taken.{EveryPair}
 use Rattle.model.proofs.Entries.{listed-sound}
 use Rattle.model.proofs.Steps.{every-member}
-use Rattle.model.proofs.Refusals.{either-outcome, full-exactly}
+use Rattle.model.proofs.Refusals.{answer-form, full-exactly}
 use Rattle.model.proofs.Store.{store-rules, chains-count, tuples-fit}
+use Rattle.model.proofs.Traces.{trace-map}
 use Rattle.model.proofs.Prepared.{prepared-capacity, prepared-store, prepared-tuples}
 
 -- ---- pairs and words
@@ -98,91 +94,28 @@ observed-list ps l h =
     ap (λ (ws : List ℕ). pairs (length ps) (map unpack ws)) (take-at (map pack ps) (drop (length ps) l) (length ps) (length-map ps pack))
     ∙ ap (pairs (length ps)) (unpack-pack-all ps h)
 
-observed-reply : (op : Operator) (c : Call) (ts : Tuples) (l : List ℕ) → TupleRules ts → observed (answerOf (reply op c ts)) (listAfter (reply op c ts) l) ≡ reply op c ts
-unfolding reply observed answerOf
-observed-reply (Create o) c ts l R = refl
-observed-reply (Bind o) c ts l R = refl
-observed-reply (Values o) c ts l R = refl
-observed-reply (Exists o) c ts l R = refl
-observed-reply (Destroy r) c ts l R = refl
-observed-reply (Lists x) c ts l R = observed-list (listed x c ts) l (listed-small ts R x c)
-
--- with nothing as the space no pair is listed, and no place of the list is written
-pub idle-lists-none : (op : Operator) (c : Call) → listCount (answerOf (idleReply op c)) ≡ 0
-unfolding idleReply answerOf listCount
-idle-lists-none (Create o) c = refl
-idle-lists-none (Bind o) c = refl
-idle-lists-none (Values o) c = refl
-idle-lists-none (Exists o) c = refl
-idle-lists-none (Destroy r) c = refl
-idle-lists-none (Lists x) c = refl
-
-pub idle-unwritten : (op : Operator) (c : Call) (l : List ℕ) → l ≡ listAfter (idleReply op c) l
-unfolding idleReply listAfter
-idle-unwritten (Create o) c l = refl
-idle-unwritten (Bind o) c l = refl
-idle-unwritten (Values o) c l = refl
-idle-unwritten (Exists o) c l = refl
-idle-unwritten (Destroy r) c l = refl
-idle-unwritten (Lists x) c l = refl
-
-observed-idle : (op : Operator) (c : Call) (l : List ℕ) → observed (answerOf (idleReply op c)) (listAfter (idleReply op c) l) ≡ idleReply op c
-unfolding idleReply observed answerOf
-observed-idle (Create o) c l = refl
-observed-idle (Bind o) c l = refl
-observed-idle (Values o) c l = refl
-observed-idle (Exists o) c l = refl
-observed-idle (Destroy r) c l = refl
-observed-idle (Lists x) c l = refl
-
 pub observed-machine : (C : ℕ) (ts : Tuples) (c : Call) (room : ℕ) (l : List ℕ) → TupleRules ts
     → observed (answerOf (machine C ts c room .answer)) (listAfter (machine C ts c room .answer) l) ≡ machine C ts c room .answer
-unfolding machine outcomeOf observed answerOf
-observed-machine C ts c room l R = go (refusalOf C ts c room)
-  where
-    go : (r : Option ℕ) → observed (answerOf (outcomeOf r ts c .answer)) (listAfter (outcomeOf r ts c .answer) l) ≡ outcomeOf r ts c .answer
-    go (some number) = refl
-    go none =
-        either-outcome (λ (o : Outcome). observed (answerOf (o .answer)) (listAfter (o .answer) l) ≡ o .answer) (selectsNothing c) (idle c ts) (step c ts)
-        (λ e. observed-idle (operatorOf (c .operator)) c l) (λ e. observed-reply (operatorOf (c .operator)) c ts l R)
-
--- an answer is the refusal 10 exactly when the machine's is
-answer-ten : (r : Reply) → (answerOf r ≡ Refusal 10) ↔ (r ≡ refusal 10)
-unfolding answerOf
-answer-ten (refusal n) = (λ e. cc, λ e. cc)
-answer-ten (name x) = (λ e. cc, λ e. cc)
-answer-ten (valued v) = (λ e. cc, λ e. cc)
-answer-ten (yesNo b) = (λ e. cc, λ e. cc)
-answer-ten (pairs k ps) = (λ e. cc, λ e. cc)
+unfolding observed answerOf
+observed-machine C ts c room l R =
+    answer-form (λ (r : Reply). observed (answerOf r) (listAfter r l) ≡ r) C ts c room (λ number. refl) (λ x. refl) (λ v. refl) (λ b. refl) refl
+    (λ x. observed-list (listed x c ts) l (listed-small ts R x c))
 
 -- an answer of the machine lists no more pairs than its list has places
-listed-within : (C : ℕ) (ts : State) (c : Call) (room : ℕ) (l : List ℕ) → length (listAfter (machine C ts c room .answer) l) ≡ length l
+listed-in-list : (C : ℕ) (ts : State) (c : Call) (room : ℕ) (l : List ℕ) → length (listAfter (machine C ts c room .answer) l) ≡ length l
     → listCount (answerOf (machine C ts c room .answer)) ≤ length l
-unfolding machine outcomeOf reply idleReply listAfter answerOf listCount
-listed-within C ts c room l = go (refusalOf C ts c room)
-  where
-    of-reply : (op : Operator) → length (listAfter (reply op c ts) l) ≡ length l → listCount (answerOf (reply op c ts)) ≤ length l
-    of-reply (Create o) e = omega arith
-    of-reply (Bind o) e = omega arith
-    of-reply (Values o) e = omega arith
-    of-reply (Exists o) e = omega arith
-    of-reply (Destroy r) e = omega arith
-    of-reply (Lists x) e =
-        let ps : List Pair = listed x c ts in
-        omega (arith, e, length-append (map pack ps) (drop (length ps) l), length-map ps pack, length-drop (length ps) l)
-
-    Within : Outcome → Type 0
-    Within o = length (listAfter (o .answer) l) ≡ length l → listCount (answerOf (o .answer)) ≤ length l
-
-    go : (r : Option ℕ) → Within (outcomeOf r ts c)
-    go (some number) = λ e. omega arith
-    go none =
-        either-outcome Within (selectsNothing c) (idle c ts) (step c ts) (λ t e. omega (arith, idle-lists-none (operatorOf (c .operator)) c)) (λ t e. of-reply (operatorOf (c .operator)) e)
+unfolding listAfter answerOf listCount
+listed-in-list C ts c room l =
+    answer-form (λ (r : Reply). length (listAfter r l) ≡ length l → listCount (answerOf r) ≤ length l) C ts c room (λ number e. omega arith)
+    (λ x e. omega arith) (λ v e. omega arith) (λ b e. omega arith) (λ e. omega arith)
+    (λ x e.
+    let ps : List Pair = listed x c ts in
+    omega (arith, e, length-append (map pack ps) (drop (length ps) l), length-map ps pack, length-drop (length ps) l))
 
 -- .. nor does a call on a store
 pub answer-within : (b l b′ l′ : List ℕ) (c : Call) (a : Answer) → OnStore b l c a b′ l′ → length l′ ≡ length l → listCount a ≤ length l
 answer-within b l b′ l′ c a O e =
-    subst (λ (x : Answer). listCount x ≤ length l) (sym (O .answer)) (listed-within (capacityOf b) (tuplesOf b) c (length l) l (ap length (sym (O .list)) ∙ e))
+    subst (λ (x : Answer). listCount x ≤ length l) (sym (O .answer)) (listed-in-list (capacityOf b) (tuplesOf b) c (length l) l (ap length (sym (O .list)) ∙ e))
 
 -- ---- the whole list
 
@@ -191,7 +124,7 @@ unfolding capacityOf
 capacity-size b b′ e = ap (λ (l : ℕ). (l - 4) / 6) e
 
 -- nothing is left to be done
-pub no-calls : (b : List ℕ) → isStore b ≡ true → WholeList (capacityOf b) (tuplesOf b) [] b
+no-calls : (b : List ℕ) → isStore b ≡ true → WholeList (capacityOf b) (tuplesOf b) [] b
 unfolding answers final tuplesOf
 no-calls b e =
     let R = store-rules b e in
@@ -205,40 +138,65 @@ no-calls b e =
       fullExactly = tt;
     }
 
+-- what demand 3 needs of one call on a store, by whatever door it is made: the machine's answer, and a store of the same length with the machine's tuples
+pub record AsMachine (b : List ℕ) (x : Exchange) (b′ : List ℕ) : Type 0 where
+  pub reply : x .reply ≡ machine (capacityOf b) (tuplesOf b) (x .request .call) (x .request .room) .answer
+  pub store : isStore b′ ≡ true
+  pub tuples : tuplesOf b′ ≡ machine (capacityOf b) (tuplesOf b) (x .request .call) (x .request .room) .state
+  pub size : length b′ ≡ length b
+
+abbrev pub MachineStep : List ℕ → Exchange → List ℕ → Type 0
+MachineStep b x b′ = isStore b ≡ true → AsMachine b x b′
+
 -- one call before a list of calls
-pub one-more : (b b′ b″ : List ℕ) (x : CallMade) (xs : List CallMade) → isStore b ≡ true → OneCall b (x .lent) (x .call) (x .answer) b′ (x .left)
+one-more : (b b′ b″ : List ℕ) (x : Exchange) (xs : List Exchange) → isStore b ≡ true → AsMachine b x b′
     → WholeList (capacityOf b′) (tuplesOf b′) xs b″ → WholeList (capacityOf b) (tuplesOf b) (x ∷ xs) b″
-unfolding answers final tuplesOf
-one-more b b′ b″ x xs e one W =
-    let O = one .onStore e in
+unfolding answers final
+one-more b b′ b″ x xs e A W =
     let C : ℕ = capacityOf b in
     let ts : State = tuplesOf b in
-    let R : TupleRules ts = store-rules b e .tuples in
-    let same : capacityOf b′ ≡ C = capacity-size b b′ (O .size) in
-    let r : Reply = machine C ts (x .call) (length (x .lent)) .answer in
-    let told : observed (x .answer) (x .left) ≡ r
-    = ap₂ observed (O .answer) (O .list) ∙ observed-machine C ts (x .call) (length (x .lent)) (x .lent) R in
-    let ten = full-exactly C ts (requestOf x) (tuples-fit b (store-rules b e .chains)) in
+    let same : capacityOf b′ ≡ C = capacity-size b b′ (A .size) in
+    let ten = full-exactly C ts (x .request) (tuples-fit b (store-rules b e .chains)) in
     record {
-      answered = ap₂ _∷_ told (W .answered ∙ ap₂ (λ (D : ℕ) (us : State). answers D us (requests xs)) same (O .tuples));
+      answered = ap₂ _∷_ (A .reply) (W .answered ∙ ap₂ (λ (D : ℕ) (us : State). answers D us (requests xs)) same (A .tuples));
       store = W .store;
-      held = W .held ∙ ap₂ (λ (D : ℕ) (us : State). final D us (requests xs)) same (O .tuples);
+      held = W .held ∙ ap₂ (λ (D : ℕ) (us : State). final D us (requests xs)) same (A .tuples);
       once = W .once;
       records = W .records ∙ same;
       nothingMissing = W .nothingMissing;
       fullExactly = (
-        (λ a. ten .0 (answer-ten r .0 (sym (O .answer) ∙ a)), λ h. O .answer ∙ answer-ten r .1 (ten .1 h)),
-        subst (λ (us : State). FullExactly C us xs) (O .tuples) (subst (λ (D : ℕ). FullExactly D (tuplesOf b′) xs) same (W .fullExactly)),
+        (λ a. ten .0 (sym (A .reply) ∙ a), λ h. A .reply ∙ ten .1 h),
+        subst (λ (us : State). FullExactly C us xs) (A .tuples) (subst (λ (D : ℕ). FullExactly D (tuplesOf b′) xs) same (W .fullExactly)),
       );
     }
 
 -- a list of calls from any store
-pub any-store : {b b′ : List ℕ} {xs : List CallMade} → Trace b xs b′ → isStore b ≡ true → WholeList (capacityOf b) (tuplesOf b) xs b′
-any-store (end {b = b}) e = no-calls b e
-any-store (then {b = b} {b′ = b′} {b″ = b″} {x = x} {xs = xs} one rest) e =
-    one-more b b′ b″ x xs e one (any-store rest (one .onStore e .store))
+pub whole-list : {b b′ : List ℕ} {xs : List Exchange} → Trace MachineStep b xs b′ → isStore b ≡ true → WholeList (capacityOf b) (tuplesOf b) xs b′
+whole-list (end {s = b}) e = no-calls b e
+whole-list (then {s = b} {s′ = b′} {s″ = b″} {x = x} {xs = xs} one rest) e = one-more b b′ b″ x xs e (one e) (whole-list rest (one e .store))
+
+-- .. and from a buffer just prepared
+pub whole-prepared : (raw b b′ : List ℕ) (C : ℕ) (xs : List Exchange) → capacityOf raw ≡ C → Prepared raw b → Trace MachineStep b xs b′ → WholeList C fresh xs b′
+whole-prepared raw b b′ C xs size P trace =
+    subst (λ (D : ℕ). WholeList D fresh xs b′) (prepared-capacity raw b P ∙ size)
+    (subst (λ (ts : State). WholeList (capacityOf b) ts xs b′) (prepared-tuples raw b P) (whole-list trace (prepared-store raw b P)))
+
+-- a call of the entry is such a call
+pub one-call-machine : (b b′ : List ℕ) (x : CallMade) → OneMade b x b′ → MachineStep b (exchangeOf x) b′
+unfolding tuplesOf
+one-call-machine b b′ x one e =
+    let O = one .onStore e in
+    record {
+      reply =
+          ap₂ observed (O .answer) (O .list)
+          ∙ observed-machine (capacityOf b) (tuplesOf b) (x .call) (length (x .lent)) (x .lent) (store-rules b e .tuples);
+      store = O .store;
+      tuples = O .tuples;
+      size = O .size;
+    }
+
+pub machine-trace : {b b′ : List ℕ} {xs : List CallMade} → Trace OneMade b xs b′ → Trace MachineStep b (map exchangeOf xs) b′
+machine-trace trace = trace-map MachineStep exchangeOf one-call-machine trace
 
 pub demand-3 : Demand3
-demand-3 C raw b b′ xs least most size P trace =
-    subst (λ (D : ℕ). WholeList D fresh xs b′) (prepared-capacity raw b P ∙ size)
-    (subst (λ (ts : State). WholeList (capacityOf b) ts xs b′) (prepared-tuples raw b P) (any-store trace (prepared-store raw b P)))
+demand-3 C raw b b′ xs least most size P trace = whole-prepared raw b b′ C (map exchangeOf xs) size P (machine-trace trace)

@@ -11,7 +11,10 @@ pub mod Answers
 pub mod Chains
 pub mod Store
 pub mod Prepared
+pub mod Traces
 pub mod CallLists
+pub mod Counts
 pub mod Cases
 pub mod Unread
 pub mod NoSelection
+pub mod Demand1

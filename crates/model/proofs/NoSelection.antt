@@ -1,16 +1,18 @@
 -- Request 1 (specs/NoSelection.antt): a call with nothing leaves the state and, wherever it stands in a list, changes no other answer.
-use mathlib.Core.Bool.{true}
-use mathlib.Core.List.{List, [], _∷_, _++_}
+use mathlib.Core.Bool.{true, false}
+use mathlib.Core.List.{List, [], _∷_, _++_, map-append}
 use mathlib.Core.Option.{Option, none, some}
 use mathlib.Core.Path.{_≡_, refl, sym, ap, _∙_}
 use Prim.Native.Nat.{ℕ}
 use Rattle.model.specs.declared.Call.{Call}
-use Rattle.model.specs.Steps.{Reply}
+use Rattle.model.specs.Keys.{Value}
+use Rattle.model.specs.Operators.{operatorOf}
+use Rattle.model.specs.Steps.{Reply, refusal, name, valued, yesNo, pairs, idleReply}
 use Rattle.model.specs.Refusals.{selectsNothing, first, ofCall}
 use Rattle.model.specs.Machine.{State, Outcome, Request, idle, outcomeOf, machine, answers, final}
-use Rattle.model.specs.CallLists.{CallMade, requestOf, requests, WholeList}
+use Rattle.model.specs.CallLists.{Exchange, requests, WholeList}
 use Rattle.model.specs.NoSelection.{refusalOr, nothingReply, WithoutEffect, NoSelection}
-use Rattle.model.proofs.Refusals.{not-looked-up}
+use Rattle.model.proofs.Refusals.{not-looked-up, idle-form}
 use Rattle.model.proofs.Cases.{computed}
 
 -- "C, B and D change nothing ..": whatever the state, C and the list, the answer is that of the call alone, and the state stays
@@ -21,6 +23,16 @@ nothing-idle C ts c room e = ap (λ (r : Option ℕ). outcomeOf r ts c) (not-loo
     go : (r : Option ℕ) → outcomeOf r ts c ≡ record { answer = refusalOr (idle c ts .answer) r; state = ts }
     go (some number) = refl
     go none = rw e
+
+-- the answer is a refusal, a name, a value, a no or an empty list
+pub nothing-form : (P : Reply → Type 0) → ((number : ℕ) → P (refusal number)) → ((x : ℕ) → P (name x)) → ((v : Value) → P (valued v)) → P (yesNo false)
+    → P (pairs 0 []) → (c : Call) → P (nothingReply c)
+unfolding nothingReply refusalOr
+nothing-form P refused named valued-as no-said none-listed c = go (first (ofCall c))
+  where
+    go : (r : Option ℕ) → P (refusalOr (idleReply (operatorOf (c .operator)) c) r)
+    go (some number) = refused number
+    go none = idle-form P named valued-as no-said none-listed (operatorOf (c .operator)) c
 
 -- ---- in a list of calls
 
@@ -54,24 +66,20 @@ module _ (C : ℕ) (ts : State) (xs : List Request) (r : Request) (ys : List Req
 
 -- ---- in a list of calls that were made
 
-requests-append : (xs ys : List CallMade) → requests (xs ++ ys) ≡ requests xs ++ requests ys
-requests-append [] ys = refl
-requests-append (x ∷ xs) ys = ap (λ (rs : List Request). requestOf x ∷ rs) (requests-append xs ys)
-
 -- where demand 3 holds of a list with such a call and of the list without it
-pub nothing-without-effect : (C : ℕ) (ts : State) (xs : List CallMade) (x : CallMade) (ys : List CallMade) (b : List ℕ) (zs : List CallMade) (b″ : List ℕ)
-    → selectsNothing (x .call) ≡ true → requests zs ≡ requests (xs ++ ys) → WholeList C ts (xs ++ (x ∷ ys)) b → WholeList C ts zs b″
+pub nothing-without-effect : (C : ℕ) (ts : State) (xs : List Exchange) (x : Exchange) (ys : List Exchange) (b : List ℕ) (zs : List Exchange) (b″ : List ℕ)
+    → selectsNothing (x .request .call) ≡ true → requests zs ≡ requests (xs ++ ys) → WholeList C ts (xs ++ (x ∷ ys)) b → WholeList C ts zs b″
     → WithoutEffect C ts xs x ys b zs b″
 nothing-without-effect C ts xs x ys b zs b″ e same W W₀ =
-    let with-it = requests-append xs (x ∷ ys) in
-    let without-it = same ∙ requests-append xs ys in
+    let with-it = map-append (λ (y : Exchange). y .request) xs (x ∷ ys) in
+    let without-it = same ∙ map-append (λ (y : Exchange). y .request) xs ys in
     record {
-      withIt = W .answered ∙ ap (answers C ts) with-it ∙ nothing-answers C ts (requests xs) (requestOf x) (requests ys) e;
+      withIt = W .answered ∙ ap (answers C ts) with-it ∙ nothing-answers C ts (requests xs) (x .request) (requests ys) e;
       withoutIt = W₀ .answered ∙ ap (answers C ts) without-it ∙ answers-append C ts (requests xs) (requests ys);
       sameTuples =
           W .held
           ∙ ap (final C ts) with-it
-          ∙ nothing-final C ts (requests xs) (requestOf x) (requests ys) e
+          ∙ nothing-final C ts (requests xs) (x .request) (requests ys) e
           ∙ sym (ap (final C ts) without-it)
           ∙ sym (W₀ .held);
     }

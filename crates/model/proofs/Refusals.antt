@@ -12,6 +12,8 @@ use borrow.Author.Tests.{ltb-true, lt-ltb}
 use Rattle.model.specs.declared.Call.{Call}
 use Rattle.model.specs.declared.Pair.{Pair}
 use Rattle.model.specs.declared.Key.{Key}
+use Rattle.model.specs.declared.Listing.{Listing}
+use Rattle.model.specs.Keys.{Value}
 use Rattle.model.specs.Tuples.{Tuples, present, missing, remove}
 use Rattle.model.specs.declared.Direction.{Direction}
 use Rattle.model.specs.declared.Operator.{Operator}
@@ -19,7 +21,7 @@ use Rattle.model.specs.declared.Operator.the-variants.{Create, Bind, Val
 use Rattle.model.specs.declared.Removal.{Removal}
 use Rattle.model.specs.Operators.{operatorOf}
 use Rattle.model.specs.Pairs.{nodeOf, pairsOf, nodeNames, withEdge, anyPair}
-use Rattle.model.specs.Steps.{Reply, refusal, name, valued, yesNo, pairs, nOf, gOf, sOf, nodeTaken, removeNodes, destroyed, wouldAdd, reply, idleReply, after}
+use Rattle.model.specs.Steps.{Reply, refusal, name, valued, yesNo, pairs, nOf, gOf, sOf, nodeTaken, removeNodes, destroyed, wouldAdd, listed, reply, idleReply, after}
 use Rattle.model.specs.Refusals.{Stop, stop, first, selectsNothing, noOperator, zeroName, lacksSpace, destroysUniverse, spaceAbsent, nodeAbsent, secondAbsent, edgeAbsent, listShort, full, ofCall, ofTuples, ifLookedUp, earlier, refusalOf}
 use Rattle.model.specs.Machine.{State, Outcome, Request, step, idle, outcomeOf, machine}
 use Rattle.model.specs.OneCall.{writes}
@@ -167,6 +169,44 @@ wins-ten C ts c room w =
     ∙ ap (λ (t : Bool). first (cond t [] (stop 10 (full C c ts) ∷ []))) (w .1)
     ∙ ap (λ (b : Bool). first (stop 10 b ∷ [])) (w .2)
 
+-- ---- the forms of an answer
+
+-- with no selection: a name, a value, a no or an empty list
+pub idle-form : (P : Reply → Type 0) → ((x : ℕ) → P (name x)) → ((v : Value) → P (valued v)) → P (yesNo false) → P (pairs 0 [])
+    → (op : Operator) (c : Call) → P (idleReply op c)
+unfolding idleReply
+idle-form P named valued-as no-said none-listed (Create o) c = named _
+idle-form P named valued-as no-said none-listed (Bind o) c = named _
+idle-form P named valued-as no-said none-listed (Values o) c = valued-as _
+idle-form P named valued-as no-said none-listed (Exists o) c = no-said
+idle-form P named valued-as no-said none-listed (Destroy r) c = named _
+idle-form P named valued-as no-said none-listed (Lists l) c = none-listed
+
+-- of a step: a name, a value, a yes or no, or what an S operator lists
+reply-form : (P : Reply → Type 0) (c : Call) (ts : Tuples) → ((x : ℕ) → P (name x)) → ((v : Value) → P (valued v)) → ((b : Bool) → P (yesNo b))
+    → ((l : Listing) → P (pairs (length (listed l c ts)) (listed l c ts))) → (op : Operator) → P (reply op c ts)
+unfolding reply
+reply-form P c ts named valued-as said all-listed (Create o) = named _
+reply-form P c ts named valued-as said all-listed (Bind o) = named _
+reply-form P c ts named valued-as said all-listed (Values o) = valued-as _
+reply-form P c ts named valued-as said all-listed (Exists o) = said _
+reply-form P c ts named valued-as said all-listed (Destroy r) = named _
+reply-form P c ts named valued-as said all-listed (Lists l) = all-listed l
+
+-- what holds of each form holds of every answer of the machine
+pub answer-form : (P : Reply → Type 0) (C : ℕ) (ts : Tuples) (c : Call) (room : ℕ) → ((number : ℕ) → P (refusal number)) → ((x : ℕ) → P (name x))
+    → ((v : Value) → P (valued v)) → ((b : Bool) → P (yesNo b)) → P (pairs 0 []) → ((l : Listing) → P (pairs (length (listed l c ts)) (listed l c ts)))
+    → P (machine C ts c room .answer)
+unfolding machine outcomeOf
+answer-form P C ts c room refused named valued-as said none-listed all-listed = go (refusalOf C ts c room)
+  where
+    go : (r : Option ℕ) → P (outcomeOf r ts c .answer)
+    go (some number) = refused number
+    go none =
+        either-outcome (λ (o : Outcome). P (o .answer)) (selectsNothing c) (idle c ts) (step c ts)
+        (λ e. idle-form P named valued-as (said false) none-listed (operatorOf (c .operator)) c)
+        (λ e. reply-form P c ts named valued-as said all-listed (operatorOf (c .operator)))
+
 -- no step answers a refusal
 abbrev isRefusal : Reply → Bool
 isRefusal (refusal n) = true
@@ -174,24 +214,6 @@ isRefusal (name x) = false
 isRefusal (valued v) = false
 isRefusal (yesNo b) = false
 isRefusal (pairs k ps) = false
-
-reply-answers : (op : Operator) (c : Call) (ts : Tuples) → isRefusal (reply op c ts) ≡ false
-unfolding reply
-reply-answers (Create o) c ts = refl
-reply-answers (Bind o) c ts = refl
-reply-answers (Values o) c ts = refl
-reply-answers (Exists o) c ts = refl
-reply-answers (Destroy r) c ts = refl
-reply-answers (Lists l) c ts = refl
-
-idle-answers : (op : Operator) (c : Call) → isRefusal (idleReply op c) ≡ false
-unfolding idleReply
-idle-answers (Create o) c = refl
-idle-answers (Bind o) c = refl
-idle-answers (Values o) c = refl
-idle-answers (Exists o) c = refl
-idle-answers (Destroy r) c = refl
-idle-answers (Lists l) c = refl
 
 -- a refusal is answered exactly when the call is stopped by that condition
 pub refused-exactly : (C : ℕ) (ts : Tuples) (c : Call) (room number : ℕ)
@@ -205,8 +227,9 @@ refused-exactly C ts c room number = (λ e. go (refusalOf C ts c room) e, λ e. 
       where
         answers-none : isRefusal (cond (selectsNothing c) (idle c ts) (step c ts) .answer) ≡ false
         answers-none =
-            either-outcome (λ (o : Outcome). isRefusal (o .answer) ≡ false) (selectsNothing c) (idle c ts) (step c ts) (λ t. idle-answers (operatorOf (c .operator)) c)
-            (λ t. reply-answers (operatorOf (c .operator)) c ts)
+            either-outcome (λ (o : Outcome). isRefusal (o .answer) ≡ false) (selectsNothing c) (idle c ts) (step c ts)
+            (λ t. idle-form (λ (r : Reply). isRefusal r ≡ false) (λ x. refl) (λ v. refl) refl refl (operatorOf (c .operator)) c)
+            (λ t. reply-form (λ (r : Reply). isRefusal r ≡ false) c ts (λ x. refl) (λ v. refl) (λ b. refl) (λ l. refl) (operatorOf (c .operator)))
 
 -- how many tuples there are with those that a call would add, where its space is looked up
 added : (ts : Tuples) (c : Call) → selectsNothing c ≡ false

@@ -8,43 +8,61 @@ use Prim.Native.Nat.{ℕ, _+_, _≤_, _<_}
 use lib.ListN.{length}
 use Rattle.model.specs.declared.Call.{Call}
 use Rattle.model.specs.declared.Answer.{Answer}
-use Rattle.model.specs.declared.Answer.the-variants.{Refusal}
 use Rattle.model.specs.Ordered.{Ascending}
 use Rattle.model.specs.declared.Key.{Key}
 use Rattle.model.specs.Keys.{keyOf, compareKeys}
 use Rattle.model.specs.Tuples.{fresh, missing}
 use Rattle.model.specs.Operators.{operatorOf}
-use Rattle.model.specs.Steps.{Reply, wouldAdd}
+use Rattle.model.specs.Steps.{Reply, refusal, wouldAdd}
 use Rattle.model.specs.Refusals.{selectsNothing, first, earlier}
 use Rattle.model.specs.Machine.{State, Request, machine, answers, final}
 use Rattle.model.specs.Buffer.{capacityOf, tuplesOf, freeOf, isStore, Prepared}
 use Rattle.model.specs.Rules.{NothingMissing}
+use Rattle.model.specs.Traces.{Trace}
 use Rattle.model.specs.OneCall.{OneCall, observed}
+use Rattle.model.specs.Demand1.{Demand1}
+
+-- ---- calls one after the other
 
 -- a call that was made: the answer list lent to it, before and after, and its answer
-pub record CallMade : Type 0 where
+pub record Made (A : Type 0) : Type 0 where
   pub call : Call
-  pub lent : List ℕ
+  pub lent : List A
   pub answer : Answer
-  pub left : List ℕ
+  pub left : List A
 
--- "Each later call gets the buffer as the call before left it, answered or refused": calls made one after the other, from a buffer to a buffer
-pub data Trace : List ℕ → List CallMade → List ℕ → Type 0 where
-  end : {b : List ℕ} → Trace b [] b
-  then : {b b′ b″ : List ℕ} {x : CallMade} {xs : List CallMade} → OneCall b (x .lent) (x .call) (x .answer) b′ (x .left) → Trace b′ xs b″ → Trace b (x ∷ xs) b″
+-- a call whose answer list is one of words
+abbrev pub CallMade : Type 0
+CallMade = Made ℕ
 
--- what the machine is fed: "only the calls: operator, fields and the length of the call's answer list"
-abbrev pub requestOf : CallMade → Request
-requestOf x = record { call = x .call; room = length (x .lent) }
+-- it is one call of the entry, from the buffer b to the buffer b′
+abbrev pub OneMade : List ℕ → CallMade → List ℕ → Type 0
+OneMade b x b′ = OneCall b (x .lent) (x .call) (x .answer) b′ (x .left)
 
-abbrev pub requests : List CallMade → List Request
-requests xs = map requestOf xs
+-- demand 1 of it
+abbrev pub MeetsDemand1 : {A : Type 0} → List ℕ → Made A → List ℕ → Type 0
+MeetsDemand1 b x b′ = Demand1 b (x .lent) (x .call) (x .answer) b′ (x .left)
 
--- what the callers observe
-abbrev pub replies : List CallMade → List Reply
-replies xs = map (λ (x : CallMade). observed (x .answer) (x .left)) xs
+-- ---- what the machine and the callers see of a call
 
--- "the keys that the step would add"; with nothing as the space "C, B and D change nothing" (request 1)
+pub record Exchange : Type 0 where
+  -- what the machine is fed: "only the calls: operator, fields and the length of the call's answer list"
+  pub request : Request
+  -- what the caller observes
+  pub reply : Reply
+
+abbrev pub exchangeOf : CallMade → Exchange
+exchangeOf x = record { request = record { call = x .call; room = length (x .lent) }; reply = observed (x .answer) (x .left) }
+
+abbrev pub requests : List Exchange → List Request
+requests xs = map (λ (x : Exchange). x .request) xs
+
+abbrev pub replies : List Exchange → List Reply
+replies xs = map (λ (x : Exchange). x .reply) xs
+
+-- ---- the claim
+
+-- "the keys that the step would add"; with no selection "C, B and D change nothing" (request 1)
 unfoldable pub toAdd : Call → List Key
 toAdd c = cond (selectsNothing c) [] (wouldAdd (operatorOf (c .operator)) c)
 
@@ -55,13 +73,13 @@ Exceeds C ts r =
     × (C < length ts + length (missing (toAdd (r .call)) ts))
 
 -- demand 3: "'full' is answered exactly when ..", at each call, by the machine's state then
-abbrev pub FullExactly : ℕ → State → List CallMade → Type 0
+abbrev pub FullExactly : ℕ → State → List Exchange → Type 0
 FullExactly C ts [] = Unit {0}
 FullExactly C ts (x ∷ xs) =
-    ((x .answer ≡ Refusal 10) ↔ Exceeds C ts (requestOf x)) × FullExactly C (machine C ts (x .call) (length (x .lent)) .state) xs
+    ((x .reply ≡ refusal 10) ↔ Exceeds C ts (x .request)) × FullExactly C (machine C ts (x .request .call) (x .request .room) .state) xs
 
 -- what is claimed of a list of calls made from a store of C records that holds the tuples ts, to the buffer b
-pub record WholeList (C : ℕ) (ts : State) (xs : List CallMade) (b : List ℕ) : Type 0 where
+pub record WholeList (C : ℕ) (ts : State) (xs : List Exchange) (b : List ℕ) : Type 0 where
   -- "the answers are those of 01's tuple machine"
   pub answered : replies xs ≡ answers C ts (requests xs)
   -- "the used chain holds exactly the machine's tuples, each once": they ascend strictly
@@ -79,4 +97,4 @@ pub record WholeList (C : ℕ) (ts : State) (xs : List CallMade) (b : List ℕ) 
 abbrev pub Demand3 : Type 0
 Demand3 =
     (C : ℕ) (raw b b′ : List ℕ) (xs : List CallMade)
-    → 1 ≤ C → C ≤ 2048 → capacityOf raw ≡ C → Prepared raw b → Trace b xs b′ → WholeList C fresh xs b′
+    → 1 ≤ C → C ≤ 2048 → capacityOf raw ≡ C → Prepared raw b → Trace OneMade b xs b′ → WholeList C fresh (map exchangeOf xs) b′

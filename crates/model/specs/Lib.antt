@@ -10,7 +10,9 @@ pub mod Unread
 pub mod Buffer
 pub mod Rules
 pub mod Entries
+pub mod Traces
 pub mod OneCall
+pub mod Demand1
 pub mod CallLists
 pub mod Cases
 pub mod NoSelection

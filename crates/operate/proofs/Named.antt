@@ -1,8 +1,12 @@
 -- What a call names, key by key (specs/Operate.antt), is what the steps work on (`objectKeys`).
 use mathlib.Core.Bool.{Bool, true, false, cond, _||_, or-false}
 use mathlib.Core.List.{List, [], _∷_}
+use mathlib.Core.Logic.{_≢_}
 use mathlib.Core.Path.{_≡_, refl, sym, ap, ap₂, _∙_, subst}
-use Prim.Native.Nat.{ℕ}
+use Prim.Native.Nat.{ℕ, _+_}
+use lib.Dec.{eqb}
+use lib.ListN.{set}
+use lib.Seq.{getD-set-other}
 use Rattle.model.specs.declared.Call.{Call}
 use Rattle.model.specs.declared.Direction.{Direction}
 use Rattle.model.specs.declared.Direction.the-variants.{Outpointing, Inpointing, Adjacent}
@@ -10,12 +14,14 @@ use Rattle.model.specs.declared.Key.{Key}
 use Rattle.model.specs.declared.Object.{Object}
 use Rattle.model.specs.Keys.{Value, edgeKey}
 use Rattle.model.specs.Tuples.{Tuples, present, anyPresent, valueAt, assign, assignAll}
-use Rattle.model.specs.Buffer.{tuplesOf}
+use Rattle.model.specs.Buffer.{word, recordStart, keyAt, usedOf, tuplesOf}
 use Rattle.model.specs.Steps.{vOf, sOf, objectKeys, firstValue}
-use Rattle.chain.specs.Links.{Hint, KeepsHints, Edited}
+use Rattle.records.specs.Words.{putValue}
+use Rattle.chain.specs.Links.{Hint, KeepsHints, findIn, Edited}
+use Rattle.edit.specs.Edits.{assignIn, Assigned}
 use Rattle.operate.specs.declared.Fields.{Fields}
 use Rattle.operate.specs.declared.Near.{Near}
-use Rattle.operate.specs.Operate.{NearIn, pairHint, mainHint, fieldsOf, pairKey, mainKey, bothWays, isAdjacent}
+use Rattle.operate.specs.Operate.{NearIn, pairHint, mainHint, fieldsOf, pairKey, mainKey, bothWays, isAdjacent, assignAllIn, Bound}
 
 -- the key of the edge from m to n
 abbrev secondKey : ℕ → Fields → Key
@@ -90,31 +96,26 @@ exists-none o c f k ts x a F K X e A one =
 
 -- ---- B
 
-assigned : (o : Object) (s : ℕ) (c : Call) (v : Value) (ts : Tuples)
-    → assignAll (objectKeys o s c) v ts
-    ≡ cond (isAdjacent o) (assign (secondKey s (fieldsOf c)) v (assign (mainKey o s (fieldsOf c)) v ts)) (assign (mainKey o s (fieldsOf c)) v ts)
-unfolding assignAll
-assigned o s c v ts = ap (λ (ks : List Key). assignAll ks v ts) (object-keys o s c) ∙ go (isAdjacent o)
-  where
-    go : (a : Bool) → assignAll (cond a (secondKey s (fieldsOf c) ∷ []) []) v (assign (mainKey o s (fieldsOf c)) v ts)
-        ≡ cond a (assign (secondKey s (fieldsOf c)) v (assign (mainKey o s (fieldsOf c)) v ts)) (assign (mainKey o s (fieldsOf c)) v ts)
-    go true = refl
-    go false = refl
+-- the keys that the call names: one ..
+keys-one : (o : Object) (c : Call) (f : Fields) (k : Key) (a : Bool) → f ≡ fieldsOf c → k ≡ mainKey o (f .s) f → a ≡ isAdjacent o → a ≡ false
+    → k ∷ [] ≡ objectKeys o (sOf c) c
+keys-one o c f k a F K A e =
+    ap₂ (λ (i : Key) (t : Bool). i ∷ cond t (secondKey (sOf c) (fieldsOf c) ∷ []) []) (first-key o c f k F K) (sym e ∙ A) ∙ sym (object-keys o (sOf c) c)
 
--- the first assignment, in the call's own fields
-first-assigned : (o : Object) (c : Call) (f : Fields) (k : Key) (ts : Tuples) → f ≡ fieldsOf c → k ≡ mainKey o (f .s) f
-    → assign k (f .v) ts ≡ assign (mainKey o (sOf c) (fieldsOf c)) (vOf c) ts
-first-assigned o c f k ts F K = ap₂ (λ (j : Key) (v : Value). assign j v ts) (first-key o c f k F K) (ap (λ (x : Fields). x .v) F)
+-- .. or two
+keys-two : (o : Object) (c : Call) (f : Fields) (k j : Key) (a : Bool) → f ≡ fieldsOf c → k ≡ mainKey o (f .s) f → a ≡ isAdjacent o → a ≡ true
+    → j ≡ secondKey (f .s) f → k ∷ j ∷ [] ≡ objectKeys o (sOf c) c
+keys-two o c f k j a F K A e same =
+    ap₂ (λ (i h : Key). i ∷ h ∷ []) (first-key o c f k F K) (second-key c f j F same)
+    ∙ ap (λ (t : Bool). mainKey o (sOf c) (fieldsOf c) ∷ cond t (secondKey (sOf c) (fieldsOf c) ∷ []) []) (sym e ∙ A)
+    ∙ sym (object-keys o (sOf c) c)
 
 pub bind-one : (o : Object) (c : Call) (f : Fields) (k : Key) (a : Bool) {b b′ : List ℕ}
-    → f ≡ fieldsOf c → k ≡ mainKey o (f .s) f → a ≡ isAdjacent o → a ≡ false
-    → Edited b b′ (assign k (f .v) (tuplesOf b)) → Edited b b′ (assignAll (objectKeys o (sOf c) c) (vOf c) (tuplesOf b))
+    → f ≡ fieldsOf c → k ≡ mainKey o (f .s) f → a ≡ isAdjacent o → a ≡ false → Assigned b k (f .v) b′ → Bound b (objectKeys o (sOf c) c) (vOf c) b′
+unfolding assignAll assignAllIn
 bind-one o c f k a {b} {b′} F K A e E =
-    let ts = tuplesOf b in
-    let two : Tuples = assign (secondKey (sOf c) (fieldsOf c)) (vOf c) (assign (mainKey o (sOf c) (fieldsOf c)) (vOf c) ts) in
-    let one : Tuples = assign (mainKey o (sOf c) (fieldsOf c)) (vOf c) ts in
-    subst (Edited b b′)
-    (first-assigned o c f k ts F K ∙ sym (assigned o (sOf c) c (vOf c) ts ∙ ap (λ (x : Bool). cond x two one) (sym A ∙ e))) E
+    subst (λ (ks : List Key). Bound b ks (vOf c) b′) (keys-one o c f k a F K A e)
+    (subst (λ (x : Fields). Bound b (k ∷ []) (x .v) b′) F (record { words = E .words; edited = E .edited }))
 
 -- two edits, one after the other
 pub edited-twice : {b b′ b″ : List ℕ} {ts : Tuples} (change : Tuples → Tuples)
@@ -124,19 +125,21 @@ edited-twice change E D =
 
 pub bind-two : (o : Object) (c : Call) (f : Fields) (k j : Key) (a : Bool) {b b′ b″ : List ℕ}
     → f ≡ fieldsOf c → k ≡ mainKey o (f .s) f → a ≡ isAdjacent o → a ≡ true → j ≡ secondKey (f .s) f
-    → Edited b b′ (assign k (f .v) (tuplesOf b)) → Edited b′ b″ (assign j (f .v) (tuplesOf b′))
-    → Edited b b″ (assignAll (objectKeys o (sOf c) c) (vOf c) (tuplesOf b))
+    → Assigned b k (f .v) b′ → Assigned b′ j (f .v) b″ → Bound b (objectKeys o (sOf c) c) (vOf c) b″
+unfolding assignAll assignAllIn
 bind-two o c f k j a {b} {b′} {b″} F K A e same E D =
-    let ts = tuplesOf b in
-    let one : Tuples = assign (mainKey o (sOf c) (fieldsOf c)) (vOf c) ts in
-    let two : Tuples = assign (secondKey (sOf c) (fieldsOf c)) (vOf c) one in
-    subst (Edited b b″)
-    (ap (assign j (f .v)) (first-assigned o c f k ts F K)
-    ∙ ap₂ (λ (i : Key) (v : Value). assign i v one) (second-key c f j F same) (ap (λ (x : Fields). x .v) F)
-    ∙ sym (assigned o (sOf c) c (vOf c) ts ∙ ap (λ (x : Bool). cond x two one) (sym A ∙ e)))
-    (edited-twice (assign j (f .v)) E D)
+    subst (λ (ks : List Key). Bound b ks (vOf c) b″) (keys-two o c f k j a F K A e same)
+    (subst (λ (x : Fields). Bound b (k ∷ j ∷ []) (x .v) b″) F
+    (record {
+      words = D .words ∙ ap (λ (x : List ℕ). assignIn x j (f .v)) (E .words);
+      edited = edited-twice (assign j (f .v)) (E .edited) (D .edited);
+    }))
 
 -- ---- hints
+
+-- a hint stays one where a value is set
+pub hint-assigned : {b b′ : List ℕ} {k : Key} {v : Value} (near : Near) → Assigned b k v b′ → NearIn b near → Hint b′ (near .second)
+hint-assigned near E N = E .hints _ (N .second)
 
 pub pair-hint : (b : List ℕ) (d : Direction) (near : Near) → NearIn b near → Hint b (pairHint d near)
 unfolding pairHint
@@ -155,3 +158,23 @@ main-hint b o near h N e = subst (Hint b) (sym e) (go o)
 
 pub near-kept : {b b′ : List ℕ} {near : Near} → KeepsHints b b′ → NearIn b near → NearIn b′ near
 near-kept K N = record { space = K _ (N .space); node = K _ (N .node); second = K _ (N .second) }
+
+-- ---- the words of B
+
+-- one key: a word that is no record's value word stays
+assign-other : (b : List ℕ) (k : Key) (v : Value) (i : ℕ) → ((at : ℕ) → i ≢ recordStart at + 5) → word (assignIn b k v) i ≡ word b i
+unfolding assignIn putValue
+assign-other b k v i d = go (eqb (findIn (keyAt b) k (usedOf b)) 0)
+  where
+    go : (t : Bool) → word (cond t b (set b (recordStart (findIn (keyAt b) k (usedOf b)) + 5) v)) i ≡ word b i
+    go true = refl
+    go false = getD-set-other b (recordStart (findIn (keyAt b) k (usedOf b)) + 5) i v 0 (d _)
+
+-- B writes value words alone: no head, no link and no key is another afterwards
+pub bound-other : (b : List ℕ) (ks : List Key) (v : Value) (b′ : List ℕ) (i : ℕ) → Bound b ks v b′ → ((at : ℕ) → i ≢ recordStart at + 5) → word b′ i ≡ word b i
+unfolding assignAllIn
+bound-other b ks v b′ i B d = ap (λ (x : List ℕ). word x i) (B .words) ∙ go ks b
+  where
+    go : (js : List Key) (x : List ℕ) → word (assignAllIn js v x) i ≡ word x i
+    go [] x = refl
+    go (j ∷ js) x = go js (assignIn x j v) ∙ assign-other x j v i d

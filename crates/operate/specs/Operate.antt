@@ -1,6 +1,7 @@
 -- The fields of a call as words, and the keys of what it names.
 use mathlib.Core.Bool.{Bool, true, false, cond}
 use mathlib.Core.List.{List, [], _∷_}
+use mathlib.Core.Path.{_≡_}
 use Prim.Native.Nat.{ℕ, _+_, _≤_}
 use lib.ListN.{length}
 use Rattle.model.specs.declared.Call.{Call}
@@ -8,14 +9,15 @@ use Rattle.model.specs.declared.Direction.{Direction}
 use Rattle.model.specs.declared.Direction.the-variants.{Outpointing, Inpointing, Adjacent}
 use Rattle.model.specs.declared.Key.{Key}
 use Rattle.model.specs.declared.Object.{Object}
-use Rattle.model.specs.Keys.{spaceKey, nodeKey, edgeKey}
-use Rattle.model.specs.Tuples.{missing}
+use Rattle.model.specs.Keys.{Value, spaceKey, nodeKey, edgeKey}
+use Rattle.model.specs.Tuples.{missing, assignAll}
 use Rattle.model.specs.Buffer.{capacityOf, tuplesOf}
 use Rattle.model.specs.Steps.{nOf, gOf, mOf, vOf, sOf}
 use Rattle.operate.specs.declared.Fields.{Fields}
 use Rattle.operate.specs.declared.Near.{Near}
 use Rattle.select.specs.declared.EdgesOf.{EdgesOf}
-use Rattle.chain.specs.Links.{Hint}
+use Rattle.chain.specs.Links.{Hint, Edited}
+use Rattle.edit.specs.Edits.{assignIn}
 
 -- the fields of a call, UNIVERSE written 0
 abbrev pub fieldsOf : Call → Fields
@@ -82,3 +84,15 @@ edgesOf d f g m = record { d = d; s = f .s; n = f .n; g = g; m = m }
 -- the records suffice for the tuples with these keys added: not "tuples present + tuples to add > C"
 abbrev pub Room : List ℕ → List Key → Type 0
 Room b ks = length (tuplesOf b) + length (missing ks (tuplesOf b)) ≤ capacityOf b
+
+-- ---- B
+
+-- the buffer with the value words of the records that hold these keys written, and no other word
+unfoldable pub assignAllIn : List Key → Value → List ℕ → List ℕ
+assignAllIn [] v b = b
+assignAllIn (k ∷ ks) v b = assignAllIn ks v (assignIn b k v)
+
+-- the values of these keys are set, where they are present: every word of the buffer, and the tuples
+pub record Bound (b : List ℕ) (ks : List Key) (v : Value) (b′ : List ℕ) : Type 0 where
+  pub words : b′ ≡ assignAllIn ks v b
+  pub edited : Edited b b′ (assignAll ks v (tuplesOf b))

@@ -14,11 +14,11 @@ ghost use mathlib.Core.List.{[], _∷_};
 ghost use Rattle.model.specs.Keys.{mostName, edgeKey};
 ghost use Rattle.model.specs.Machine.{FieldsFit};
 ghost use Prim.Native.Nat.{_≤_};
-ghost use Rattle.model.specs.Tuples.{anyPresent, addAll, missing, assignAll};
+ghost use Rattle.model.specs.Tuples.{anyPresent, addAll, missing};
 ghost use Rattle.model.specs.Buffer.{tuplesOf};
 ghost use Rattle.model.specs.Steps.{spaceNumber, nOf, gOf, mOf, vOf, sOf, objectKeys, created, firstValue};
 ghost use Rattle.chain.specs.Links.{Linked, Hint, KeepsHints, Edited};
-ghost use Rattle.operate.specs.Operate.{NearIn, pairHint, mainHint, fieldsOf, pairKey, mainKey, bothWays, isAdjacent, keysIn, isSpace, Room};
+ghost use Rattle.operate.specs.Operate.{NearIn, pairHint, mainHint, fieldsOf, pairKey, mainKey, bothWays, isAdjacent, keysIn, isSpace, Room, Bound};
 
 // The fields of a call as words; UNIVERSE is 0.
 pub struct Fields {
@@ -196,10 +196,10 @@ pub fn exists(b: &[u32], near: Near, o: Object, c: Call) -> bool
     false
 }
 
-// B: sets the value of what the call names; of two edges, whichever are present.
+// B: sets the value of what the call names; of two edges, whichever are present. No word is written but their value words.
 pub fn bind(b: &mut [u32], near: Near, o: Object, c: Call)
     requires { ⌜ Linked (now b) × NearIn (now b) near ⌝ }
-    ensures { λ _. ⌜ Edited (now (b .entry)) (now (b .exit)) (assignAll (objectKeys o (sOf c) c) (vOf c) (tuplesOf (now (b .entry)))) ⌝ }
+    ensures { λ _. ⌜ Bound (now (b .entry)) (objectKeys o (sOf c) c) (vOf c) (now (b .exit)) ⌝ }
 {
     let f = fields_of(c);
     edit::assign_value(b, main_hint(o, near), main_key(o, f.s, f), f.v);

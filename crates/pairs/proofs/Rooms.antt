@@ -14,7 +14,7 @@ use Rattle.model.specs.Steps.{wouldList}
 use Rattle.model.specs.Refusals.{stop, first, spaceAbsent, nodeAbsent, secondAbsent, edgeAbsent, listShort, full, ofCall, ofTuples, ifLookedUp, earlier, refusalOf}
 use Rattle.model.specs.Machine.{outcomeOf, machine}
 use Rattle.model.specs.Buffer.{tuplesOf, isStore}
-use Rattle.calls.proofs.Counts.{would-most}
+use Rattle.model.proofs.Counts.{would-most}
 use Rattle.pairs.specs.InWords.{mostListed, lentWords}
 
 -- ---- how many words are lent
@@ -48,7 +48,7 @@ module _ (b : List ℕ) (e : isStore b ≡ true) (c : Call) (room : ℕ) where
       k = length (wouldList (operatorOf (c .operator)) c (tuplesOf b))
 
       most : k ≤ mostListed
-      most = would-most b e (operatorOf (c .operator)) c
+      most = omega (arith, would-most b e (operatorOf (c .operator)) c)
 
       go : (t : Bool) → ltb room mostListed ≡ t → ltb (lentWords room) k ≡ ltb room k
       go true h = ap (λ (n : ℕ). ltb n k) (sym (lent-least room h))

@@ -1,6 +1,6 @@
 -- What a run gives in each case.
 use mathlib.Core.Bool.{Bool, true, false, not}
-use mathlib.Core.List.{List, [], _∷_}
+use mathlib.Core.List.{List, [], _∷_, map}
 use mathlib.Core.Path.{_≡_, refl, sym, ap₂, _∙_}
 use Prim.Native.Nat.{ℕ, _*_, _≤_, _<_}
 use native.Mathlib.Omega.{arith}
@@ -10,19 +10,19 @@ use lib.ListN.{length, take, drop, length-drop}
 use lib.Seq.{length-take-le}
 use Rattle.model.specs.Machine.{State, Request, machine}
 use Rattle.model.specs.Buffer.{capacityOf, tuplesOf, isStore}
-use Rattle.model.specs.CallLists.{requests}
+use Rattle.model.specs.CallLists.{exchangeOf, requests}
 use Rattle.model.proofs.Bools.{and-both, and-left, and-right, clash, failed, not-yes, not-no}
 use Rattle.run.specs.Words.{answerWords, callCount, callsFrom, callsIn}
 use Rattle.run.specs.Runs.{callMade, callsMade, roomsOf, hasRoom, Left, Ran}
 use Rattle.run.proofs.WordLaws.{calls-length}
 
 -- the calls that are made are those that were asked
-pub requests-made : (C : ℕ) (ts : State) (rs : List Request) (l : List ℕ) → roomsOf rs ≤ length l → requests (callsMade C ts rs l) ≡ rs
+pub requests-made : (C : ℕ) (ts : State) (rs : List Request) (l : List ℕ) → roomsOf rs ≤ length l → requests (map exchangeOf (callsMade C ts rs l)) ≡ rs
 unfolding callsMade callMade roomsOf
 requests-made C ts [] l h = refl
 requests-made C ts (r ∷ rs) l h =
     let size : length (take (r .room) l) ≡ r .room = length-take-le (r .room) l (omega arith) in
-    let rest : requests (callsMade C (machine C ts (r .call) (r .room) .state) rs (drop (r .room) l)) ≡ rs
+    let rest : requests (map exchangeOf (callsMade C (machine C ts (r .call) (r .room) .state) rs (drop (r .room) l))) ≡ rs
     = requests-made C (machine C ts (r .call) (r .room) .state) rs (drop (r .room) l) (omega (arith, length-drop (r .room) l)) in
     ap₂ (λ (n : ℕ) (qs : List Request). record { call = r .call; room = n } ∷ qs) size rest
 

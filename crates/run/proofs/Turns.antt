@@ -9,11 +9,12 @@ use lib.Seq.{length-take-le, take-at, drop-at}
 use Rattle.model.specs.declared.Call.{Call}
 use Rattle.model.specs.declared.Answer.{Answer}
 use Rattle.model.specs.Machine.{State, Request, machine}
-use Rattle.model.specs.Buffer.{capacityOf, tuplesOf, isStore, pastRecords}
-use Rattle.model.specs.OneCall.{answerOf, listCount, listAfter, OnStore, OneCall}
-use Rattle.model.specs.CallLists.{CallMade, WholeList}
+use Rattle.model.specs.Buffer.{capacityOf, tuplesOf, isStore}
+use Rattle.model.specs.Traces.{Trace, end, then}
+use Rattle.model.specs.OneCall.{answerOf, listCount, listAfter, OnStore}
+use Rattle.model.specs.CallLists.{CallMade, OneMade}
 use Rattle.model.proofs.Bools.{clash}
-use Rattle.model.proofs.CallLists.{answer-within, no-calls, one-more}
+use Rattle.model.proofs.CallLists.{answer-within}
 use Rattle.records.proofs.Words.{capacity-length}
 use Rattle.run.specs.Words.{answerWords, callAt, roomAt, requestAt, callsFrom, kindOf, numberOf, putAnswer}
 use Rattle.run.specs.Runs.{callMade, callsMade, answersAfter, listsAfter, roomsOf, Left, OneRun}
@@ -73,14 +74,12 @@ pub record Running (ws : List ℕ) (count : ℕ) (b₀ a₀ l₀ b a l : List �
   pub within : i ≤ count
   pub store : isStore b ≡ true
   pub size : length b ≡ length b₀
-  pub past : pastRecords b ≡ pastRecords b₀
   pub answersSize : length a ≡ length a₀
   pub listsSize : length l ≡ length l₀
   pub room : at + roomsOf (callsFrom ws (count - i) i) ≤ length l
   pub answered : answersAfter (allMade ws count b₀ l₀) a₀ ≡ take (answerWords * i) a ++ answersAfter (restMade ws count b l at i) (drop (answerWords * i) a)
   pub listed : listsAfter (allMade ws count b₀ l₀) l₀ ≡ take at l ++ listsAfter (restMade ws count b l at i) (drop at l)
-  pub whole : (b″ : List ℕ) → WholeList (capacityOf b) (tuplesOf b) (restMade ws count b l at i) b″
-      → WholeList (capacityOf b₀) (tuplesOf b₀) (allMade ws count b₀ l₀) b″
+  pub trace : (b″ : List ℕ) → Trace OneMade b (restMade ws count b l at i) b″ → Trace OneMade b₀ (allMade ws count b₀ l₀) b″
 
 module _ (ws : List ℕ) (count : ℕ) (b₀ a₀ l₀ : List ℕ) where
   pub run-start : isStore b₀ ≡ true → roomsOf (callsFrom ws count 0) ≤ length l₀ → Running ws count b₀ a₀ l₀ b₀ a₀ l₀ 0 0
@@ -92,13 +91,12 @@ module _ (ws : List ℕ) (count : ℕ) (b₀ a₀ l₀ : List ℕ) where
         within = omega arith;
         store = s;
         size = refl;
-        past = refl;
         answersSize = refl;
         listsSize = refl;
         room = omega (arith, ap roomsOf all);
         answered = ap (λ (xs : List CallMade). answersAfter xs a₀) (sym made);
         listed = ap (λ (xs : List CallMade). listsAfter xs l₀) (sym made);
-        whole = λ b″ W. subst (λ (xs : List CallMade). WholeList (capacityOf b₀) (tuplesOf b₀) xs b″) made W;
+        trace = λ b″ T. subst (λ (xs : List CallMade). Trace OneMade b₀ xs b″) made T;
       }
 
   -- all calls are made
@@ -108,9 +106,7 @@ module _ (ws : List ℕ) (count : ℕ) (b₀ a₀ l₀ : List ℕ) where
       let none-left : restMade ws count b l at i ≡ []
       = ap (λ (rs : List Request). callsMade (capacityOf b) (tuplesOf b) rs (drop at l)) (calls-end ws count i h) in
       record {
-        whole = R .whole b (subst (λ (xs : List CallMade). WholeList (capacityOf b) (tuplesOf b) xs b) (sym none-left) (no-calls b (R .store)));
-        size = R .size;
-        past = R .past;
+        trace = R .trace b (subst (λ (xs : List CallMade). Trace OneMade b xs b) (sym none-left) end);
         answered =
             sym
             (R .answered
@@ -172,7 +168,7 @@ module _ (ws : List ℕ) (count : ℕ) (b₀ a₀ l₀ : List ℕ) where
         ∙ ap (λ (xs : List CallMade). madeAt ws b l at i ∷ xs) (sym rest)
 
     -- the call as one call of a list of calls
-    as-one-call : OneCall b (madeAt ws b l at i .lent) (madeAt ws b l at i .call) (madeAt ws b l at i .answer) b′ (madeAt ws b l at i .left)
+    as-one-call : OneMade b (madeAt ws b l at i) b′
     as-one-call = record { noStore = λ e. absurd (clash (R .store) e); onStore = λ e. O .call }
 
     answered-next : (xs : List CallMade)
@@ -207,16 +203,12 @@ module _ (ws : List ℕ) (count : ℕ) (b₀ a₀ l₀ : List ℕ) where
           within = omega arith;
           store = O .call .store;
           size = O .call .size ∙ R .size;
-          past = O .call .past ∙ R .past;
           answersSize = ap length (O .answered) ∙ answer-length a i (madeAt ws b l at i .answer) (omega (arith, R .answersSize)) ∙ R .answersSize;
           listsSize = lists-length ∙ R .listsSize;
           room = omega (arith, room-next, lists-length);
           answered = R .answered ∙ ap (λ (ys : List CallMade). take (answerWords * i) a ++ answersAfter ys (drop (answerWords * i) a)) step-made ∙ answered-next xs;
           listed = R .listed ∙ ap (λ (ys : List CallMade). take at l ++ listsAfter ys (drop at l)) step-made ∙ listed-next xs;
-          whole = λ b″ W.
-              R .whole b″
-              (subst (λ (ys : List CallMade). WholeList (capacityOf b) (tuplesOf b) ys b″) (sym step-made)
-              (one-more b b′ b″ (madeAt ws b l at i) xs (R .store) as-one-call W));
+          trace = λ b″ T. R .trace b″ (subst (λ (ys : List CallMade). Trace OneMade b ys b″) (sym step-made) (then as-one-call T));
         }
 
   -- the part for the next call lies within the lists ..
@@ -236,9 +228,9 @@ module _ (ws : List ℕ) (count : ℕ) (b₀ a₀ l₀ : List ℕ) where
       → Running ws count b₀ a₀ l₀ b′ a′ (take at l ++ (part ++ drop ((at + one) - at) (drop at l))) (at + one) (i + 1)
   run-turn b a l b′ a′ part at i one R h wide e sized O =
       let span : (at + one) - at ≡ roomAt ws i = omega (arith, e) in
-      let end : at + one ≡ at + roomAt ws i = omega (arith, e) in
+      let stop : at + one ≡ at + roomAt ws i = omega (arith, e) in
       let made : OneRun (madeAt ws b l at i) i b a b′ a′ part
       = subst (λ (k : ℕ). OneRun (callMade (capacityOf b) (tuplesOf b) (requestAt ws i) (take k (drop at l))) i b a b′ a′ part) span O in
       subst (λ (k : ℕ). Running ws count b₀ a₀ l₀ b′ a′ (take at l ++ (part ++ drop k (drop at l))) (at + one) (i + 1)) (sym span)
-      (subst (λ (k : ℕ). Running ws count b₀ a₀ l₀ b′ a′ (listsWith ws l at i part) k (i + 1)) (sym end)
+      (subst (λ (k : ℕ). Running ws count b₀ a₀ l₀ b′ a′ (listsWith ws l at i part) k (i + 1)) (sym stop)
       (run-next b a l b′ a′ part at i R h wide (sized ∙ part-sized b a l at i one R h e) made))

@@ -1,14 +1,17 @@
 -- All that a run of a whole list of calls does, on any buffer and with any words: the contract of run_calls.
 use mathlib.Core.Bool.{Bool, true, false, _&&_}
-use mathlib.Core.List.{List, [], _∷_, _++_}
+use mathlib.Core.List.{List, [], _∷_, _++_, map}
+use mathlib.Core.Logic.{_↔_, _≢_}
 use mathlib.Core.Path.{_≡_}
 use Prim.Native.Nat.{ℕ, _+_, _*_}
 use lib.Dec.{leb}
 use lib.ListN.{length, take, drop}
 use Rattle.model.specs.Machine.{State, Request, machine}
-use Rattle.model.specs.Buffer.{capacityOf, tuplesOf, isStore, pastRecords}
+use Rattle.model.specs.Buffer.{capacityOf, tuplesOf, isStore}
+use Rattle.model.specs.Rules.{IsStore}
+use Rattle.model.specs.Traces.{Trace}
 use Rattle.model.specs.OneCall.{answerOf, listAfter, OnStore}
-use Rattle.model.specs.CallLists.{CallMade, requests, WholeList}
+use Rattle.model.specs.CallLists.{CallMade, OneMade, MeetsDemand1, exchangeOf, requests, WholeList}
 use Rattle.run.specs.Words.{answerWords, callsIn, kindOf, numberOf, putAnswer}
 
 -- ---- what the machine makes of a list of calls
@@ -61,17 +64,15 @@ pub record NotRun (number : ℕ) (b answers lists : List ℕ) (r : ℕ) (b′ an
 
 -- what a run leaves of a store, given what the machine makes of the calls
 pub record Left (xs : List CallMade) (b answers lists b′ answers′ lists′ : List ℕ) : Type 0 where
-  -- the machine's answers and tuples, and all else that demand 3 claims
-  pub whole : WholeList (capacityOf b) (tuplesOf b) xs b′
-  pub size : length b′ ≡ length b
-  pub past : pastRecords b′ ≡ pastRecords b
+  -- the calls were made one after the other, so that all that holds of one call holds of each of them
+  pub trace : Trace OneMade b xs b′
   pub answered : answers′ ≡ answersAfter xs answers
   pub listed : lists′ ≡ listsAfter xs lists
 
 -- every call was made, in its order and with its own part of the lists
 pub record AllRun (b calls answers lists : List ℕ) (r : ℕ) (b′ answers′ lists′ : List ℕ) : Type 0 where
   pub result : r ≡ 0
-  pub asked : requests (callsMade (capacityOf b) (tuplesOf b) (callsIn calls) lists) ≡ callsIn calls
+  pub asked : requests (map exchangeOf (callsMade (capacityOf b) (tuplesOf b) (callsIn calls) lists)) ≡ callsIn calls
   pub left : Left (callsMade (capacityOf b) (tuplesOf b) (callsIn calls) lists) b answers lists b′ answers′ lists′
 
 -- the run of the words `calls` on the buffer b gives r and leaves the buffer b′, the answers and the lists
@@ -79,6 +80,24 @@ pub record Ran (b calls answers lists : List ℕ) (r : ℕ) (b′ answers′ lis
   pub noStore : isStore b ≡ false → NotRun 1 b answers lists r b′ answers′ lists′
   pub noRoom : isStore b ≡ true → hasRoom (callsIn calls) answers lists ≡ false → NotRun 9 b answers lists r b′ answers′ lists′
   pub run : isStore b ≡ true → hasRoom (callsIn calls) answers lists ≡ true → AllRun b calls answers lists r b′ answers′ lists′
+
+-- ---- the demands of a run
+
+-- demand 1 of a run, and of each call of it
+pub record RunDemand1 (b calls answers lists : List ℕ) (r : ℕ) (b′ answers′ lists′ : List ℕ) : Type 0 where
+  -- "A refusal is a number and changes no word", whatever its number: neither of the store nor of the answers and lists
+  pub refused : r ≢ 0 → (b′ ≡ b) × (answers′ ≡ answers) × (lists′ ≡ lists)
+  -- "A buffer that isn't a store is itself refused.": 1 exactly when it breaks the rules
+  pub noStore : (r ≡ 1) ↔ (IsStore b → ⊥)
+  pub each : r ≡ 0 → Trace MeetsDemand1 b (callsMade (capacityOf b) (tuplesOf b) (callsIn calls) lists) b′
+
+-- demand 3 of a run that answers 0, on a store of C records that holds the tuples ts: the calls that stand in the words were made, one after the other,
+-- with all that demand 3 claims of them, and the slices hold their answers and their lists
+pub record WholeRun (C : ℕ) (ts : State) (calls answers lists b′ answers′ lists′ : List ℕ) : Type 0 where
+  pub whole : WholeList C ts (map exchangeOf (callsMade C ts (callsIn calls) lists)) b′
+  pub asked : requests (map exchangeOf (callsMade C ts (callsIn calls) lists)) ≡ callsIn calls
+  pub answered : answers′ ≡ answersAfter (callsMade C ts (callsIn calls) lists) answers
+  pub listed : lists′ ≡ listsAfter (callsMade C ts (callsIn calls) lists) lists
 
 -- ---- one call of a run
 

@@ -10,9 +10,12 @@ use Rattle.model.specs.declared.Answer.{Answer}
 use Rattle.model.specs.declared.Answer.the-variants.{Refusal}
 use Rattle.model.specs.Steps.{Reply, refusal}
 use Rattle.model.specs.Machine.{State, Outcome, machine}
-use Rattle.model.specs.Buffer.{capacityOf, tuplesOf, isStore, pastRecords}
+use Rattle.model.specs.Buffer.{capacityOf, tuplesOf, isStore}
 use Rattle.model.specs.OneCall.{answerOf, listCount, listAfter, observed, OnStore}
+use Rattle.model.specs.Demand1.{Demand1}
+use Rattle.model.proofs.Bools.{clash}
 use Rattle.model.proofs.Store.{store-rules}
+use Rattle.model.proofs.Demand1.{one-call-demand-1}
 use Rattle.model.proofs.CallLists.{observed-machine, answer-within}
 use Rattle.text.specs.Bytes.{Text, lineFeed}
 use Rattle.text.specs.Numerals.{printedNumber, printedIn}
@@ -24,7 +27,7 @@ use Rattle.print.specs.Answers.{answerText, answerLine, mostLine, Put, Printabl
 use Rattle.print.proofs.Lengths.{line-printable}
 use Rattle.script.specs.Scripts.{scriptRecords, scriptPlaces, readingOutcome, lineOutcome}
 use Rattle.records.proofs.Words.{capacity-length}
-use Rattle.script.specs.Runs.{Ready, LineCalled, call, no-call, LineRun, lineList}
+use Rattle.script.specs.Runs.{Ready, LineCalled, call, no-call, LineStep, LineRun, lineList, LineDemand1}
 
 -- ---- what was run
 
@@ -54,7 +57,7 @@ module _ (b l : List ℕ) (line : Text) (out : Text) (at : ℕ) where
       record {
         called =
             subst (LineCalled b l b′ l′) (sym e)
-            (call (subst (λ (x : Answer). OnStore b l c x b′ l′) (O .answer) O));
+            (call (R .store) (subst (λ (x : Answer). OnStore b l c x b′ l′) (O .answer) O));
         places = k;
         put = subst (λ (r : Reply). Put (answerLine r) out at end out′) (call-reply c a b′ l′ R e O) P;
         within = omega (arith, P .place, call-printable c a b′ l′ R O k f room .room);
@@ -97,13 +100,12 @@ pub record LineLeft (b l : List ℕ) (line : Text) (b′ l′ : List ℕ) : Type
   pub ready : Ready b′ l′
   pub tuples : tuplesOf b′ ≡ lineOutcome (tuplesOf b) line .state
   pub size : length b′ ≡ length b
-  pub past : pastRecords b′ ≡ pastRecords b
   pub list : l′ ≡ lineList (tuplesOf b) (readLine line) l
 
 module _ (b l : List ℕ) (R : Ready b l) where
   left-of : (r : Reading) (line : Text) (b′ l′ : List ℕ) → readLine line ≡ r → length l′ ≡ length l → LineCalled b l b′ l′ r → LineLeft b l line b′ l′
   unfolding lineOutcome readingOutcome lineList
-  left-of (Read c) line b′ l′ e k (call O) =
+  left-of (Read c) line b′ l′ e k (call store O) =
       record {
         ready = record { store = O .store; records = capacity-length b b′ (O .size) ∙ R .records; places = k ∙ R .places };
         tuples =
@@ -111,7 +113,6 @@ module _ (b l : List ℕ) (R : Ready b l) where
             ∙ ap (λ (o : Outcome). o .state) (as-machine b l line line 0 c R)
             ∙ ap (λ (r : Reading). readingOutcome (tuplesOf b) r .state) (sym e);
         size = O .size;
-        past = O .past;
         list =
             O .list
             ∙ ap (λ (o : Outcome). listAfter (o .answer) l) (as-machine b l line line 0 c R)
@@ -122,7 +123,6 @@ module _ (b l : List ℕ) (R : Ready b l) where
         ready = subst (λ (x : List ℕ). Ready x l′) (sym sb) (subst (Ready b) (sym sl) R);
         tuples = ap tuplesOf sb ∙ ap (λ (r : Reading). readingOutcome (tuplesOf b) r .state) (sym e);
         size = ap length sb;
-        past = ap pastRecords sb;
         list = sl ∙ ap (λ (r : Reading). lineList (tuplesOf b) r l) (sym e);
       }
 
@@ -133,3 +133,32 @@ module _ (b l : List ℕ) (R : Ready b l) where
 pub refusal-length : length (answerLine (refusal 11)) ≡ 5
 unfolding answerLine answerText printedNumber printedIn
 refusal-length = refl
+
+-- ---- demand 1
+
+-- of a line that is run
+pub line-demand-1 : (s s′ : List ℕ × List ℕ) (line : Text) → LineStep s line s′ → LineDemand1 s line s′
+line-demand-1 s s′ line made = record { unreadable = λ number e. unread number e made; call = λ c e. read c e made }
+  where
+    of-refused : {number : ℕ} → LineCalled (s .0) (s .1) (s′ .0) (s′ .1) (Refused number) → (s′ .0 ≡ s .0) × (s′ .1 ≡ s .1)
+    of-refused (no-call sb sl) = (sb, sl)
+
+    unread : (number : ℕ) → readLine line ≡ Refused number → LineStep s line s′ → (s′ .0 ≡ s .0) × (s′ .1 ≡ s .1)
+    unread number e x = of-refused (subst (LineCalled (s .0) (s .1) (s′ .0) (s′ .1)) e x)
+
+    of-call : {c : Call} → LineCalled (s .0) (s .1) (s′ .0) (s′ .1) (Read c)
+        → Demand1 (s .0) (s .1) c (answerOf (machine (capacityOf (s .0)) (tuplesOf (s .0)) c (length (s .1)) .answer)) (s′ .0) (s′ .1)
+    of-call (call store O) =
+        one-call-demand-1 (s .0) (s .1) _ _ (s′ .0) (s′ .1) (record { noStore = λ no. absurd (clash store no); onStore = λ yes. O })
+
+    read : (c : Call) → readLine line ≡ Read c → LineStep s line s′
+        → Demand1 (s .0) (s .1) c (answerOf (machine (capacityOf (s .0)) (tuplesOf (s .0)) c (length (s .1)) .answer)) (s′ .0) (s′ .1)
+    read c e x = of-call (subst (LineCalled (s .0) (s .1) (s′ .0) (s′ .1)) e x)
+
+-- the store of a line keeps its length
+pub line-size : (s s′ : List ℕ × List ℕ) (line : Text) → LineStep s line s′ → length (s′ .0) ≡ length (s .0)
+line-size s s′ line made = go made
+  where
+    go : {r : Reading} → LineCalled (s .0) (s .1) (s′ .0) (s′ .1) r → length (s′ .0) ≡ length (s .0)
+    go (call store O) = O .size
+    go (no-call sb sl) = ap length sb

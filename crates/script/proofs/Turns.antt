@@ -8,7 +8,9 @@ use borrow.Author.Tests.{le-leb, lt-leb, ltb-true, ltb-false}
 use lib.Dec.{leb, ltb}
 use lib.ListN.{length, drop, length-append}
 use Rattle.model.specs.Machine.{State}
-use Rattle.model.specs.Buffer.{tuplesOf, pastRecords}
+use Rattle.model.specs.Buffer.{tuplesOf}
+use Rattle.model.specs.Traces.{Trace, end, then}
+use Rattle.model.proofs.Traces.{trace-append}
 use Rattle.text.specs.Bytes.{Text, lineFeed, before as upTo, written}
 use Rattle.text.proofs.Written.{written-nil, written-twice, length-written}
 use Rattle.lines.specs.Lines.{linesOf}
@@ -17,17 +19,13 @@ use Rattle.lines.proofs.LineLaws.{no-lines, next-line, line-within}
 use Rattle.print.specs.Answers.{answerLine, Put, mostLine}
 use Rattle.script.specs.declared.Block.{Block}
 use Rattle.script.specs.Scripts.{lineOutcome}
-use Rattle.script.specs.Runs.{Ready, LineRun, Run, lineList, before, runLines, nextLine, BlockRun}
+use Rattle.script.specs.Runs.{Ready, LineStep, LineRun, Run, unrun, linesLength, lineList, runBefore, runLines, nextLine, BlockRun}
 use Rattle.script.proofs.LineRuns.{LineLeft, line-left}
-
--- no line is run
-abbrev pub unrun : State → List ℕ → List Text → Run
-unrun ts l xs = record { text = []; state = ts; list = l; rest = xs; taken = 0 }
 
 -- the first line is run, and then those behind it
 abbrev firstRun : ℕ → State → List ℕ → Text → List Text → Run
 firstRun room ts l x xs =
-    before (length x + 1) (answerLine (lineOutcome ts x .answer))
+    runBefore (x ∷ []) (answerLine (lineOutcome ts x .answer))
     (runLines (room - length (answerLine (lineOutcome ts x .answer))) (lineOutcome ts x .state) (lineList ts (readLine x) l) xs)
 
 -- where there is no room for a line none is run, and none where there is no line
@@ -45,17 +43,16 @@ one-line : (room : ℕ) (ts : State) (l : List ℕ) (x : Text) (xs : List Text) 
 unfolding runLines
 one-line room ts l x xs h = ap (λ (b : Bool). cond b (firstRun room ts l x xs) (unrun ts l (x ∷ xs))) (le-leb mostLine room h)
 
--- no line before a run
-before-none : (r : Run) → r ≡ before 0 [] r
-before-none r =
-    let same : r .taken ≡ 0 + r .taken = omega arith in
-    ap (λ (k : ℕ). record { text = r .text; state = r .state; list = r .list; rest = r .rest; taken = k }) same
-
 -- lines before lines before a run
-before-twice : (m n : ℕ) (xs ys : Text) (r : Run) → before m xs (before n ys r) ≡ before (m + n) (xs ++ ys) r
-before-twice m n xs ys r =
-    let sum : m + (n + r .taken) ≡ m + n + r .taken = omega arith in
-    ap₂ (λ (zs : Text) (k : ℕ). record { text = zs; state = r .state; list = r .list; rest = r .rest; taken = k }) (sym (append-assoc xs ys (r .text))) sum
+before-twice : (xs ys : List Text) (bs cs : Text) (r : Run) → runBefore xs bs (runBefore ys cs r) ≡ runBefore (xs ++ ys) (bs ++ cs) r
+before-twice xs ys bs cs r =
+    ap₂ (λ (zs : List Text) (ds : Text). record { lines = zs; text = ds; state = r .state; list = r .list; rest = r .rest }) (sym (append-assoc xs ys (r .lines)))
+    (sym (append-assoc bs cs (r .text)))
+
+lines-length-one : (xs : List Text) (x : Text) → linesLength (xs ++ (x ∷ [])) ≡ linesLength xs + (length x + 1)
+unfolding linesLength
+lines-length-one [] x = omega arith
+lines-length-one (y ∷ xs) x = omega (arith, lines-length-one xs x)
 
 -- a run that has no room for a line, though the output had, has run one
 moved : {whole : ℕ} (from at size : ℕ) → whole - size < mostLine → mostLine ≤ whole → from ≤ at → (at ≡ from → size ≡ 0) → from < at
@@ -71,17 +68,18 @@ moved {whole} from at size short room onward unmoved = go (ltb from at) refl
 pub record Running (b₀ l₀ : List ℕ) (script : Text) (from : ℕ) (out₀ : Text) (b l : List ℕ) (at size : ℕ) (out : Text) : Type 0 where
   pub ready : Ready b l
   pub words : length b ≡ length b₀
-  pub past : pastRecords b ≡ pastRecords b₀
   pub within : at ≤ length script
   pub onward : from ≤ at
   pub unmoved : at ≡ from → size ≡ 0
   pub fits : size ≤ length out₀
+  -- the lines that were run, and what they printed
+  pub lines : List Text
   pub done : Text
-  -- how many bytes the lines take that were run, with their line feeds
-  pub taken : ℕ
-  pub place : at ≡ min (from + taken) (length script)
+  pub called : Trace LineStep (b₀, l₀) lines (b, l)
+  pub place : at ≡ min (from + linesLength lines) (length script)
   pub put : Put done out₀ 0 size out
-  pub run : runLines (length out₀) (tuplesOf b₀) l₀ (linesOf (drop from script)) ≡ before taken done (runLines (length out₀ - size) (tuplesOf b) l (linesOf (drop at script)))
+  pub run : runLines (length out₀) (tuplesOf b₀) l₀ (linesOf (drop from script))
+      ≡ runBefore lines done (runLines (length out₀ - size) (tuplesOf b) l (linesOf (drop at script)))
 
 -- ---- the next line
 
@@ -123,53 +121,54 @@ next-of script at line next some e n = go (ltb (at + length line) (length script
 
 module _ (b₀ l₀ : List ℕ) (script : Text) (from : ℕ) (out₀ : Text) where
   pub run-start : Ready b₀ l₀ → from ≤ length script → Running b₀ l₀ script from out₀ b₀ l₀ from 0 out₀
+  unfolding linesLength
   run-start R h =
       let whole : length out₀ ≡ length out₀ - 0 = omega arith in
       record {
         ready = R;
         words = refl;
-        past = refl;
         within = h;
         onward = omega arith;
         unmoved = λ e. refl;
         fits = omega arith;
+        lines = [];
         done = [];
-        taken = 0;
+        called = end;
         place = omega arith;
         put = record { place = refl; bytes = sym (written-nil out₀ 0) };
-        run = ap (λ (n : ℕ). runLines n (tuplesOf b₀) l₀ (linesOf (drop from script))) whole ∙ before-none (runLines (length out₀ - 0) (tuplesOf b₀) l₀ (linesOf (drop from script)));
+        run = ap (λ (n : ℕ). runLines n (tuplesOf b₀) l₀ (linesOf (drop from script))) whole;
       }
 
   -- one more line
-  pub run-line-on : (b l : List ℕ) (at size : ℕ) (out line : Text) (b′ l′ : List ℕ) (end : ℕ) (out′ : Text) (next : ℕ)
+  pub run-line-on : (b l : List ℕ) (at size : ℕ) (out line : Text) (b′ l′ : List ℕ) (stop : ℕ) (out′ : Text) (next : ℕ)
       → Running b₀ l₀ script from out₀ b l at size out → mostLine ≤ length out - size
-      → NextLine script at line next → LineRun b l line out size b′ l′ end out′ → Running b₀ l₀ script from out₀ b′ l′ next end out′
-  run-line-on b l at size out line b′ l′ end out′ next S wide X L =
-      let left : LineLeft b l line b′ l′ = line-left b l (S .ready) line out size b′ l′ end out′ L in
+      → NextLine script at line next → LineRun b l line out size b′ l′ stop out′ → Running b₀ l₀ script from out₀ b′ l′ next stop out′
+  run-line-on b l at size out line b′ l′ stop out′ next S wide X L =
+      let left : LineLeft b l line b′ l′ = line-left b l (S .ready) line out size b′ l′ stop out′ L in
       let a : Text = answerLine (lineOutcome (tuplesOf b) line .answer) in
       let sized : length out ≡ length out₀
       = ap length (S .put .bytes) ∙ length-written out₀ 0 (S .done) (omega (arith, S .put .place, S .fits)) in
       let room : mostLine ≤ length out₀ - size = omega arith in
       let grown : length (S .done ++ a) ≡ length (S .done) + length a = length-append (S .done) a in
-      let room′ : length out₀ - size - length a ≡ length out₀ - end = omega (arith, L .put .place) in
-      let later : Run = runLines (length out₀ - end) (tuplesOf b′) l′ (linesOf (drop next script)) in
-      let first : runLines (length out₀ - size) (tuplesOf b) l (linesOf (drop at script)) ≡ before (length line + 1) a later
+      let room′ : length out₀ - size - length a ≡ length out₀ - stop = omega (arith, L .put .place) in
+      let later : Run = runLines (length out₀ - stop) (tuplesOf b′) l′ (linesOf (drop next script)) in
+      let first : runLines (length out₀ - size) (tuplesOf b) l (linesOf (drop at script)) ≡ runBefore (line ∷ []) a later
       = ap (runLines (length out₀ - size) (tuplesOf b) l) (X .split)
       ∙ one-line (length out₀ - size) (tuplesOf b) l line (linesOf (drop next script)) room
-      ∙ ap (λ (n : ℕ). before (length line + 1) a (runLines n (lineOutcome (tuplesOf b) line .state) (lineList (tuplesOf b) (readLine line) l) (linesOf (drop next script)))) room′
-      ∙ ap (λ (ts : State). before (length line + 1) a (runLines (length out₀ - end) ts (lineList (tuplesOf b) (readLine line) l) (linesOf (drop next script)))) (sym (left .tuples))
-      ∙ ap (λ (k : List ℕ). before (length line + 1) a (runLines (length out₀ - end) (tuplesOf b′) k (linesOf (drop next script)))) (sym (left .list)) in
+      ∙ ap (λ (n : ℕ). runBefore (line ∷ []) a (runLines n (lineOutcome (tuplesOf b) line .state) (lineList (tuplesOf b) (readLine line) l) (linesOf (drop next script)))) room′
+      ∙ ap (λ (ts : State). runBefore (line ∷ []) a (runLines (length out₀ - stop) ts (lineList (tuplesOf b) (readLine line) l) (linesOf (drop next script)))) (sym (left .tuples))
+      ∙ ap (λ (k : List ℕ). runBefore (line ∷ []) a (runLines (length out₀ - stop) (tuplesOf b′) k (linesOf (drop next script)))) (sym (left .list)) in
       record {
         ready = left .ready;
         words = left .size ∙ S .words;
-        past = left .past ∙ S .past;
         within = X .within;
         onward = omega (arith, S .onward, X .onward);
         unmoved = λ e. absurd (omega (arith, S .onward, X .onward, e));
         fits = omega (arith, L .within, sized);
+        lines = S .lines ++ (line ∷ []);
         done = S .done ++ a;
-        taken = S .taken + (length line + 1);
-        place = omega (arith, S .place, X .place, X .onward, X .within);
+        called = trace-append (S .called) (then (L .called) end);
+        place = omega (arith, S .place, X .place, X .onward, X .within, lines-length-one (S .lines) line);
         put =
             record {
               place = omega (arith, L .put .place, S .put .place, grown);
@@ -179,27 +178,27 @@ module _ (b₀ l₀ : List ℕ) (script : Text) (from : ℕ) (out₀ : Text) whe
                   ∙ ap (λ (n : ℕ). written (written out₀ 0 (S .done)) n a) (S .put .place)
                   ∙ written-twice out₀ 0 (S .done) a (omega arith);
             };
-        run = S .run ∙ ap (before (S .taken) (S .done)) first ∙ before-twice (S .taken) (length line + 1) (S .done) a later;
+        run = S .run ∙ ap (runBefore (S .lines) (S .done)) first ∙ before-twice (S .lines) (line ∷ []) (S .done) a later;
       }
 
   -- where no further line is run
   pub run-end : (b l : List ℕ) (at size : ℕ) (out : Text) → Running b₀ l₀ script from out₀ b l at size out
       → runLines (length out₀ - size) (tuplesOf b) l (linesOf (drop at script)) ≡ unrun (tuplesOf b) l (linesOf (drop at script))
       → (from < length script → mostLine ≤ length out₀ → from < at)
-      → BlockRun (runLines (length out₀) (tuplesOf b₀) l₀ (linesOf (drop from script))) b₀ script from out₀ (record { next = at; length = size }) b l out
+      → BlockRun (runLines (length out₀) (tuplesOf b₀) l₀ (linesOf (drop from script))) b₀ l₀ script from out₀ (record { next = at; length = size }) b l out
   run-end b l at size out S e forward =
-      let done : runLines (length out₀) (tuplesOf b₀) l₀ (linesOf (drop from script)) ≡ before (S .taken) (S .done) (unrun (tuplesOf b) l (linesOf (drop at script)))
-      = S .run ∙ ap (before (S .taken) (S .done)) e in
-      let all : runLines (length out₀) (tuplesOf b₀) l₀ (linesOf (drop from script)) .taken ≡ S .taken + 0 = ap (λ (u : Run). u .taken) done in
+      let done : runLines (length out₀) (tuplesOf b₀) l₀ (linesOf (drop from script)) ≡ runBefore (S .lines) (S .done) (unrun (tuplesOf b) l (linesOf (drop at script)))
+      = S .run ∙ ap (runBefore (S .lines) (S .done)) e in
+      let all : S .lines ≡ runLines (length out₀) (tuplesOf b₀) l₀ (linesOf (drop from script)) .lines
+      = sym (ap (λ (u : Run). u .lines) done ∙ append-nil (S .lines)) in
       record {
         ready = S .ready;
+        called = subst (λ (xs : List Text). Trace LineStep (b₀, l₀) xs (b, l)) all (S .called);
         tuples = sym (ap (λ (u : Run). u .state) done);
-        size = S .words;
-        past = S .past;
         list = sym (ap (λ (u : Run). u .list) done);
         put = subst (λ (bs : Text). Put bs out₀ 0 size out) (sym (ap (λ (u : Run). u .text) done ∙ append-nil (S .done))) (S .put);
         fits = S .fits;
-        next = omega (arith, S .place, all);
+        next = omega (arith, S .place, ap linesLength all);
         rest = sym (ap (λ (u : Run). u .rest) done);
         forward = forward;
       }
@@ -210,7 +209,7 @@ module _ (b₀ l₀ : List ℕ) (script : Text) (from : ℕ) (out₀ : Text) whe
 
   -- the run ends where there is no room for a line ..
   pub run-short : (b l : List ℕ) (at size : ℕ) (out : Text) → Running b₀ l₀ script from out₀ b l at size out → length out - size < mostLine
-      → BlockRun (runLines (length out₀) (tuplesOf b₀) l₀ (linesOf (drop from script))) b₀ script from out₀ (record { next = at; length = size }) b l out
+      → BlockRun (runLines (length out₀) (tuplesOf b₀) l₀ (linesOf (drop from script))) b₀ l₀ script from out₀ (record { next = at; length = size }) b l out
   run-short b l at size out S h =
       let short : length out₀ - size < mostLine = omega (arith, run-sized b l at size out S) in
       run-end b l at size out S (no-room (length out₀ - size) (tuplesOf b) l (linesOf (drop at script)) short)
@@ -218,7 +217,7 @@ module _ (b₀ l₀ : List ℕ) (script : Text) (from : ℕ) (out₀ : Text) whe
 
   -- .. or where the script ends
   pub run-whole : (b l : List ℕ) (at size : ℕ) (out : Text) → Running b₀ l₀ script from out₀ b l at size out → length script ≤ at
-      → BlockRun (runLines (length out₀) (tuplesOf b₀) l₀ (linesOf (drop from script))) b₀ script from out₀ (record { next = at; length = size }) b l out
+      → BlockRun (runLines (length out₀) (tuplesOf b₀) l₀ (linesOf (drop from script))) b₀ l₀ script from out₀ (record { next = at; length = size }) b l out
   run-whole b l at size out S h =
       run-end b l at size out S (no-line (length out₀ - size) (tuplesOf b) l (linesOf (drop at script)) (no-lines script at h))
       (λ some room. omega (arith, some))

@@ -7,8 +7,10 @@ use lib.Dec.{leb, ltb}
 use lib.ListN.{length, drop}
 use Rattle.model.specs.declared.Call.{Call}
 use Rattle.model.specs.Machine.{State, machine}
-use Rattle.model.specs.Buffer.{capacityOf, tuplesOf, isStore, pastRecords}
+use Rattle.model.specs.Buffer.{capacityOf, tuplesOf, isStore}
+use Rattle.model.specs.Traces.{Trace}
 use Rattle.model.specs.OneCall.{answerOf, listAfter, OnStore}
+use Rattle.model.specs.Demand1.{Demand1}
 use Rattle.text.specs.Bytes.{Text}
 use Rattle.lines.specs.declared.Reading.{Reading}
 use Rattle.lines.specs.declared.Reading.the-variants.{Read, Refused}
@@ -28,8 +30,12 @@ pub record Ready (b l : List ℕ) : Type 0 where
 
 -- a line that reads as a call is that call; one that does not makes none
 pub data LineCalled (b l : List ℕ) (b′ l′ : List ℕ) : Reading → Type 0 where
-  call : {c : Call} → OnStore b l c (answerOf (machine (capacityOf b) (tuplesOf b) c (length l) .answer)) b′ l′ → LineCalled b l b′ l′ (Read c)
+  call : {c : Call} → isStore b ≡ true → OnStore b l c (answerOf (machine (capacityOf b) (tuplesOf b) c (length l) .answer)) b′ l′ → LineCalled b l b′ l′ (Read c)
   no-call : {number : ℕ} → b′ ≡ b → l′ ≡ l → LineCalled b l b′ l′ (Refused number)
+
+-- the same as a step from a store and a list to a store and a list
+abbrev pub LineStep : List ℕ × List ℕ → Text → List ℕ × List ℕ → Type 0
+LineStep s line s′ = LineCalled (s .0) (s .1) (s′ .0) (s′ .1) (readLine line)
 
 -- a line that is run on a store: what it leaves of the store and the list, and its answer in the output
 pub record LineRun (b l : List ℕ) (line : Text) (out : Text) (at : ℕ) (b′ l′ : List ℕ) (end : ℕ) (out′ : Text) : Type 0 where
@@ -40,14 +46,22 @@ pub record LineRun (b l : List ℕ) (line : Text) (out : Text) (at : ℕ) (b′ 
 
 -- ---- as many lines as there is room for
 
--- what some lines print and leave, and the lines that are left
+-- lines that are run, what they print and leave, and the lines that are left
 pub record Run : Type 0 where
+  pub lines : List Text
   pub text : Text
   pub state : State
   pub list : List ℕ
   pub rest : List Text
-  -- how many bytes the lines take that were run, with their line feeds
-  pub taken : ℕ
+
+-- no line is run
+abbrev pub unrun : State → List ℕ → List Text → Run
+unrun ts l xs = record { lines = []; text = []; state = ts; list = l; rest = xs }
+
+-- how many bytes lines take in a script, with their line feeds
+unfoldable pub linesLength : List Text → ℕ
+linesLength [] = 0
+linesLength (x ∷ xs) = length x + 1 + linesLength xs
 
 -- the answer list after a line
 unfoldable pub lineList : State → Reading → List ℕ → List ℕ
@@ -59,34 +73,34 @@ unfoldable pub linesList : State → List ℕ → List Text → List ℕ
 linesList ts l [] = l
 linesList ts l (x ∷ xs) = linesList (lineOutcome ts x .state) (lineList ts (readLine x) l) xs
 
--- lines of so many bytes, which print a text, before a run
-abbrev pub before : ℕ → Text → Run → Run
-before n bs r = record { text = bs ++ r .text; state = r .state; list = r .list; rest = r .rest; taken = n + r .taken }
+-- lines that print a text, before a run
+abbrev pub runBefore : List Text → Text → Run → Run
+runBefore xs bs r = record { lines = xs ++ r .lines; text = bs ++ r .text; state = r .state; list = r .list; rest = r .rest }
 
 -- lines are run as long as there is room for any line
 unfoldable pub runLines : ℕ → State → List ℕ → List Text → Run
-runLines room ts l [] = record { text = []; state = ts; list = l; rest = []; taken = 0 }
+runLines room ts l [] = unrun ts l []
 runLines room ts l (x ∷ xs) =
     cond (leb mostLine room)
-    (before (length x + 1) (answerLine (lineOutcome ts x .answer))
+    (runBefore (x ∷ []) (answerLine (lineOutcome ts x .answer))
     (runLines (room - length (answerLine (lineOutcome ts x .answer))) (lineOutcome ts x .state) (lineList ts (readLine x) l) xs))
-    (record { text = []; state = ts; list = l; rest = x ∷ xs; taken = 0 })
+    (unrun ts l (x ∷ xs))
 
 -- where the line behind one that ends at a place starts: behind its line feed, or at the script's end
 abbrev pub nextLine : ℕ → ℕ → ℕ
 nextLine size end = cond (ltb end size) (end + 1) end
 
 -- the lines of a script from place `from` on, run on a store until the output has no room for a line; `r` names where the next line starts and how many bytes were put
-pub record BlockRun (u : Run) (b : List ℕ) (script : Text) (from : ℕ) (out : Text) (r : Block) (b′ l′ : List ℕ) (out′ : Text) : Type 0 where
+pub record BlockRun (u : Run) (b l : List ℕ) (script : Text) (from : ℕ) (out : Text) (r : Block) (b′ l′ : List ℕ) (out′ : Text) : Type 0 where
   pub ready : Ready b′ l′
+  -- the lines were run one after the other, so that all that holds of one call holds of each line that reads as one
+  pub called : Trace LineStep (b, l) (u .lines) (b′, l′)
   pub tuples : tuplesOf b′ ≡ u .state
-  pub size : length b′ ≡ length b
-  pub past : pastRecords b′ ≡ pastRecords b
   pub list : l′ ≡ u .list
   pub put : Put (u .text) out 0 (r .length) out′
   pub fits : r .length ≤ length out
   -- behind the lines that were run; the last line of the script may lack its line feed
-  pub next : r .next ≡ min (from + u .taken) (length script)
+  pub next : r .next ≡ min (from + linesLength (u .lines)) (length script)
   pub rest : linesOf (drop (r .next) script) ≡ u .rest
   -- at least one line is run, where there is one and the output is long enough
   pub forward : from < length script → mostLine ≤ length out → from < r .next
@@ -96,7 +110,16 @@ pub record BlockRun (u : Run) (b : List ℕ) (script : Text) (from : ℕ) (out :
 -- what a script leaves of a store and a list when all its lines are run
 pub record ScriptRun (b l : List ℕ) (script : Text) (b′ l′ : List ℕ) : Type 0 where
   pub ready : Ready b′ l′
+  pub called : Trace LineStep (b, l) (linesOf script) (b′, l′)
   pub tuples : tuplesOf b′ ≡ linesFinal (tuplesOf b) (linesOf script)
-  pub size : length b′ ≡ length b
-  pub past : pastRecords b′ ≡ pastRecords b
   pub list : l′ ≡ linesList (tuplesOf b) l (linesOf script)
+
+-- ---- demand 1
+
+-- of a line, from a store and a list to a store and a list
+pub record LineDemand1 (s : List ℕ × List ℕ) (line : Text) (s′ : List ℕ × List ℕ) : Type 0 where
+  -- "unreadable; no call is made": no word of the store or of the list changes
+  pub unreadable : (number : ℕ) → readLine line ≡ Refused number → (s′ .0 ≡ s .0) × (s′ .1 ≡ s .1)
+  -- a line that reads as a call has demand 1 of that call
+  pub call : (c : Call) → readLine line ≡ Read c
+      → Demand1 (s .0) (s .1) c (answerOf (machine (capacityOf (s .0)) (tuplesOf (s .0)) c (length (s .1)) .answer)) (s′ .0) (s′ .1)

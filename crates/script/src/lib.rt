@@ -62,7 +62,7 @@ pub fn run_block(
     out: &mut [u8],
 ) -> Block
     requires { ⌜ Ready (now store) (now list) × (from ≤ length (now script)) ⌝ }
-    ensures { λ r. ⌜ BlockRun (runLines (length (now (out .entry))) (tuplesOf (now (store .entry))) (now (list .entry)) (linesOf (drop from (now (script .entry))))) (now (store .entry)) (now (script .entry)) from (now (out .entry)) r (now (store .exit)) (now (list .exit)) (now (out .exit)) ⌝ }
+    ensures { λ r. ⌜ BlockRun (runLines (length (now (out .entry))) (tuplesOf (now (store .entry))) (now (list .entry)) (linesOf (drop from (now (script .entry))))) (now (store .entry)) (now (list .entry)) (now (script .entry)) from (now (out .entry)) r (now (store .exit)) (now (list .exit)) (now (out .exit)) ⌝ }
 {
     let mut at = from;
     let mut length = 0;
@@ -78,10 +78,10 @@ pub fn run_block(
 }
 
 // May an input of so many bytes be run: at most 65,536.
-pub fn accepted(length: usize) -> bool
-    ensures { λ r. ⌜ r ≡ leb length mostInput ⌝ }
+pub fn accepted(bytes: usize) -> bool
+    ensures { λ r. ⌜ r ≡ leb bytes mostInput ⌝ }
 {
-    length <= 65536
+    bytes <= 65536
 }
 
 // Writes the refusal of an input that is too long.

@@ -88,7 +88,7 @@ same-length-2 c = search needs
 
 -- src/lib.rt:72:1
 returns-2 : tie.Need-returns-2
-returns-2 c = bind-performed _ (c .before .before .before .before .before .before .before .before .before .before .args .c) _ _ _ _ (c .before .before .before .before .before .before .op2 .given .1) (c .first-argument2 .ensures) (c .before .before .before .bind .ensures)
+returns-2 c = bind-performed _ (c .before .before .before .before .before .before .before .before .before .before .args .c) _ _ _ _ (c .before .before .before .before .before .before .op2 .given .1) (c .first-argument2 .ensures) (c .before .before .before .bind .ensures .edited)
 
 -- src/lib.rt:72:1
 same-length-3 : tie.Need-same-length-3

@@ -1,4 +1,4 @@
-use Rattle.script.proofs.Blocks.{Going, go-start, go-on, go-end}
+use Rattle.script.proofs.Blocks.{Going, go-start, go-on, go-sized, go-end}
 use lib.Seq.{length-take-le}
 use lib.ListN.{length}
 use Prim.Native.Nat.{_-_}
@@ -57,7 +57,7 @@ loop-again c = (go-on _ _ _ _ _ _ _ _ _ _ _ (c .before .before .before .before .
 
 -- src/lib.rt:8:1
 same-length : tie.Need-same-length Inv-loop μ-loop
-same-length c = omega (arith, c .before .loop .inv .0 .words)
+same-length c = omega (arith, go-sized _ _ _ _ _ _ (c .before .loop .inv .0))
 
 -- src/lib.rt:8:1
 same-length-2 : tie.Need-same-length-2 Inv-loop μ-loop
