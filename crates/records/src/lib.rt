@@ -47,14 +47,6 @@ pub fn put_head_word(b: &mut [u32], at: usize, w: usize)
     b[at] = w as u32;
 }
 
-// Where record i starts.
-pub fn record_start(i: usize) -> usize
-    requires { ⌜ (1 ≤ i) × (i ≤ 4096) ⌝ }
-    ensures { λ r. ⌜ r ≡ recordStart i ⌝ }
-{
-    4 + 6 * (i - 1)
-}
-
 // The record that follows record i in its chain; 0 where the chain ends.
 pub fn next_of(b: &[u32], i: usize) -> usize
     requires { ⌜ Inside (now b) i ⌝ }
