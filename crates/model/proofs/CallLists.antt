@@ -4,7 +4,7 @@ use mathlib.Core.Bool.{true}
 use mathlib.Core.List.{List, [], _∷_, map}
 use mathlib.Core.Logic.{⊎-elim}
 use mathlib.Core.Path.{_≡_, refl, sym, ap, ap₂, _∙_, subst}
-use Prim.Native.Nat.{ℕ, _+_, _-_, _*_, _/_, _%_, _≤_}
+use Prim.Native.Nat.{ℕ, _+_, _*_, _/_, _%_, _≤_}
 use native.Mathlib.Omega.{arith}
 use lib.ListN.{length, drop, length-append, length-drop, length-map}
 use lib.Seq.{take-at}
@@ -19,9 +19,9 @@ use Rattle.model.specs.declared.Listing.{Listing}
 use Rattle.model.specs.Pairs.{pair, edgeOf, nodeOf}
 use Rattle.model.specs.Steps.{Reply, pairs, nOf, sOf, listed}
 use Rattle.model.specs.Machine.{State, machine, answers, final}
-use Rattle.model.specs.Buffer.{capacityOf, tupleAt, usedOf, freeOf, tuplesOf, isStore, Prepared}
 use Rattle.model.specs.Rules.{TupleRules}
 use Rattle.model.specs.Entries.{PointsOut, PointsIn, IsPair, Entry}
+use Rattle.model.specs.Layouts.{Layout, Lawful}
 use Rattle.model.specs.Traces.{Trace, end, then}
 use Rattle.model.specs.OneCall.{answerOf, listCount, nameCount, pack, unpack, listAfter, observed, OnStore}
 use Rattle.model.specs.CallLists.{CallMade, OneMade, Exchange, exchangeOf, requests, FullExactly, WholeList, Demand3}
@@ -29,9 +29,7 @@ use Rattle.model.proofs.Taken.{EveryPair}
 use Rattle.model.proofs.Entries.{listed-sound}
 use Rattle.model.proofs.Steps.{every-member}
 use Rattle.model.proofs.Refusals.{answer-form, full-exactly}
-use Rattle.model.proofs.Store.{store-rules, chains-count, tuples-fit}
 use Rattle.model.proofs.Traces.{trace-map}
-use Rattle.model.proofs.Prepared.{prepared-capacity, prepared-store, prepared-tuples}
 
 -- ---- pairs and words
 
@@ -112,91 +110,85 @@ listed-in-list C ts c room l =
     let ps : List Pair = listed x c ts in
     omega (arith, e, length-append (map pack ps) (drop (length ps) l), length-map ps pack, length-drop (length ps) l))
 
--- .. nor does a call on a store
-pub answer-within : (b l b′ l′ : List ℕ) (c : Call) (a : Answer) → OnStore b l c a b′ l′ → length l′ ≡ length l → listCount a ≤ length l
-answer-within b l b′ l′ c a O e =
-    subst (λ (x : Answer). listCount x ≤ length l) (sym (O .answer)) (listed-in-list (capacityOf b) (tuplesOf b) c (length l) l (ap length (sym (O .list)) ∙ e))
+-- ---- over any layout
 
--- ---- the whole list
-
-capacity-size : (b b′ : List ℕ) → length b′ ≡ length b → capacityOf b′ ≡ capacityOf b
-unfolding capacityOf
-capacity-size b b′ e = ap (λ (l : ℕ). (l - 4) / 6) e
-
--- nothing is left to be done
-no-calls : (b : List ℕ) → isStore b ≡ true → WholeList (capacityOf b) (tuplesOf b) [] b
-unfolding answers final tuplesOf
-no-calls b e =
-    let R = store-rules b e in
-    record {
-      answered = refl;
-      store = e;
-      held = refl;
-      once = R .tuples .ascends;
-      records = ap (λ (n : ℕ). n + length (freeOf b)) (length-map (usedOf b) (tupleAt b)) ∙ chains-count b (usedOf b) (freeOf b) (R .chains);
-      nothingMissing = R .tuples .nothingMissing;
-      fullExactly = tt;
-    }
-
--- what demand 3 needs of one call on a store, by whatever door it is made: the machine's answer, and a store of the same length with the machine's tuples
-pub record AsMachine (b : List ℕ) (x : Exchange) (b′ : List ℕ) : Type 0 where
-  pub reply : x .reply ≡ machine (capacityOf b) (tuplesOf b) (x .request .call) (x .request .room) .answer
-  pub store : isStore b′ ≡ true
-  pub tuples : tuplesOf b′ ≡ machine (capacityOf b) (tuplesOf b) (x .request .call) (x .request .room) .state
+-- what demand 3 needs of one call on a store, by whatever door it is made: the machine's answer, and a store of the same length with the machine's state
+pub record AsMachine (Y : Layout) (b : List ℕ) (x : Exchange) (b′ : List ℕ) : Type 0 where
+  pub reply : x .reply ≡ machine (Y .capacityOf b) (Y .stateOf b) (x .request .call) (x .request .room) .answer
+  pub store : Y .isStore b′ ≡ true
+  pub state : Y .stateOf b′ ≡ machine (Y .capacityOf b) (Y .stateOf b) (x .request .call) (x .request .room) .state
   pub size : length b′ ≡ length b
 
-abbrev pub MachineStep : List ℕ → Exchange → List ℕ → Type 0
-MachineStep b x b′ = isStore b ≡ true → AsMachine b x b′
+abbrev pub MachineStep : Layout → List ℕ → Exchange → List ℕ → Type 0
+MachineStep Y b x b′ = Y .isStore b ≡ true → AsMachine Y b x b′
 
--- one call before a list of calls
-one-more : (b b′ b″ : List ℕ) (x : Exchange) (xs : List Exchange) → isStore b ≡ true → AsMachine b x b′
-    → WholeList (capacityOf b′) (tuplesOf b′) xs b″ → WholeList (capacityOf b) (tuplesOf b) (x ∷ xs) b″
-unfolding answers final
-one-more b b′ b″ x xs e A W =
-    let C : ℕ = capacityOf b in
-    let ts : State = tuplesOf b in
-    let same : capacityOf b′ ≡ C = capacity-size b b′ (A .size) in
-    let ten = full-exactly C ts (x .request) (tuples-fit b (store-rules b e .chains)) in
-    record {
-      answered = ap₂ _∷_ (A .reply) (W .answered ∙ ap₂ (λ (D : ℕ) (us : State). answers D us (requests xs)) same (A .tuples));
-      store = W .store;
-      held = W .held ∙ ap₂ (λ (D : ℕ) (us : State). final D us (requests xs)) same (A .tuples);
-      once = W .once;
-      records = W .records ∙ same;
-      nothingMissing = W .nothingMissing;
-      fullExactly = (
-        (λ a. ten .0 (sym (A .reply) ∙ a), λ h. A .reply ∙ ten .1 h),
-        subst (λ (us : State). FullExactly C us xs) (A .tuples) (subst (λ (D : ℕ). FullExactly D (tuplesOf b′) xs) same (W .fullExactly)),
-      );
-    }
+-- a call on a store lists no more pairs than its list has places
+pub answer-within : (Y : Layout) (b l b′ l′ : List ℕ) (c : Call) (a : Answer) → OnStore Y b l c a b′ l′ → length l′ ≡ length l → listCount a ≤ length l
+answer-within Y b l b′ l′ c a O e =
+    subst (λ (x : Answer). listCount x ≤ length l) (sym (O .answer)) (listed-in-list (Y .capacityOf b) (Y .stateOf b) c (length l) l (ap length (sym (O .list)) ∙ e))
 
--- a list of calls from any store
-pub whole-list : {b b′ : List ℕ} {xs : List Exchange} → Trace MachineStep b xs b′ → isStore b ≡ true → WholeList (capacityOf b) (tuplesOf b) xs b′
-whole-list (end {s = b}) e = no-calls b e
-whole-list (then {s = b} {s′ = b′} {s″ = b″} {x = x} {xs = xs} one rest) e = one-more b b′ b″ x xs e (one e) (whole-list rest (one e .store))
+module _ (Y : Layout) (L : Lawful Y) where
+  -- ---- the whole list
 
--- .. and from a buffer just prepared
-pub whole-prepared : (raw b b′ : List ℕ) (C : ℕ) (xs : List Exchange) → capacityOf raw ≡ C → Prepared raw b → Trace MachineStep b xs b′ → WholeList C fresh xs b′
-whole-prepared raw b b′ C xs size P trace =
-    subst (λ (D : ℕ). WholeList D fresh xs b′) (prepared-capacity raw b P ∙ size)
-    (subst (λ (ts : State). WholeList (capacityOf b) ts xs b′) (prepared-tuples raw b P) (whole-list trace (prepared-store raw b P)))
+  -- nothing is left to be done
+  no-calls : (b : List ℕ) → Y .isStore b ≡ true → WholeList Y (Y .capacityOf b) (Y .stateOf b) [] b
+  unfolding answers final
+  no-calls b e =
+      let R = L .rules b e in
+      record { answered = refl; store = e; held = refl; once = R .ascends; records = L .counted b e; nothingMissing = R .nothingMissing; fullExactly = tt }
 
--- a call of the entry is such a call
-pub one-call-machine : (b b′ : List ℕ) (x : CallMade) → OneMade b x b′ → MachineStep b (exchangeOf x) b′
-unfolding tuplesOf
-one-call-machine b b′ x one e =
-    let O = one .onStore e in
-    record {
-      reply =
-          ap₂ observed (O .answer) (O .list)
-          ∙ observed-machine (capacityOf b) (tuplesOf b) (x .call) (length (x .lent)) (x .lent) (store-rules b e .tuples);
-      store = O .store;
-      tuples = O .tuples;
-      size = O .size;
-    }
+  -- one call before a list of calls
+  one-more : (b b′ b″ : List ℕ) (x : Exchange) (xs : List Exchange) → Y .isStore b ≡ true → AsMachine Y b x b′
+      → WholeList Y (Y .capacityOf b′) (Y .stateOf b′) xs b″ → WholeList Y (Y .capacityOf b) (Y .stateOf b) (x ∷ xs) b″
+  unfolding answers final
+  one-more b b′ b″ x xs e A W =
+      let C : ℕ = Y .capacityOf b in
+      let ts : State = Y .stateOf b in
+      let same : Y .capacityOf b′ ≡ C = L .sized b b′ (A .size) in
+      let ten = full-exactly C ts (x .request) (omega (arith, L .counted b e)) in
+      record {
+        answered = ap₂ _∷_ (A .reply) (W .answered ∙ ap₂ (λ (D : ℕ) (us : State). answers D us (requests xs)) same (A .state));
+        store = W .store;
+        held = W .held ∙ ap₂ (λ (D : ℕ) (us : State). final D us (requests xs)) same (A .state);
+        once = W .once;
+        records = W .records ∙ same;
+        nothingMissing = W .nothingMissing;
+        fullExactly = (
+          (λ a. ten .0 (sym (A .reply) ∙ a), λ h. A .reply ∙ ten .1 h),
+          subst (λ (us : State). FullExactly C us xs) (A .state) (subst (λ (D : ℕ). FullExactly D (Y .stateOf b′) xs) same (W .fullExactly)),
+        );
+      }
 
-pub machine-trace : {b b′ : List ℕ} {xs : List CallMade} → Trace OneMade b xs b′ → Trace MachineStep b (map exchangeOf xs) b′
-machine-trace trace = trace-map MachineStep exchangeOf one-call-machine trace
+  -- a list of calls from any store
+  pub whole-list : {b b′ : List ℕ} {xs : List Exchange} → Trace (MachineStep Y) b xs b′ → Y .isStore b ≡ true
+      → WholeList Y (Y .capacityOf b) (Y .stateOf b) xs b′
+  whole-list (end {s = b}) e = no-calls b e
+  whole-list (then {s = b} {s′ = b′} {s″ = b″} {x = x} {xs = xs} one rest) e = one-more b b′ b″ x xs e (one e) (whole-list rest (one e .store))
 
-pub demand-3 : Demand3
-demand-3 C raw b b′ xs least most size P trace = whole-prepared raw b b′ C (map exchangeOf xs) size P (machine-trace trace)
+  -- .. and from a buffer just prepared
+  pub whole-prepared : (raw b b′ : List ℕ) (C : ℕ) (xs : List Exchange) → Y .capacityOf raw ≡ C → Y .Prepared raw b → Trace (MachineStep Y) b xs b′
+      → WholeList Y C fresh xs b′
+  whole-prepared raw b b′ C xs size P trace =
+      subst (λ (D : ℕ). WholeList Y D fresh xs b′) (L .sized raw b (L .preparedSize raw b P) ∙ size)
+      (subst (λ (ts : State). WholeList Y (Y .capacityOf b) ts xs b′) (L .preparedState raw b P) (whole-list trace (L .preparedStore raw b P)))
+
+  -- ---- calls of the entry
+
+  -- a call of the entry is such a call
+  pub one-call-machine : (b b′ : List ℕ) (x : CallMade) → OneMade Y b x b′ → MachineStep Y b (exchangeOf x) b′
+  one-call-machine b b′ x one e =
+      let O = one .onStore e in
+      record {
+        reply =
+            ap₂ observed (O .answer) (O .list)
+            ∙ observed-machine (Y .capacityOf b) (Y .stateOf b) (x .call) (length (x .lent)) (x .lent) (L .rules b e);
+        store = O .store;
+        state = O .state;
+        size = O .size;
+      }
+
+  pub machine-trace : {b b′ : List ℕ} {xs : List CallMade} → Trace (OneMade Y) b xs b′ → Trace (MachineStep Y) b (map exchangeOf xs) b′
+  machine-trace trace = trace-map (MachineStep Y) exchangeOf one-call-machine trace
+
+  pub demand-3 : Demand3 Y
+  demand-3 C raw b b′ xs least most size P trace = whole-prepared raw b b′ C (map exchangeOf xs) size P (machine-trace trace)

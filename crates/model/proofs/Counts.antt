@@ -26,6 +26,7 @@ use Rattle.model.specs.Steps.{Reply, nOf, gOf, mOf, sOf, listed, wouldLi
 use Rattle.model.specs.Refusals.{Stop, stop, first, selectsNothing, listShort, full, ofCall, ofTuples, ifLookedUp, earlier, refusalOf}
 use Rattle.model.specs.Machine.{machine}
 use Rattle.model.specs.Buffer.{capacityOf, tuplesOf, isStore}
+use Rattle.model.specs.Stored.{stored}
 use Rattle.model.specs.OneCall.{answerOf, listCount, OnStore}
 use Rattle.model.proofs.Order.{pairs}
 use Rattle.model.proofs.Bools.{or-left, or-right, and-right, and-both}
@@ -187,7 +188,7 @@ machine-most b c room store =
     (λ t. omega arith) (omega arith) (λ l. omega (arith, listed-within (tuplesOf b) l c, store-most b store))
 
 -- .. nor does a call
-pub answer-most : (b l b′ l′ : List ℕ) (c : Call) (a : Answer) → isStore b ≡ true → OnStore b l c a b′ l′ → listCount a ≤ 2048
+pub answer-most : (b l b′ l′ : List ℕ) (c : Call) (a : Answer) → isStore b ≡ true → OnStore stored b l c a b′ l′ → listCount a ≤ 2048
 answer-most b l b′ l′ c a store O = subst (λ (x : Answer). listCount x ≤ 2048) (sym (O .answer)) (machine-most b c _ store)
 
 -- ---- 2,048 places are enough for any call

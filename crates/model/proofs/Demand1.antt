@@ -13,13 +13,12 @@ use Rattle.model.specs.Tuples.{Tuples}
 use Rattle.model.specs.Steps.{Reply, refusal, name, valued, yesNo, pairs}
 use Rattle.model.specs.Refusals.{stop, selectsNothing, full, first, ofCall, ofTuples, ifLookedUp, earlier, refusalOf}
 use Rattle.model.specs.Machine.{Outcome, machine}
-use Rattle.model.specs.Buffer.{capacityOf, tuplesOf, isStore}
+use Rattle.model.specs.Layouts.{Layout, Lawful}
 use Rattle.model.specs.NoSelection.{nothingReply}
 use Rattle.model.specs.OneCall.{answerOf, listAfter, OnNoStore, OnStore, OneCall}
 use Rattle.model.specs.Demand1.{Demand1}
 use Rattle.model.proofs.Bools.{clash}
 use Rattle.model.proofs.Refusals.{everyNumber, first-number, refused-exactly}
-use Rattle.model.proofs.Store.{store-exactly}
 use Rattle.model.proofs.NoSelection.{nothing-idle, nothing-form}
 
 -- an answer is a refusal only where the machine's is
@@ -56,22 +55,22 @@ nothing-unwritten c l = nothing-form (λ (r : Reply). listAfter r l ≡ l) (λ n
 
 -- ---- demand 1
 
-module _ (b l : List ℕ) (c : Call) (a : Answer) (b′ l′ : List ℕ) where
-  no-store-demand-1 : isStore b ≡ false → OnNoStore b l a b′ l′ → Demand1 b l c a b′ l′
+module _ (Y : Layout) (L : Lawful Y) (b l : List ℕ) (c : Call) (a : Answer) (b′ l′ : List ℕ) where
+  no-store-demand-1 : Y .isStore b ≡ false → OnNoStore b l a b′ l′ → Demand1 Y b l c a b′ l′
   no-store-demand-1 e N =
       record {
         refused = λ number r. (N .buffer, N .list);
-        noStore = (λ r S. clash (store-exactly b .1 S) e, λ n. N .answer);
+        noStore = (λ r S. clash (L .exactly b .1 S) e, λ n. N .answer);
         reading = λ w. N .buffer;
         unselected = λ t. (N .buffer, N .list);
       }
 
   -- the condition that stopped a call which was refused
-  stopped-by : OnStore b l c a b′ l′ → (number : ℕ) → a ≡ Refusal number → refusalOf (capacityOf b) (tuplesOf b) c (length l) ≡ some number
+  stopped-by : OnStore Y b l c a b′ l′ → (number : ℕ) → a ≡ Refusal number → refusalOf (Y .capacityOf b) (Y .stateOf b) c (length l) ≡ some number
   stopped-by O number r =
-      refused-exactly (capacityOf b) (tuplesOf b) c (length l) number .0 (refused-reply _ number (sym (O .answer) ∙ r))
+      refused-exactly (Y .capacityOf b) (Y .stateOf b) c (length l) number .0 (refused-reply _ number (sym (O .answer) ∙ r))
 
-  store-demand-1 : isStore b ≡ true → OnStore b l c a b′ l′ → Demand1 b l c a b′ l′
+  store-demand-1 : Y .isStore b ≡ true → OnStore Y b l c a b′ l′ → Demand1 Y b l c a b′ l′
   unfolding listAfter
   store-demand-1 e O =
       record {
@@ -79,19 +78,19 @@ module _ (b l : List ℕ) (c : Call) (a : Answer) (b′ l′ : List ℕ) where
           O .refused number (stopped-by O number r),
           O .list ∙ ap (λ (x : Reply). listAfter x l) (refused-reply _ number (sym (O .answer) ∙ r)),
         );
-        noStore = (λ r. absurd (never-one _ _ c _ (stopped-by O 1 r)), λ n. absurd (n (store-exactly b .0 e)));
+        noStore = (λ r. absurd (never-one _ _ c _ (stopped-by O 1 r)), λ n. absurd (n (L .exactly b .0 e)));
         reading = O .reading;
         unselected = λ t. (
           O .unselected t,
           O .list
-              ∙ ap (λ (o : Outcome). listAfter (o .answer) l) (nothing-idle (capacityOf b) (tuplesOf b) c (length l) t)
+              ∙ ap (λ (o : Outcome). listAfter (o .answer) l) (nothing-idle (Y .capacityOf b) (Y .stateOf b) c (length l) t)
               ∙ nothing-unwritten c l,
         );
       }
 
-  pub one-call-demand-1 : OneCall b l c a b′ l′ → Demand1 b l c a b′ l′
-  one-call-demand-1 one = go (isStore b) refl
+  pub one-call-demand-1 : OneCall Y b l c a b′ l′ → Demand1 Y b l c a b′ l′
+  one-call-demand-1 one = go (Y .isStore b) refl
     where
-      go : (s : Bool) → isStore b ≡ s → Demand1 b l c a b′ l′
+      go : (s : Bool) → Y .isStore b ≡ s → Demand1 Y b l c a b′ l′
       go true e = store-demand-1 e (one .onStore e)
       go false e = no-store-demand-1 e (one .noStore e)

@@ -11,6 +11,7 @@ pub mod Answers
 pub mod Chains
 pub mod Store
 pub mod Prepared
+pub mod Stored
 pub mod Traces
 pub mod CallLists
 pub mod Counts

@@ -10,6 +10,7 @@ use Rattle.model.specs.Operators.{operatorOf}
 use Rattle.model.specs.Steps.{Reply, refusal, name, valued, yesNo, pairs, idleReply}
 use Rattle.model.specs.Refusals.{selectsNothing, first, ofCall}
 use Rattle.model.specs.Machine.{State, Outcome, Request, idle, outcomeOf, machine, answers, final}
+use Rattle.model.specs.Layouts.{Layout}
 use Rattle.model.specs.CallLists.{Exchange, requests, WholeList}
 use Rattle.model.specs.NoSelection.{refusalOr, nothingReply, WithoutEffect, NoSelection}
 use Rattle.model.proofs.Refusals.{not-looked-up, idle-form}
@@ -67,16 +68,16 @@ module _ (C : ℕ) (ts : State) (xs : List Request) (r : Request) (ys : List Req
 -- ---- in a list of calls that were made
 
 -- where demand 3 holds of a list with such a call and of the list without it
-pub nothing-without-effect : (C : ℕ) (ts : State) (xs : List Exchange) (x : Exchange) (ys : List Exchange) (b : List ℕ) (zs : List Exchange) (b″ : List ℕ)
-    → selectsNothing (x .request .call) ≡ true → requests zs ≡ requests (xs ++ ys) → WholeList C ts (xs ++ (x ∷ ys)) b → WholeList C ts zs b″
-    → WithoutEffect C ts xs x ys b zs b″
-nothing-without-effect C ts xs x ys b zs b″ e same W W₀ =
+pub nothing-without-effect : (Y : Layout) (C : ℕ) (ts : State) (xs : List Exchange) (x : Exchange) (ys : List Exchange) (b : List ℕ) (zs : List Exchange) (b″ : List ℕ)
+    → selectsNothing (x .request .call) ≡ true → requests zs ≡ requests (xs ++ ys) → WholeList Y C ts (xs ++ (x ∷ ys)) b → WholeList Y C ts zs b″
+    → WithoutEffect Y C ts xs x ys b zs b″
+nothing-without-effect Y C ts xs x ys b zs b″ e same W W₀ =
     let with-it = map-append (λ (y : Exchange). y .request) xs (x ∷ ys) in
     let without-it = same ∙ map-append (λ (y : Exchange). y .request) xs ys in
     record {
       withIt = W .answered ∙ ap (answers C ts) with-it ∙ nothing-answers C ts (requests xs) (x .request) (requests ys) e;
       withoutIt = W₀ .answered ∙ ap (answers C ts) without-it ∙ answers-append C ts (requests xs) (requests ys);
-      sameTuples =
+      sameState =
           W .held
           ∙ ap (final C ts) with-it
           ∙ nothing-final C ts (requests xs) (x .request) (requests ys) e

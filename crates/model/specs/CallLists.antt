@@ -1,4 +1,4 @@
--- Document 01, "A list of calls, as demand 3 has it": calls one after the other, and what is claimed of the whole list.
+-- Document 01, "A list of calls, as demand 3 has it": calls one after the other, and what is claimed of the whole list, over any layout of the buffer.
 use mathlib.Core.Bool.{true, cond}
 use mathlib.Core.List.{List, [], _∷_, map}
 use mathlib.Core.Logic.{_↔_}
@@ -16,8 +16,8 @@ use Rattle.model.specs.Operators.{operatorOf}
 use Rattle.model.specs.Steps.{Reply, refusal, wouldAdd}
 use Rattle.model.specs.Refusals.{selectsNothing, first, earlier}
 use Rattle.model.specs.Machine.{State, Request, machine, answers, final}
-use Rattle.model.specs.Buffer.{capacityOf, tuplesOf, freeOf, isStore, Prepared}
 use Rattle.model.specs.Rules.{NothingMissing}
+use Rattle.model.specs.Layouts.{Layout}
 use Rattle.model.specs.Traces.{Trace}
 use Rattle.model.specs.OneCall.{OneCall, observed}
 use Rattle.model.specs.Demand1.{Demand1}
@@ -36,12 +36,12 @@ abbrev pub CallMade : Type 0
 CallMade = Made ℕ
 
 -- it is one call of the entry, from the buffer b to the buffer b′
-abbrev pub OneMade : List ℕ → CallMade → List ℕ → Type 0
-OneMade b x b′ = OneCall b (x .lent) (x .call) (x .answer) b′ (x .left)
+abbrev pub OneMade : Layout → List ℕ → CallMade → List ℕ → Type 0
+OneMade Y b x b′ = OneCall Y b (x .lent) (x .call) (x .answer) b′ (x .left)
 
 -- demand 1 of it
-abbrev pub MeetsDemand1 : {A : Type 0} → List ℕ → Made A → List ℕ → Type 0
-MeetsDemand1 b x b′ = Demand1 b (x .lent) (x .call) (x .answer) b′ (x .left)
+abbrev pub MeetsDemand1 : Layout → {A : Type 0} → List ℕ → Made A → List ℕ → Type 0
+MeetsDemand1 Y b x b′ = Demand1 Y b (x .lent) (x .call) (x .answer) b′ (x .left)
 
 -- ---- what the machine and the callers see of a call
 
@@ -79,22 +79,22 @@ FullExactly C ts (x ∷ xs) =
     ((x .reply ≡ refusal 10) ↔ Exceeds C ts (x .request)) × FullExactly C (machine C ts (x .request .call) (x .request .room) .state) xs
 
 -- what is claimed of a list of calls made from a store of C records that holds the tuples ts, to the buffer b
-pub record WholeList (C : ℕ) (ts : State) (xs : List Exchange) (b : List ℕ) : Type 0 where
+pub record WholeList (Y : Layout) (C : ℕ) (ts : State) (xs : List Exchange) (b : List ℕ) : Type 0 where
   -- "the answers are those of 01's tuple machine"
   pub answered : replies xs ≡ answers C ts (requests xs)
   -- "the used chain holds exactly the machine's tuples, each once": they ascend strictly
-  pub store : isStore b ≡ true
-  pub held : tuplesOf b ≡ final C ts (requests xs)
-  pub once : Ascending keyOf compareKeys (tuplesOf b)
+  pub store : Y .isStore b ≡ true
+  pub held : Y .stateOf b ≡ final C ts (requests xs)
+  pub once : Ascending keyOf compareKeys (Y .stateOf b)
   -- "tuples + free = C"
-  pub records : length (tuplesOf b) + length (freeOf b) ≡ C
+  pub records : length (Y .stateOf b) + length (Y .freeOf b) ≡ C
   -- "nothing names a missing node or space"
-  pub nothingMissing : NothingMissing (tuplesOf b)
+  pub nothingMissing : NothingMissing (Y .stateOf b)
   pub fullExactly : FullExactly C ts xs
 
 -- demand 3: "for every C in 1..2,048, every fresh store of C records and every list of calls", the empty one too.
 -- The names of a call need no bound here: a call that is made has 16-bit fields, and OneCall holds of no other that adds a name.
-abbrev pub Demand3 : Type 0
-Demand3 =
+abbrev pub Demand3 : Layout → Type 0
+Demand3 Y =
     (C : ℕ) (raw b b′ : List ℕ) (xs : List CallMade)
-    → 1 ≤ C → C ≤ 2048 → capacityOf raw ≡ C → Prepared raw b → Trace OneMade b xs b′ → WholeList C fresh (map exchangeOf xs) b′
+    → 1 ≤ C → C ≤ 2048 → Y .capacityOf raw ≡ C → Y .Prepared raw b → Trace (OneMade Y) b xs b′ → WholeList Y C fresh (map exchangeOf xs) b′

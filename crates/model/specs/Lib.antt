@@ -10,6 +10,8 @@ pub mod Unread
 pub mod Buffer
 pub mod Rules
 pub mod Entries
+pub mod Layouts
+pub mod Stored
 pub mod Traces
 pub mod OneCall
 pub mod Demand1

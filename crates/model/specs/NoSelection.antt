@@ -14,7 +14,7 @@ use Rattle.model.specs.Pairs.{pair}
 use Rattle.model.specs.Steps.{Reply, refusal, name, valued, yesNo, pairs, idleReply}
 use Rattle.model.specs.Refusals.{first, ofCall}
 use Rattle.model.specs.Machine.{State, Request, answers, final}
-use Rattle.model.specs.Buffer.{tuplesOf}
+use Rattle.model.specs.Layouts.{Layout}
 use Rattle.model.specs.CallLists.{Exchange, requests, replies}
 use Rattle.model.specs.Cases.{call, callWith, numbered, COP, CAP, BOP, VOP, DON, CUN, XUN, DUN, SUN, CUS, DUS, withRoom, stateAfter}
 
@@ -29,10 +29,10 @@ nothingReply c = refusalOr (idleReply (operatorOf (c .operator)) c) (first (ofCa
 
 -- two lists of calls made from one store of C records that holds the tuples ts: zs to the buffer b″, and the same calls with x among them to b.
 -- The answer of x is that of the call alone; all other answers, and the tuples at the end, are the same
-pub record WithoutEffect (C : ℕ) (ts : State) (xs : List Exchange) (x : Exchange) (ys : List Exchange) (b : List ℕ) (zs : List Exchange) (b″ : List ℕ) : Type 0 where
+pub record WithoutEffect (Y : Layout) (C : ℕ) (ts : State) (xs : List Exchange) (x : Exchange) (ys : List Exchange) (b : List ℕ) (zs : List Exchange) (b″ : List ℕ) : Type 0 where
   pub withIt : replies (xs ++ (x ∷ ys)) ≡ answers C ts (requests xs) ++ (nothingReply (x .request .call) ∷ answers C (final C ts (requests xs)) (requests ys))
   pub withoutIt : replies zs ≡ answers C ts (requests xs) ++ answers C (final C ts (requests xs)) (requests ys)
-  pub sameTuples : tuplesOf b ≡ tuplesOf b″
+  pub sameState : Y .stateOf b ≡ Y .stateOf b″
 
 -- ---- examples
 

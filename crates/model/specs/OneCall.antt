@@ -1,4 +1,4 @@
--- All that one call does, on any buffer and with any answer list: the contract of the entry.
+-- All that one call does, on any buffer and with any answer list, over any layout of the buffer: the contract of the entry.
 use mathlib.Core.Bool.{Bool, true, false}
 use mathlib.Core.List.{List, _++_, map}
 use mathlib.Core.Option.{some}
@@ -16,7 +16,7 @@ use Rattle.model.specs.Pairs.{pair, edgeOf, nodeOf}
 use Rattle.model.specs.Steps.{Reply, refusal, name, valued, yesNo, pairs}
 use Rattle.model.specs.Refusals.{selectsNothing, refusalOf}
 use Rattle.model.specs.Machine.{machine}
-use Rattle.model.specs.Buffer.{capacityOf, tuplesOf, isStore, pastRecords}
+use Rattle.model.specs.Layouts.{Layout}
 
 -- ---- answers in the caller's types
 
@@ -80,21 +80,21 @@ pub record OnNoStore (b l : List ℕ) (a : Answer) (b′ l′ : List ℕ) : Type
   pub buffer : b′ ≡ b
   pub list : l′ ≡ l
 
--- on a store: the machine's answer, and a store of the same length with the machine's tuples.
+-- on a store: the machine's answer, and a store of the same length with the machine's state.
 -- Left to the builder: which record holds a tuple, and with it the order of the free chain; the words of free records besides next.
-pub record OnStore (b l : List ℕ) (c : Call) (a : Answer) (b′ l′ : List ℕ) : Type 0 where
-  pub answer : a ≡ answerOf (machine (capacityOf b) (tuplesOf b) c (length l) .answer)
-  pub list : l′ ≡ listAfter (machine (capacityOf b) (tuplesOf b) c (length l) .answer) l
-  pub store : isStore b′ ≡ true
-  pub tuples : tuplesOf b′ ≡ machine (capacityOf b) (tuplesOf b) c (length l) .state
+pub record OnStore (Y : Layout) (b l : List ℕ) (c : Call) (a : Answer) (b′ l′ : List ℕ) : Type 0 where
+  pub answer : a ≡ answerOf (machine (Y .capacityOf b) (Y .stateOf b) c (length l) .answer)
+  pub list : l′ ≡ listAfter (machine (Y .capacityOf b) (Y .stateOf b) c (length l) .answer) l
+  pub store : Y .isStore b′ ≡ true
+  pub state : Y .stateOf b′ ≡ machine (Y .capacityOf b) (Y .stateOf b) c (length l) .state
   pub size : length b′ ≡ length b
-  pub past : pastRecords b′ ≡ pastRecords b
-  pub refused : (number : ℕ) → refusalOf (capacityOf b) (tuplesOf b) c (length l) ≡ some number → b′ ≡ b
+  pub past : Y .pastRecords b′ ≡ Y .pastRecords b
+  pub refused : (number : ℕ) → refusalOf (Y .capacityOf b) (Y .stateOf b) c (length l) ≡ some number → b′ ≡ b
   pub reading : writes (operatorOf (c .operator)) ≡ false → b′ ≡ b
-  -- request 1: with nothing as the space "C, B and D change nothing"
+  -- request 1: with no selection "C, B and D change nothing"
   pub unselected : selectsNothing c ≡ true → b′ ≡ b
 
 -- the call c on the buffer b with the answer list l gives the answer a and leaves the buffer b′ and the list l′
-pub record OneCall (b l : List ℕ) (c : Call) (a : Answer) (b′ l′ : List ℕ) : Type 0 where
-  pub noStore : isStore b ≡ false → OnNoStore b l a b′ l′
-  pub onStore : isStore b ≡ true → OnStore b l c a b′ l′
+pub record OneCall (Y : Layout) (b l : List ℕ) (c : Call) (a : Answer) (b′ l′ : List ℕ) : Type 0 where
+  pub noStore : Y .isStore b ≡ false → OnNoStore b l a b′ l′
+  pub onStore : Y .isStore b ≡ true → OnStore Y b l c a b′ l′

@@ -1,0 +1,16 @@
+-- The layout of the store: records of six words in one chain (Buffer.antt, Rules.antt).
+use Rattle.model.specs.Buffer.{capacityOf, isStore, tuplesOf, freeOf, pastRecords, Prepared}
+use Rattle.model.specs.Rules.{IsStore}
+use Rattle.model.specs.Layouts.{Layout}
+
+abbrev pub stored : Layout
+stored =
+    record {
+      capacityOf = capacityOf;
+      isStore = isStore;
+      IsStore = IsStore;
+      stateOf = tuplesOf;
+      freeOf = freeOf;
+      pastRecords = pastRecords;
+      Prepared = Prepared;
+    }
