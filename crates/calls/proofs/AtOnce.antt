@@ -28,6 +28,7 @@ use Rattle.model.specs.Steps.{Reply, pairs, nOf, mOf, sOf, listed, wouldList, w
 use Rattle.model.specs.Refusals.{isUniverse, workedOn, noOperator, zeroName, destroysUniverse, spaceAbsent, nodeAbsent, secondAbsent, edgeAbsent, listShort, full, selectsNothing, refusalOf}
 use Rattle.model.specs.Machine.{step, idle, outcomeOf, machine}
 use Rattle.model.specs.OneCall.{answerOf, listAfter, writes, OnStore}
+use Rattle.model.specs.Stored.{stored}
 use Rattle.model.proofs.Bools.{or-left, and-left, and-right, and-both, not-yes, no-not, neither, failed, clash}
 use Rattle.model.proofs.Entries.{Member, samePair, own-pair, listed-sound}
 use Rattle.model.proofs.Refusals.{reading}
@@ -141,7 +142,7 @@ module _ (C : ℕ) (ts : Tuples) (c : Call) (room : ℕ) (e : c .operator ≡ 40
 -- a call that lists and that nothing stops
 listed-known : (b l l′ : List ℕ) (c : Call) (k : ℕ) → isStore b ≡ true → selectsNothing c ≡ false → operatorOf (c .operator) ≡ Lists sin
     → refusalOf (capacityOf b) (tuplesOf b) c (length l) ≡ none → k ≡ length (listed sin c (tuplesOf b)) → l′ ≡ written (listed sin c (tuplesOf b)) l
-    → OnStore b l c (Listed k) b l′
+    → OnStore stored b l c (Listed k) b l′
 unfolding machine outcomeOf reply answerOf listAfter writes written
 listed-known b l l′ c k store N O pass K L =
     let ts : Tuples = tuplesOf b in
@@ -154,7 +155,7 @@ listed-known b l l′ c k store N O pass K L =
       answer = ap Listed K ∙ sym (ap answerOf A);
       list = L ∙ sym (ap (λ (r : Reply). listAfter r l) A);
       store = store;
-      tuples = sym (reading (capacityOf b) ts c (length l) (ap writes O));
+      state = sym (reading (capacityOf b) ts c (length l) (ap writes O));
       size = refl;
       past = refl;
       refused = λ n f. refl;
@@ -164,12 +165,12 @@ listed-known b l l′ c k store N O pass K L =
 
 -- entries that were listed at once are the call's
 pub at-once-known : (b l l′ : List ℕ) (c : Call) (k : ℕ) → isStore b ≡ true → selectsNothing c ≡ false → k ≡ length (listedAtOnce c (tuplesOf b) (length l)) → k ≢ 0
-    → l′ ≡ written (listedAtOnce c (tuplesOf b) (length l)) l → OnStore b l c (Listed k) b l′
+    → l′ ≡ written (listedAtOnce c (tuplesOf b) (length l)) l → OnStore stored b l c (Listed k) b l′
 unfolding listedAtOnce atOnce
 at-once-known b l l′ c k store N K h L = go (atOnce c (length (tuplesOf b)) (length l)) refl K L
   where
     go : (t : Bool) → atOnce c (length (tuplesOf b)) (length l) ≡ t → k ≡ length (cond t (listed sin c (tuplesOf b)) [])
-        → l′ ≡ written (cond t (listed sin c (tuplesOf b)) []) l → OnStore b l c (Listed k) b l′
+        → l′ ≡ written (cond t (listed sin c (tuplesOf b)) []) l → OnStore stored b l c (Listed k) b l′
     go false e K L = absurd (h K)
     go true e K L =
         let ts : Tuples = tuplesOf b in
@@ -191,8 +192,8 @@ none-listed [] l l′ k K z L = L
 none-listed (p ∷ ps) l l′ k K z L = absurd (omega (arith, K))
 
 -- .. and the rest of the call finds it so
-pub as-it-was : (b l l₁ b′ l′ : List ℕ) (c : Call) (a : Answer) → l₁ ≡ l → OnStore b l₁ c a b′ l′ → OnStore b l c a b′ l′
-as-it-was b l l₁ b′ l′ c a e O = subst (λ (x : List ℕ). OnStore b x c a b′ l′) e O
+pub as-it-was : (b l l₁ b′ l′ : List ℕ) (c : Call) (a : Answer) → l₁ ≡ l → OnStore stored b l₁ c a b′ l′ → OnStore stored b l c a b′ l′
+as-it-was b l l₁ b′ l′ c a e O = subst (λ (x : List ℕ). OnStore stored b x c a b′ l′) e O
 
 -- ---- what the function answers
 

@@ -22,6 +22,7 @@ use Rattle.model.specs.Steps.{wouldList, wouldAdd}
 use Rattle.model.specs.Refusals.{selectsNothing, zeroName, destroysUniverse, listShort, full, refusalOf}
 use Rattle.model.specs.Machine.{FieldsFit, step, idle, outcomeOf, machine}
 use Rattle.model.specs.OneCall.{answerOf, listAfter, OnStore, OneCall}
+use Rattle.model.specs.Stored.{stored}
 use Rattle.model.proofs.Bools.{and-left, and-right}
 use Rattle.model.proofs.Steps.{Passed, passed, agrees, agree, n-named, g-named, m-named, s-named, after-rules}
 use Rattle.model.proofs.Refusals.{stopped, none≢some}
@@ -70,7 +71,7 @@ let-pass b c room stop op N S e O =
 -- ---- refused
 
 pub refused-known : (b l : List ℕ) (c : Call) (stop : ℕ) → isStore b ≡ true
-    → stop ≡ stopNumber (refusalOf (capacityOf b) (tuplesOf b) c (length l)) → stop ≢ 0 → OnStore b l c (Refusal stop) b l
+    → stop ≡ stopNumber (refusalOf (capacityOf b) (tuplesOf b) c (length l)) → stop ≢ 0 → OnStore stored b l c (Refusal stop) b l
 unfolding answerOf listAfter
 refused-known b l c stop e S h =
     let some-stop = some-exactly (refusalOf (capacityOf b) (tuplesOf b) c (length l)) stop h .0 (sym S) in
@@ -79,7 +80,7 @@ refused-known b l c stop e S h =
       answer = sym (ap answerOf (m .0));
       list = sym (ap (λ r. listAfter r l) (m .0));
       store = e;
-      tuples = sym (m .1);
+      state = sym (m .1);
       size = refl;
       past = refl;
       refused = λ n f. refl;
@@ -91,7 +92,7 @@ refused-known b l c stop e S h =
 
 pub performed-known : (b l b′ l′ : List ℕ) (c : Call) (stop : ℕ) (op : Operator) (a : Answer) → isStore b ≡ true → selectsNothing c ≡ false → FieldsFit c
     → stop ≡ stopNumber (refusalOf (capacityOf b) (tuplesOf b) c (length l)) → stop ≡ 0 → op ≡ operatorOf (c .operator)
-    → Performed op c b l a b′ l′ → OnStore b l c a b′ l′
+    → Performed op c b l a b′ l′ → OnStore stored b l c a b′ l′
 unfolding machine outcomeOf
 performed-known b l b′ l′ c stop op a e N F S z O D =
     let C : ℕ = capacityOf b in
@@ -105,7 +106,7 @@ performed-known b l b′ l′ c stop op a e N F S z O D =
       answer = E .answer ∙ sym (ap (λ o. answerOf (o .answer)) M);
       list = E .list ∙ sym (ap (λ o. listAfter (o .answer) l) M);
       store = edited-store b b′ _ (E .edited) (after-rules (operatorOf (c .operator)) C ts c (length l) (store-tuples b e) F P (agree c (P .operator)));
-      tuples = E .edited .tuples ∙ sym (ap (λ o. o .state) M);
+      state = E .edited .tuples ∙ sym (ap (λ o. o .state) M);
       size = E .edited .size;
       past = E .edited .past;
       refused = λ n f. absurd (none≢some (sym pass ∙ f));
@@ -115,12 +116,12 @@ performed-known b l b′ l′ c stop op a e N F S z O D =
 
 -- ---- any buffer
 
-pub no-store : (b l : List ℕ) (c : Call) (x : Bool) → x ≡ isStore b → x ≡ false → OneCall b l c (Refusal 1) b l
+pub no-store : (b l : List ℕ) (c : Call) (x : Bool) → x ≡ isStore b → x ≡ false → OneCall stored b l c (Refusal 1) b l
 no-store b l c x X e =
     record {
       noStore = λ f. record { answer = refl; buffer = refl; list = refl };
       onStore = λ f. absurd (false≢true (sym e ∙ X ∙ f));
     }
 
-pub on-store : (b l b′ l′ : List ℕ) (c : Call) (a : Answer) → isStore b ≡ true → OnStore b l c a b′ l′ → OneCall b l c a b′ l′
+pub on-store : (b l b′ l′ : List ℕ) (c : Call) (a : Answer) → isStore b ≡ true → OnStore stored b l c a b′ l′ → OneCall stored b l c a b′ l′
 on-store b l b′ l′ c a e O = record { noStore = λ f. absurd (false≢true (sym f ∙ e)); onStore = λ f. O }

@@ -14,11 +14,13 @@ use denote.Triple.Clauses.{AtExit}
 use Rattle.model.specs.declared.Preparation.{Preparation}
 use Rattle.model.specs.declared.Preparation.the-variants.{Capacity}
 use Rattle.model.specs.Tuples.{fresh}
-use Rattle.model.specs.Buffer.{fitsLength, capacityOf, tuplesOf, isStore, Prepared, Preparing}
+use Rattle.model.specs.Buffer.{fitsLength, capacityOf, Preparing}
 use Rattle.model.specs.Refusals.{selectsNothing}
 use Rattle.model.specs.NoSelection.{WithoutEffect}
 use Rattle.model.specs.Traces.{Trace}
 use Rattle.model.specs.CallLists.{CallMade, OneMade, MeetsDemand1, Exchange, exchangeOf, requests, WholeList}
+use Rattle.model.specs.Stored.{stored}
+use Rattle.model.proofs.Stored.{stored-lawful}
 use Rattle.model.proofs.Bools.{and-left, and-right, and-both, clash}
 use Rattle.model.proofs.Traces.{trace-each, trace-map}
 use Rattle.model.proofs.CallLists.{MachineStep, whole-list, one-call-machine, demand-3}
@@ -45,11 +47,11 @@ pub data ExecutedBy : List ℕ → CallMade → List ℕ → Type 0 where
       → reads.Learnt κs a r e
       → ExecutedBy (a .0 .now) (record { call = a .1 .0; lent = a .1 .1 .0 .now; answer = r; left = e .1 .1 .0 .now }) (e .0 .now)
   executed-known : (κs : Lfts 2) (a : Dens κs known-kinds.ps) (r : resT known-kinds.r κs .Denot) (e : AtExit (endedOf 2 known-kinds.ps known-kinds.r) κs)
-      → isStore (a .0 .now) ≡ true → known-reads.Learnt κs a r e
+      → stored .isStore (a .0 .now) ≡ true → known-reads.Learnt κs a r e
       → ExecutedBy (a .0 .now) (record { call = a .1 .0; lent = a .1 .1 .0 .now; answer = r; left = e .1 .1 .0 .now }) (e .0 .now)
 
 -- it is one call as document 01 has it
-pub executed-one : {b b′ : List ℕ} {x : CallMade} → ExecutedBy b x b′ → OneMade b x b′
+pub executed-one : {b b′ : List ℕ} {x : CallMade} → ExecutedBy b x b′ → OneMade stored b x b′
 executed-one (executed κs a r e one) = one
 executed-one (executed-known κs a r e store one) = record { noStore = λ no. absurd (clash store no); onStore = λ yes. one }
 
@@ -57,20 +59,20 @@ executed-one (executed-known κs a r e store one) = record { noStore = λ no. ab
 abbrev pub Executed : List ℕ → List CallMade → List ℕ → Type 0
 Executed b xs b′ = Trace ExecutedBy b xs b′
 
-executed-machine : (b b′ : List ℕ) (x : CallMade) → ExecutedBy b x b′ → MachineStep b (exchangeOf x) b′
-executed-machine b b′ x made = one-call-machine b b′ x (executed-one made)
+executed-machine : (b b′ : List ℕ) (x : CallMade) → ExecutedBy b x b′ → MachineStep stored b (exchangeOf x) b′
+executed-machine b b′ x made = one-call-machine stored stored-lawful b b′ x (executed-one made)
 
 -- ---- preparing
 
 -- a buffer for which `prepare` answers C has that C, and C is 1 to 2,048
-capacity-prepared : (raw b : List ℕ) (C : ℕ) → Preparing raw (Capacity C) b → (capacityOf raw ≡ C) × Prepared raw b
+capacity-prepared : (raw b : List ℕ) (C : ℕ) → Preparing raw (Capacity C) b → (stored .capacityOf raw ≡ C) × stored .Prepared raw b
 capacity-prepared raw b C P = go (fitsLength raw) refl
   where
-    go : (f : Bool) → fitsLength raw ≡ f → (capacityOf raw ≡ C) × Prepared raw b
+    go : (f : Bool) → fitsLength raw ≡ f → (stored .capacityOf raw ≡ C) × stored .Prepared raw b
     go false e = let z = P .outside e .0 in let f : _≡_ {A = ℕ} 0 1 = cc in absurd (omega (arith, f))
     go true e = let z = P .inside e in let y = z .0 in (cc, z .1)
 
-bounds : (raw : List ℕ) → fitsLength raw ≡ true → (1 ≤ capacityOf raw) × (capacityOf raw ≤ 2048)
+bounds : (raw : List ℕ) → fitsLength raw ≡ true → (1 ≤ stored .capacityOf raw) × (stored .capacityOf raw ≤ 2048)
 unfolding fitsLength capacityOf
 bounds raw e =
     let low : 10 ≤ length raw = leb-true 10 (length raw) (and-left (leb 10 (length raw)) (leb (length raw) 12297) e) in
@@ -78,7 +80,7 @@ bounds raw e =
     (omega (arith, low), omega (arith, high))
 
 -- where `prepare` answers C, the buffer has that C and is prepared
-pub prepared-by : (raw b : List ℕ) (C : ℕ) → PreparedBy raw (Capacity C) b → (capacityOf raw ≡ C) × Prepared raw b
+pub prepared-by : (raw b : List ℕ) (C : ℕ) → PreparedBy raw (Capacity C) b → (stored .capacityOf raw ≡ C) × stored .Prepared raw b
 prepared-by raw b C P = capacity-prepared raw b C (prepared-preparing P)
 
 -- that C is 1 to 2,048 ..
@@ -95,34 +97,34 @@ every-capacity C least most =
     let raw : List ℕ = replicate (4 + 6 * C) 0 in
     let size : length raw ≡ 4 + 6 * C = length-replicate (4 + 6 * C) 0 in
     let fits : fitsLength raw ≡ true = and-both _ _ (le-leb 10 (length raw) (omega (arith, size))) (le-leb (length raw) 12297 (omega (arith, size))) in
-    let records : capacityOf raw ≡ C = omega (arith, size) in
+    let records : stored .capacityOf raw ≡ C = omega (arith, size) in
     (raw, λ b r P. prepared-preparing P .inside fits .0 ∙ ap Capacity records)
 
 -- ---- demands 1 and 3
 
 -- demand 1: of every call of `execute` and `execute_known`
-pub entry-demand-1 : (b b′ : List ℕ) (x : CallMade) → ExecutedBy b x b′ → MeetsDemand1 b x b′
-entry-demand-1 b b′ x made = one-call-demand-1 b (x .lent) (x .call) (x .answer) b′ (x .left) (executed-one made)
+pub entry-demand-1 : (b b′ : List ℕ) (x : CallMade) → ExecutedBy b x b′ → MeetsDemand1 stored b x b′
+entry-demand-1 b b′ x made = one-call-demand-1 stored stored-lawful b (x .lent) (x .call) (x .answer) b′ (x .left) (executed-one made)
 
 -- demand 3: for every C that `prepare` answers, the buffer that it leaves and every list of calls
-pub entry-demand-3 : (raw b b′ : List ℕ) (C : ℕ) (xs : List CallMade) → PreparedBy raw (Capacity C) b → Executed b xs b′ → WholeList C fresh (map exchangeOf xs) b′
+pub entry-demand-3 : (raw b b′ : List ℕ) (C : ℕ) (xs : List CallMade) → PreparedBy raw (Capacity C) b → Executed b xs b′ → WholeList stored C fresh (map exchangeOf xs) b′
 entry-demand-3 raw b b′ C xs P calls =
     let Q = prepared-by raw b C P in
     let C′ = capacity-bounds raw b C P in
-    demand-3 C raw b b′ xs (C′ .0) (C′ .1) (Q .0) (Q .1) (trace-each (λ s s′ x made. executed-one made) calls)
+    demand-3 stored stored-lawful C raw b b′ xs (C′ .0) (C′ .1) (Q .0) (Q .1) (trace-each (λ s s′ x made. executed-one made) calls)
 
 -- the same claim of a list of calls from any store, not only a fresh one
-pub entry-any-store : (b b′ : List ℕ) (xs : List CallMade) → isStore b ≡ true → Executed b xs b′
-    → WholeList (capacityOf b) (tuplesOf b) (map exchangeOf xs) b′
-entry-any-store b b′ xs store calls = whole-list (trace-map MachineStep exchangeOf executed-machine calls) store
+pub entry-any-store : (b b′ : List ℕ) (xs : List CallMade) → stored .isStore b ≡ true → Executed b xs b′
+    → WholeList stored (stored .capacityOf b) (stored .stateOf b) (map exchangeOf xs) b′
+entry-any-store b b′ xs store calls = whole-list stored stored-lawful (trace-map (MachineStep stored) exchangeOf executed-machine calls) store
 
 -- request 1: calls on one fresh store, and the same calls with one more among them that has no selection, wherever it stands:
 -- all other answers and the tuples are the same
 pub entry-nothing : (raw b b′ b″ : List ℕ) (C : ℕ) (xs : List CallMade) (x : CallMade) (ys zs : List CallMade) → selectsNothing (x .call) ≡ true
     → requests (map exchangeOf zs) ≡ requests (map exchangeOf (xs ++ ys)) → PreparedBy raw (Capacity C) b → Executed b (xs ++ (x ∷ ys)) b′ → Executed b zs b″
-    → WithoutEffect C fresh (map exchangeOf xs) (exchangeOf x) (map exchangeOf ys) b′ (map exchangeOf zs) b″
+    → WithoutEffect stored C fresh (map exchangeOf xs) (exchangeOf x) (map exchangeOf ys) b′ (map exchangeOf zs) b″
 entry-nothing raw b b′ b″ C xs x ys zs e same P with-it without-it =
-    nothing-without-effect C fresh (map exchangeOf xs) (exchangeOf x) (map exchangeOf ys) b′ (map exchangeOf zs) b″ e
+    nothing-without-effect stored C fresh (map exchangeOf xs) (exchangeOf x) (map exchangeOf ys) b′ (map exchangeOf zs) b″ e
     (same ∙ ap requests (map-append exchangeOf xs ys))
-    (subst (λ (es : List Exchange). WholeList C fresh es b′) (map-append exchangeOf xs (x ∷ ys)) (entry-demand-3 raw b b′ C (xs ++ (x ∷ ys)) P with-it))
+    (subst (λ (es : List Exchange). WholeList stored C fresh es b′) (map-append exchangeOf xs (x ∷ ys)) (entry-demand-3 raw b b′ C (xs ++ (x ∷ ys)) P with-it))
     (entry-demand-3 raw b b″ C zs P without-it)

@@ -19,6 +19,7 @@ use Rattle.model.specs.Refusals.{first, isUniverse, isNothing, selectsNothing, 
 use Rattle.model.specs.Machine.{Outcome}
 use Rattle.model.specs.OneCall.{answerOf, listAfter, OnStore}
 use Rattle.model.specs.NoSelection.{refusalOr, nothingReply}
+use Rattle.model.specs.Stored.{stored}
 use Rattle.model.proofs.Bools.{and-left, and-right}
 use Rattle.model.proofs.Demand1.{nothing-unwritten}
 use Rattle.model.proofs.NoSelection.{nothing-idle}
@@ -82,14 +83,14 @@ module _ (c : Call) (e : selectsNothing c ≡ true) where
 -- ---- on a store
 
 pub nothing-known : (b l : List ℕ) (c : Call) (a : Answer) (t : Bool) → isStore b ≡ true → t ≡ selectsNothing c → t ≡ true → a ≡ answerOf (nothingReply c)
-    → OnStore b l c a b l
+    → OnStore stored b l c a b l
 nothing-known b l c a t e T y A =
     let m = nothing-idle (capacityOf b) (tuplesOf b) c (length l) (sym T ∙ y) in
     record {
       answer = A ∙ sym (ap (λ (o : Outcome). answerOf (o .answer)) m);
       list = sym (nothing-unwritten c l) ∙ sym (ap (λ (o : Outcome). listAfter (o .answer) l) m);
       store = e;
-      tuples = sym (ap (λ (o : Outcome). o .state) m);
+      state = sym (ap (λ (o : Outcome). o .state) m);
       size = refl;
       past = refl;
       refused = λ n f. refl;

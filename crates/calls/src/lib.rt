@@ -7,19 +7,19 @@ use operate::Near;
 ghost use mathlib.Core.Bool.{true};
 ghost use mathlib.Core.Path.{_≡_};
 ghost use lib.ListN.{length};
-ghost use Rattle.model.specs.Buffer.{tuplesOf, isStore};
 ghost use Rattle.model.specs.Refusals.{selectsNothing};
 ghost use Rattle.model.specs.OneCall.{answerOf, OnStore, OneCall};
 ghost use Rattle.model.specs.NoSelection.{nothingReply};
+ghost use Rattle.model.specs.Stored.{stored};
 ghost use Rattle.list.specs.Queries.{written};
 ghost use Rattle.calls.specs.AtOnce.{listedAtOnce};
 
 // The entries of a SIN (40), written to the list without a search for n, and their number: an entry shows that n is there.
 // 0 for other calls, and where a name is 0 or the list might be too short. The call is copied only where entries are sought.
 fn list_at_once(b: &[u32], c: Call, list: &mut [u32]) -> usize
-    requires { ⌜ isStore (now b) ≡ true ⌝ }
-    ensures { λ r. ⌜ r ≡ length (listedAtOnce c (tuplesOf (now (b .entry))) (length (now (list .entry)))) ⌝ }
-    ensures list { λ _. ⌜ now (list .exit) ≡ written (listedAtOnce c (tuplesOf (now (b .entry))) (length (now (list .entry)))) (now (list .entry)) ⌝ }
+    requires { ⌜ stored .isStore (now b) ≡ true ⌝ }
+    ensures { λ r. ⌜ r ≡ length (listedAtOnce c (stored .stateOf (now (b .entry))) (length (now (list .entry)))) ⌝ }
+    ensures list { λ _. ⌜ now (list .exit) ≡ written (listedAtOnce c (stored .stateOf (now (b .entry))) (length (now (list .entry)))) (now (list .entry)) ⌝ }
 {
     if c.operator != 40 {
         return 0;
@@ -71,8 +71,8 @@ fn answer_nothing(c: Call) -> Answer
 
 // One call on a buffer that the caller has proved to be a store: no check is paid.
 pub fn execute_known(store: &mut [u32], call: Call, list: &mut [u32]) -> Answer
-    requires { ⌜ isStore (now store) ≡ true ⌝ }
-    ensures { λ r. ⌜ OnStore (now (store .entry)) (now (list .entry)) call r (now (store .exit)) (now (list .exit)) ⌝ }
+    requires { ⌜ stored .isStore (now store) ≡ true ⌝ }
+    ensures { λ r. ⌜ OnStore stored (now (store .entry)) (now (list .entry)) call r (now (store .exit)) (now (list .exit)) ⌝ }
 {
     if decode::selects_nothing(call) {
         return answer_nothing(call);
@@ -95,7 +95,7 @@ pub fn execute_known(store: &mut [u32], call: Call, list: &mut [u32]) -> Answer
 
 // One call on any buffer, with any numbers as operator and names and any answer list.
 pub fn execute(store: &mut [u32], call: Call, list: &mut [u32]) -> Answer
-    ensures { λ r. ⌜ OneCall (now (store .entry)) (now (list .entry)) call r (now (store .exit)) (now (list .exit)) ⌝ }
+    ensures { λ r. ⌜ OneCall stored (now (store .entry)) (now (list .entry)) call r (now (store .exit)) (now (list .exit)) ⌝ }
 {
     if !verify::is_store(store) {
         return Answer::Refusal(1);

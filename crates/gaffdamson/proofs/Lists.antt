@@ -12,10 +12,12 @@ use Rattle.model.specs.declared.Answer.{Answer}
 use Rattle.model.specs.declared.Call.{Call}
 use Rattle.model.specs.declared.Preparation.the-variants.{Refused, Capacity}
 use Rattle.model.specs.Tuples.{fresh}
-use Rattle.model.specs.Buffer.{fitsLength, capacityOf, Prepared}
+use Rattle.model.specs.Buffer.{fitsLength}
 use Rattle.model.specs.OneCall.{OneCall}
 use Rattle.model.specs.Traces.{Trace}
 use Rattle.model.specs.CallLists.{CallMade, OneMade, MeetsDemand1, exchangeOf, WholeList}
+use Rattle.model.specs.Stored.{stored}
+use Rattle.model.proofs.Stored.{stored-lawful}
 use Rattle.model.proofs.Traces.{trace-map}
 use Rattle.model.proofs.CallLists.{MachineStep, one-call-machine, whole-prepared}
 use Rattle.model.proofs.Demand1.{one-call-demand-1}
@@ -53,10 +55,10 @@ pub data CalledFromC : List ℕ → CallMade → List ℕ → Type 0 where
       (e .0 .now)
 
 -- it is one call as document 01 has it
-read-in-number : (b l : List ℕ) (c : Call) (r : ℕ) (b′ l′ : List ℕ) → Called b l c r b′ l′ → OneCall b l c (answerIn r) b′ l′
-read-in-number b l c r b′ l′ K = subst (λ (x : Answer). OneCall b l c x b′ l′) (sym (answer-back _ r (K .answer))) (K .call)
+read-in-number : (b l : List ℕ) (c : Call) (r : ℕ) (b′ l′ : List ℕ) → Called b l c r b′ l′ → OneCall stored b l c (answerIn r) b′ l′
+read-in-number b l c r b′ l′ K = subst (λ (x : Answer). OneCall stored b l c x b′ l′) (sym (answer-back _ r (K .answer))) (K .call)
 
-pub called-one : {b b′ : List ℕ} {x : CallMade} → CalledFromC b x b′ → OneMade b x b′
+pub called-one : {b b′ : List ℕ} {x : CallMade} → CalledFromC b x b′ → OneMade stored b x b′
 called-one (called-from-c κs a r e K) = read-in-number _ _ _ r _ _ K
 
 -- a call of `gaffdamson_run`: its four slices before it, its answer, three of them after it
@@ -72,26 +74,26 @@ c-ran (run-from-c κs a r e R) = R
 -- ---- preparing
 
 -- where preparing answers the number of C, the buffer has that C and is prepared
-prepared-c : (raw b : List ℕ) (C r : ℕ) → PreparedAs raw r b → r ≡ packedPreparation (Capacity C) → (capacityOf raw ≡ C) × Prepared raw b
+prepared-c : (raw b : List ℕ) (C r : ℕ) → PreparedAs raw r b → r ≡ packedPreparation (Capacity C) → (stored .capacityOf raw ≡ C) × stored .Prepared raw b
 unfolding preparationOf packedPreparation packed
 prepared-c raw b C r P e = go (fitsLength raw) refl
   where
-    numbered : (f : Bool) → fitsLength raw ≡ f → packedPreparation (cond f (Capacity (capacityOf raw)) (Refused 1)) ≡ packedPreparation (Capacity C)
-    numbered f same = ap (λ (x : Bool). packedPreparation (cond x (Capacity (capacityOf raw)) (Refused 1))) (sym same) ∙ sym (P .answer) ∙ e
+    numbered : (f : Bool) → fitsLength raw ≡ f → packedPreparation (cond f (Capacity (stored .capacityOf raw)) (Refused 1)) ≡ packedPreparation (Capacity C)
+    numbered f same = ap (λ (x : Bool). packedPreparation (cond x (Capacity (stored .capacityOf raw)) (Refused 1))) (sym same) ∙ sym (P .answer) ∙ e
 
-    go : (f : Bool) → fitsLength raw ≡ f → (capacityOf raw ≡ C) × Prepared raw b
+    go : (f : Bool) → fitsLength raw ≡ f → (stored .capacityOf raw ≡ C) × stored .Prepared raw b
     go true same = (omega (arith, numbered true same), P .preparing .inside same .1)
     go false same = absurd (omega (arith, numbered false same))
 
 -- where `gaffdamson_prepare` answers the number of C, the same
-pub c-prepared : (raw b : List ℕ) (C : ℕ) → PreparedFromC raw (packedPreparation (Capacity C)) b → (capacityOf raw ≡ C) × Prepared raw b
+pub c-prepared : (raw b : List ℕ) (C : ℕ) → PreparedFromC raw (packedPreparation (Capacity C)) b → (stored .capacityOf raw ≡ C) × stored .Prepared raw b
 c-prepared raw b C P = prepared-c raw b C _ (prepared-from-c P) refl
 
 -- ---- demands 1 and 3
 
 -- demand 1: of every call of `gaffdamson_call` ..
-pub c-demand-1 : (b b′ : List ℕ) (x : CallMade) → CalledFromC b x b′ → MeetsDemand1 b x b′
-c-demand-1 b b′ x made = one-call-demand-1 b (x .lent) (x .call) (x .answer) b′ (x .left) (called-one made)
+pub c-demand-1 : (b b′ : List ℕ) (x : CallMade) → CalledFromC b x b′ → MeetsDemand1 stored b x b′
+c-demand-1 b b′ x made = one-call-demand-1 stored stored-lawful b (x .lent) (x .call) (x .answer) b′ (x .left) (called-one made)
 
 -- .. of every run of `gaffdamson_run`, and of each call of it
 pub c-run-demand-1 : (b calls answers lists : List ℕ) (r : ℕ) (b′ answers′ lists′ : List ℕ) → RunFromC b calls answers lists r b′ answers′ lists′
@@ -100,11 +102,11 @@ c-run-demand-1 b calls answers lists r b′ answers′ lists′ made = ran-deman
 
 -- demand 3: for every C that preparing answers, the buffer that it leaves and every list of calls ..
 pub c-demand-3 : (raw b b′ : List ℕ) (C : ℕ) (xs : List CallMade) → PreparedFromC raw (packedPreparation (Capacity C)) b → Trace CalledFromC b xs b′
-    → WholeList C fresh (map exchangeOf xs) b′
+    → WholeList stored C fresh (map exchangeOf xs) b′
 c-demand-3 raw b b′ C xs P calls =
     let Q = c-prepared raw b C P in
-    whole-prepared raw b b′ C (map exchangeOf xs) (Q .0) (Q .1)
-    (trace-map MachineStep exchangeOf (λ s s′ x made. one-call-machine s s′ x (called-one made)) calls)
+    whole-prepared stored stored-lawful raw b b′ C (map exchangeOf xs) (Q .0) (Q .1)
+    (trace-map (MachineStep stored) exchangeOf (λ s s′ x made. one-call-machine stored stored-lawful s s′ x (called-one made)) calls)
 
 -- .. and every run that answers 0
 pub c-run-demand-3 : (raw b calls answers lists b′ answers′ lists′ : List ℕ) (C : ℕ) → PreparedFromC raw (packedPreparation (Capacity C)) b

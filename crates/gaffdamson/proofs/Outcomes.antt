@@ -14,13 +14,14 @@ use Rattle.model.specs.declared.Preparation.the-variants.{Refused, Capacity}
 use Rattle.model.specs.Machine.{machine}
 use Rattle.model.specs.Buffer.{fitsLength, capacityOf, tuplesOf, isStore, Preparing}
 use Rattle.model.specs.OneCall.{answerOf, listCount, pack, OneCall}
+use Rattle.model.specs.Stored.{stored}
 use Rattle.model.proofs.Counts.{answer-most}
 use Rattle.fresh.specs.Prepare.{afterPreparing}
 use Rattle.pairs.specs.InPairs.{CallInPairs}
 use Rattle.gaffdamson.specs.Numbers.{PackedAs, packedPreparation}
 use Rattle.gaffdamson.specs.Calls.{answerOn, Called, CalledInPairs, preparationOf, PreparedAs}
 
-module _ (b l b′ l′ : List ℕ) (c : Call) (a : Answer) (O : OneCall b l c a b′ l′) where
+module _ (b l b′ l′ : List ℕ) (c : Call) (a : Answer) (O : OneCall stored b l c a b′ l′) where
   -- how many pairs an answer lists fits in a word
   pub answer-counted : listCount a ≤ 4294967295
   unfolding listCount
@@ -47,7 +48,7 @@ module _ (b l b′ l′ : List ℕ) (c : Call) (a : Answer) (O : OneCall b l c a
       subst (λ (x : Call). Called b l x r b′ l′) same
       (record {
         answer = subst (λ (x : Answer). PackedAs x r) answer-on e;
-        call = subst (λ (x : Answer). OneCall b l c x b′ l′) answer-on O;
+        call = subst (λ (x : Answer). OneCall stored b l c x b′ l′) answer-on O;
       })
 
 module _ (b : List ℕ) (l : List Pair) (b′ : List ℕ) (l′ : List Pair) (c : Call) (a : Answer) (P : CallInPairs b l c a b′ l′) where

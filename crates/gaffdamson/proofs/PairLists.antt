@@ -16,6 +16,8 @@ use Rattle.model.specs.declared.Preparation.the-variants.{Capacity}
 use Rattle.model.specs.Tuples.{fresh}
 use Rattle.model.specs.Traces.{Trace}
 use Rattle.model.specs.CallLists.{MeetsDemand1, WholeList}
+use Rattle.model.specs.Stored.{stored}
+use Rattle.model.proofs.Stored.{stored-lawful}
 use Rattle.model.proofs.Traces.{trace-map}
 use Rattle.model.proofs.CallLists.{MachineStep, whole-prepared}
 use Rattle.pairs.specs.InPairs.{CallInPairs, PairsMade, OneInPairs, exchangeInPairs}
@@ -56,13 +58,13 @@ pub called-in-pairs : {b b′ : List ℕ} {x : PairsMade} → CalledInPairsFromC
 called-in-pairs (called-from-c κs a r e K) = read-in-number _ _ _ r _ _ K
 
 -- demand 1: of every call
-pub c-pairs-demand-1 : (b b′ : List ℕ) (x : PairsMade) → CalledInPairsFromC b x b′ → MeetsDemand1 b x b′
+pub c-pairs-demand-1 : (b b′ : List ℕ) (x : PairsMade) → CalledInPairsFromC b x b′ → MeetsDemand1 stored b x b′
 c-pairs-demand-1 b b′ x made = pairs-meet-demand-1 b b′ x (called-in-pairs made)
 
 -- demand 3: for every C that preparing answers, the buffer that it leaves and every list of calls with lists of pairs
 pub c-pairs-demand-3 : (raw b b′ : List ℕ) (C : ℕ) (xs : List PairsMade) → PreparedFromC raw (packedPreparation (Capacity C)) b → Trace CalledInPairsFromC b xs b′
-    → WholeList C fresh (map exchangeInPairs xs) b′
+    → WholeList stored C fresh (map exchangeInPairs xs) b′
 c-pairs-demand-3 raw b b′ C xs P calls =
     let Q = c-prepared raw b C P in
-    whole-prepared raw b b′ C (map exchangeInPairs xs) (Q .0) (Q .1)
-    (trace-map MachineStep exchangeInPairs (λ s s′ x made. pairs-machine s s′ x (called-in-pairs made)) calls)
+    whole-prepared stored stored-lawful raw b b′ C (map exchangeInPairs xs) (Q .0) (Q .1)
+    (trace-map (MachineStep stored) exchangeInPairs (λ s s′ x made. pairs-machine s s′ x (called-in-pairs made)) calls)

@@ -11,8 +11,9 @@ use Rattle.model.specs.declared.Pair.{Pair}
 use Rattle.model.specs.declared.Preparation.{Preparation}
 use Rattle.model.specs.declared.Preparation.the-variants.{Refused, Capacity}
 use Rattle.model.specs.Machine.{machine}
-use Rattle.model.specs.Buffer.{fitsLength, capacityOf, tuplesOf, isStore, Preparing}
+use Rattle.model.specs.Buffer.{fitsLength, Preparing}
 use Rattle.model.specs.OneCall.{answerOf, OneCall}
+use Rattle.model.specs.Stored.{stored}
 use Rattle.fresh.specs.Prepare.{afterPreparing}
 use Rattle.pairs.specs.InPairs.{CallInPairs}
 use Rattle.run.specs.Words.{spaceOf}
@@ -34,12 +35,12 @@ callOf operator n g m v form s =
 
 -- the answer of a call on any buffer: refusal 1 where it is no store, else the machine's
 unfoldable pub answerOn : List ℕ → Call → ℕ → Answer
-answerOn b c room = cond (isStore b) (answerOf (machine (capacityOf b) (tuplesOf b) c room .answer)) (Refusal 1)
+answerOn b c room = cond (stored .isStore b) (answerOf (machine (stored .capacityOf b) (stored .stateOf b) c room .answer)) (Refusal 1)
 
 -- the call c on the buffer b with the answer list l gives the number r and leaves the buffer b′ and the list l′
 pub record Called (b l : List ℕ) (c : Call) (r : ℕ) (b′ l′ : List ℕ) : Type 0 where
   pub answer : PackedAs (answerOn b c (length l)) r
-  pub call : OneCall b l c (answerOn b c (length l)) b′ l′
+  pub call : OneCall stored b l c (answerOn b c (length l)) b′ l′
 
 -- the same with a list of pairs
 pub record CalledInPairs (b : List ℕ) (l : List Pair) (c : Call) (r : ℕ) (b′ : List ℕ) (l′ : List Pair) : Type 0 where
@@ -50,7 +51,7 @@ pub record CalledInPairs (b : List ℕ) (l : List Pair) (c : Call) (r : ℕ) (b�
 
 -- the answer of preparing any buffer: refusal 1 for "a length outside 10 to 12,297 words", else C
 unfoldable pub preparationOf : List ℕ → Preparation
-preparationOf b = cond (fitsLength b) (Capacity (capacityOf b)) (Refused 1)
+preparationOf b = cond (fitsLength b) (Capacity (stored .capacityOf b)) (Refused 1)
 
 -- preparing the buffer b gives the number r and leaves the buffer b′
 pub record PreparedAs (b : List ℕ) (r : ℕ) (b′ : List ℕ) : Type 0 where

@@ -7,8 +7,8 @@ use model::Pair;
 use model::Preparation;
 ghost use mathlib.Core.Path.{_≡_};
 ghost use Prim.Native.Nat.{_≤_};
-ghost use Rattle.model.specs.Buffer.{isStore};
 ghost use Rattle.model.specs.OneCall.{listCount};
+ghost use Rattle.model.specs.Stored.{stored};
 ghost use Rattle.run.specs.Words.{bitOf};
 ghost use Rattle.run.specs.Runs.{Ran};
 ghost use Rattle.gaffdamson.specs.Numbers.{packed, PackedAs, packedPreparation};
@@ -65,7 +65,7 @@ pub extern "C" fn gaffdamson_prepare(store: &mut [u32]) -> u64
 // Is the buffer a store: 1 for yes, 0 for no.
 #[no_mangle]
 pub extern "C" fn gaffdamson_is_store(store: &[u32]) -> u32
-    ensures { λ r. ⌜ r ≡ bitOf (isStore (now (store .entry))) ⌝ }
+    ensures { λ r. ⌜ r ≡ bitOf (stored .isStore (now (store .entry))) ⌝ }
 {
     if verify::is_store(store) {
         return 1;

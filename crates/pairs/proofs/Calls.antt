@@ -15,6 +15,7 @@ use Rattle.model.specs.Refusals.{refusalOf}
 use Rattle.model.specs.Machine.{State, Outcome, machine}
 use Rattle.model.specs.Buffer.{capacityOf, tuplesOf, isStore}
 use Rattle.model.specs.OneCall.{answerOf, listCount, pack, unpack, listAfter, observed, OnStore, OneCall}
+use Rattle.model.specs.Stored.{stored}
 use Rattle.model.proofs.CallLists.{observed-machine, answer-within}
 use Rattle.edit.proofs.Built.{store-tuples}
 use Rattle.pairs.specs.InWords.{mostListed, lentWords, CallInWords}
@@ -46,12 +47,12 @@ kept (valued v) l₀ e h = refl
 kept (yesNo t) l₀ e h = refl
 kept (pairs k ps) l₀ e h = drop-at (map pack ps) (drop k l₀) k (omega (arith, e, h, length-append (map pack ps) (drop k l₀), length-drop k l₀))
 
-module _ (b l₀ b′ m : List ℕ) (c : Call) (a : Answer) (O : OnStore b l₀ c a b′ m) (size : length m ≡ length l₀) where
+module _ (b l₀ b′ m : List ℕ) (c : Call) (a : Answer) (O : OnStore stored b l₀ c a b′ m) (size : length m ≡ length l₀) where
   abbrev given : Reply
   given = machine (capacityOf b) (tuplesOf b) c (length l₀) .answer
 
   within : listCount (answerOf given) ≤ length l₀
-  within = subst (λ (x : Answer). listCount x ≤ length l₀) (O .answer) (answer-within b l₀ b′ m c a O size)
+  within = subst (λ (x : Answer). listCount x ≤ length l₀) (O .answer) (answer-within stored b l₀ b′ m c a O size)
 
   same-size : length (listAfter given l₀) ≡ length l₀
   same-size = ap length (sym (O .list)) ∙ size
@@ -59,7 +60,7 @@ module _ (b l₀ b′ m : List ℕ) (c : Call) (a : Answer) (O : OnStore b l₀ 
   -- a list of another length, to which the machine answers the same
   pub other-list : (l : List ℕ) → machine (capacityOf b) (tuplesOf b) c (length l) ≡ machine (capacityOf b) (tuplesOf b) c (length l₀)
       → refusalOf (capacityOf b) (tuplesOf b) c (length l) ≡ refusalOf (capacityOf b) (tuplesOf b) c (length l₀)
-      → OnStore b l c a b′ (take (listCount a) m ++ drop (listCount a) l)
+      → OnStore stored b l c a b′ (take (listCount a) m ++ drop (listCount a) l)
   other-list l same stop =
       record {
         answer = O .answer ∙ ap (λ (o : Outcome). answerOf (o .answer)) (sym same);
@@ -68,7 +69,7 @@ module _ (b l₀ b′ m : List ℕ) (c : Call) (a : Answer) (O : OnStore b l₀ 
             ∙ moved given l₀ l same-size within
             ∙ ap (λ (o : Outcome). listAfter (o .answer) l) (sym same);
         store = O .store;
-        tuples = O .tuples ∙ ap (λ (o : Outcome). o .state) (sym same);
+        state = O .state ∙ ap (λ (o : Outcome). o .state) (sym same);
         size = O .size;
         past = O .past;
         refused = λ number e. O .refused number (sym stop ∙ e);
@@ -85,7 +86,7 @@ module _ (b l₀ b′ m : List ℕ) (c : Call) (a : Answer) (O : OnStore b l₀ 
 -- ---- the call in words
 
 module _ (b ws b′ m : List ℕ) (c : Call) (a : Answer) (room lent : ℕ) (enough : length ws ≡ mostListed) (L : lent ≡ lentWords room)
-    (size : length m ≡ length (take lent ws)) (one : OneCall b (take lent ws) c a b′ m) where
+    (size : length m ≡ length (take lent ws)) (one : OneCall stored b (take lent ws) c a b′ m) where
   lent-size : length (take lent ws) ≡ lent
   lent-size = length-take-le lent ws (lent-in-words ws room lent enough L)
 
@@ -117,14 +118,14 @@ module _ (b ws b′ m : List ℕ) (c : Call) (a : Answer) (room lent : ℕ) (eno
       let C : ℕ = capacityOf b in
       let ts : State = tuplesOf b in
       let k : ℕ = listCount a in
-      let k-lent : k ≤ length (take lent ws) = answer-within b (take lent ws) b′ m c a O size in
+      let k-lent : k ≤ length (take lent ws) = answer-within stored b (take lent ws) b′ m c a O size in
       let k-m : k ≤ length m = omega (arith, k-lent, size) in
       let front : take k after ≡ take k m = take-append-le k m (drop lent ws) k-m in
       record {
         call = λ l h. record {
           noStore = λ f. absurd (false≢true (sym f ∙ e));
           onStore = λ f.
-              subst (λ (us : List ℕ). OnStore b l c a b′ (us ++ drop k l)) (sym front)
+              subst (λ (us : List ℕ). OnStore stored b l c a b′ (us ++ drop k l)) (sym front)
               (other-list b (take lent ws) b′ m c a O size l
               (ap (machine C ts c) h ∙ sym (same-machine b e c room C) ∙ ap (machine C ts c) (sym (lent-size ∙ L)))
               (ap (refusalOf C ts c) h ∙ sym (same-refusal b e c room C) ∙ ap (refusalOf C ts c) (sym (lent-size ∙ L))));
@@ -163,9 +164,9 @@ unfolding unpackedOnto listCount
 in-pairs b ws b′ ws′ l l′ c a I e =
     let k : ℕ = listCount a in
     let long : length (map pack l) ≡ length l = length-map l pack in
-    let one : OneCall b (map pack l) c a b′ (take k ws′ ++ drop k (map pack l)) = I .call (map pack l) long in
+    let one : OneCall stored b (map pack l) c a b′ (take k ws′ ++ drop k (map pack l)) = I .call (map pack l) long in
     record {
-      call = subst (OneCall b (map pack l) c a b′) (sym (unpacked-packed k ws′ l) ∙ ap (map pack) (sym e)) one;
+      call = subst (OneCall stored b (map pack l) c a b′) (sym (unpacked-packed k ws′ l) ∙ ap (map pack) (sym e)) one;
       noStore = λ f. e ∙ ap (λ (x : Answer). unpackedOnto (listCount x) ws′ l) (one .noStore f .answer);
       listed = λ f.
           let O = one .onStore f in

@@ -18,10 +18,11 @@ use Rattle.model.specs.declared.Preparation.the-variants.{Capacity}
 use Rattle.model.specs.Tuples.{fresh}
 use Rattle.model.specs.Steps.{Reply, pairs, listed}
 use Rattle.model.specs.Machine.{State, Outcome, machine}
-use Rattle.model.specs.Buffer.{capacityOf, tuplesOf, isStore}
 use Rattle.model.specs.Traces.{Trace}
 use Rattle.model.specs.OneCall.{answerOf, pack}
 use Rattle.model.specs.CallLists.{MeetsDemand1, WholeList}
+use Rattle.model.specs.Stored.{stored}
+use Rattle.model.proofs.Stored.{stored-lawful}
 use Rattle.model.proofs.Refusals.{answer-form}
 use Rattle.model.proofs.Traces.{trace-map}
 use Rattle.model.proofs.CallLists.{MachineStep, whole-prepared}
@@ -71,41 +72,41 @@ observed-in-pairs C ts c room l =
 
 module _ (b b′ : List ℕ) (x : PairsMade) (P : OneInPairs b x b′) where
   abbrev given : Outcome
-  given = machine (capacityOf b) (tuplesOf b) (x .call) (length (x .lent))
+  given = machine (stored .capacityOf b) (stored .stateOf b) (x .call) (length (x .lent))
 
   -- the call with packed words is fed the same length
-  same-given : machine (capacityOf b) (tuplesOf b) (x .call) (length (map pack (x .lent))) ≡ given
-  same-given = ap (machine (capacityOf b) (tuplesOf b) (x .call)) (length-map (x .lent) pack)
+  same-given : machine (stored .capacityOf b) (stored .stateOf b) (x .call) (length (map pack (x .lent))) ≡ given
+  same-given = ap (machine (stored .capacityOf b) (stored .stateOf b) (x .call)) (length-map (x .lent) pack)
 
-  given-answer : isStore b ≡ true → x .answer ≡ answerOf (given .answer)
+  given-answer : stored .isStore b ≡ true → x .answer ≡ answerOf (given .answer)
   given-answer e = P .call .onStore e .answer ∙ ap (λ (o : Outcome). answerOf (o .answer)) same-given
 
   -- what demand 3 needs of it
-  pub pairs-machine : MachineStep b (exchangeInPairs x) b′
+  pub pairs-machine : MachineStep stored b (exchangeInPairs x) b′
   pairs-machine e =
       let O = P .call .onStore e in
       record {
         reply =
             ap₂ observedInPairs (given-answer e) (P .listed e)
-            ∙ observed-in-pairs (capacityOf b) (tuplesOf b) (x .call) (length (x .lent)) (x .lent);
+            ∙ observed-in-pairs (stored .capacityOf b) (stored .stateOf b) (x .call) (length (x .lent)) (x .lent);
         store = O .store;
-        tuples = O .tuples ∙ ap (λ (o : Outcome). o .state) same-given;
+        state = O .state ∙ ap (λ (o : Outcome). o .state) same-given;
         size = O .size;
       }
 
   -- a refused call and one with no selection write no place of the list
-  unwritten : (isStore b ≡ true → pairsAfter (given .answer) (x .lent) ≡ x .lent) → x .left ≡ x .lent
-  unwritten same = go (isStore b) refl
+  unwritten : (stored .isStore b ≡ true → pairsAfter (given .answer) (x .lent) ≡ x .lent) → x .left ≡ x .lent
+  unwritten same = go (stored .isStore b) refl
     where
-      go : (s : Bool) → isStore b ≡ s → x .left ≡ x .lent
+      go : (s : Bool) → stored .isStore b ≡ s → x .left ≡ x .lent
       go true e = P .listed e ∙ same e
       go false e = P .noStore e
 
   -- demand 1
-  pub pairs-meet-demand-1 : MeetsDemand1 b x b′
+  pub pairs-meet-demand-1 : MeetsDemand1 stored b x b′
   unfolding pairsAfter
   pairs-meet-demand-1 =
-      let D = one-call-demand-1 b (map pack (x .lent)) (x .call) (x .answer) b′ (map pack (x .left)) (P .call) in
+      let D = one-call-demand-1 stored stored-lawful b (map pack (x .lent)) (x .call) (x .answer) b′ (map pack (x .left)) (P .call) in
       record {
         refused = λ number r. (
           D .refused number r .0,
@@ -117,7 +118,7 @@ module _ (b b′ : List ℕ) (x : PairsMade) (P : OneInPairs b x b′) where
           D .unselected t .0,
           unwritten
               (λ e.
-              ap (λ (o : Outcome). pairsAfter (o .answer) (x .lent)) (nothing-idle (capacityOf b) (tuplesOf b) (x .call) (length (x .lent)) t)
+              ap (λ (o : Outcome). pairsAfter (o .answer) (x .lent)) (nothing-idle (stored .capacityOf b) (stored .stateOf b) (x .call) (length (x .lent)) t)
               ∙ nothing-form (λ (y : Reply). pairsAfter y (x .lent) ≡ x .lent) (λ number. refl) (λ n. refl) (λ v. refl) refl refl (x .call)),
         );
       }
@@ -125,13 +126,13 @@ module _ (b b′ : List ℕ) (x : PairsMade) (P : OneInPairs b x b′) where
 -- ---- demands 1 and 3
 
 -- demand 1: of every call of `execute_pairs`
-pub pairs-demand-1 : (b b′ : List ℕ) (x : PairsMade) → ExecutedInPairsBy b x b′ → MeetsDemand1 b x b′
+pub pairs-demand-1 : (b b′ : List ℕ) (x : PairsMade) → ExecutedInPairsBy b x b′ → MeetsDemand1 stored b x b′
 pairs-demand-1 b b′ x made = pairs-meet-demand-1 b b′ x (executed-in-pairs made)
 
 -- demand 3: for every C that `prepare` answers, the buffer that it leaves and every list of calls of `execute_pairs`
 pub pairs-demand-3 : (raw b b′ : List ℕ) (C : ℕ) (xs : List PairsMade) → PreparedBy raw (Capacity C) b → Trace ExecutedInPairsBy b xs b′
-    → WholeList C fresh (map exchangeInPairs xs) b′
+    → WholeList stored C fresh (map exchangeInPairs xs) b′
 pairs-demand-3 raw b b′ C xs P calls =
     let Q = prepared-by raw b C P in
-    whole-prepared raw b b′ C (map exchangeInPairs xs) (Q .0) (Q .1)
-    (trace-map MachineStep exchangeInPairs (λ s s′ x made. pairs-machine s s′ x (executed-in-pairs made)) calls)
+    whole-prepared stored stored-lawful raw b b′ C (map exchangeInPairs xs) (Q .0) (Q .1)
+    (trace-map (MachineStep stored) exchangeInPairs (λ s s′ x made. pairs-machine s s′ x (executed-in-pairs made)) calls)

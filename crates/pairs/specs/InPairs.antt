@@ -10,9 +10,9 @@ use Rattle.model.specs.declared.Answer.the-variants.{Refusal, Name, Value, YesN
 use Rattle.model.specs.declared.Pair.{Pair}
 use Rattle.model.specs.Steps.{Reply, refusal, name, valued, yesNo, pairs}
 use Rattle.model.specs.Machine.{machine}
-use Rattle.model.specs.Buffer.{capacityOf, tuplesOf, isStore}
 use Rattle.model.specs.OneCall.{pack, unpack, OneCall}
 use Rattle.model.specs.CallLists.{Made, Exchange}
+use Rattle.model.specs.Stored.{stored}
 
 -- the pairs that the first k words hold in the first k places, the rest what they held
 unfoldable pub unpackedOnto : ℕ → List ℕ → List Pair → List Pair
@@ -37,11 +37,11 @@ observedInPairs (Listed k) l = pairs k (take k l)
 -- the call c on the buffer b with the list of pairs l gives the answer a and leaves the buffer b′ and the list l′
 pub record CallInPairs (b : List ℕ) (l : List Pair) (c : Call) (a : Answer) (b′ : List ℕ) (l′ : List Pair) : Type 0 where
   -- all that the core's entry does, with the list packed
-  pub call : OneCall b (map pack l) c a b′ (map pack l′)
+  pub call : OneCall stored b (map pack l) c a b′ (map pack l′)
   -- "not a store": nothing is changed
-  pub noStore : isStore b ≡ false → l′ ≡ l
+  pub noStore : stored .isStore b ≡ false → l′ ≡ l
   -- "in its first k places; the rest stays"; a refusal changes none
-  pub listed : isStore b ≡ true → l′ ≡ pairsAfter (machine (capacityOf b) (tuplesOf b) c (length l) .answer) l
+  pub listed : stored .isStore b ≡ true → l′ ≡ pairsAfter (machine (stored .capacityOf b) (stored .stateOf b) c (length l) .answer) l
 
 -- ---- calls one after the other
 

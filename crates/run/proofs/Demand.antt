@@ -12,8 +12,8 @@ use denote.Triple.Clauses.{AtExit}
 use Rattle.model.specs.declared.Preparation.the-variants.{Capacity}
 use Rattle.model.specs.Tuples.{fresh}
 use Rattle.model.specs.Machine.{State}
-use Rattle.model.specs.Buffer.{capacityOf, tuplesOf, isStore, Prepared}
-use Rattle.model.specs.Rules.{IsStore}
+use Rattle.model.specs.Stored.{stored}
+use Rattle.model.proofs.Stored.{stored-lawful}
 use Rattle.model.proofs.Bools.{clash}
 use Rattle.model.proofs.Store.{store-exactly}
 use Rattle.model.proofs.Traces.{trace-each}
@@ -39,7 +39,7 @@ ran (run-by κs a r e R) = R
 
 module _ (b calls answers lists : List ℕ) (b′ answers′ lists′ : List ℕ) where
   -- what is refused, and what is made
-  refused-demand-1 : (r number : ℕ) → number ≢ 0 → (r ≡ 1) ↔ (IsStore b → ⊥) → NotRun number b answers lists r b′ answers′ lists′
+  refused-demand-1 : (r number : ℕ) → number ≢ 0 → (r ≡ 1) ↔ (stored .IsStore b → ⊥) → NotRun number b answers lists r b′ answers′ lists′
       → RunDemand1 b calls answers lists r b′ answers′ lists′
   refused-demand-1 r number some first N =
       record {
@@ -49,12 +49,12 @@ module _ (b calls answers lists : List ℕ) (b′ answers′ lists′ : List ℕ
       }
 
   pub ran-demand-1 : (r : ℕ) → Ran b calls answers lists r b′ answers′ lists′ → RunDemand1 b calls answers lists r b′ answers′ lists′
-  ran-demand-1 r R = go (isStore b) (hasRoom (callsIn calls) answers lists) refl refl
+  ran-demand-1 r R = go (stored .isStore b) (hasRoom (callsIn calls) answers lists) refl refl
     where
-      store : isStore b ≡ true → r ≢ 1 → (r ≡ 1) ↔ (IsStore b → ⊥)
+      store : stored .isStore b ≡ true → r ≢ 1 → (r ≡ 1) ↔ (stored .IsStore b → ⊥)
       store e d = (λ one. absurd (d one), λ none. absurd (none (store-exactly b .0 e)))
 
-      go : (s f : Bool) → isStore b ≡ s → hasRoom (callsIn calls) answers lists ≡ f → RunDemand1 b calls answers lists r b′ answers′ lists′
+      go : (s f : Bool) → stored .isStore b ≡ s → hasRoom (callsIn calls) answers lists ≡ f → RunDemand1 b calls answers lists r b′ answers′ lists′
       go false f e g =
           let N = R .noStore e in
           refused-demand-1 r 1 (λ z. omega arith) (λ one S. clash (store-exactly b .1 S) e, λ none. N .result) N
@@ -66,11 +66,11 @@ module _ (b calls answers lists : List ℕ) (b′ answers′ lists′ : List ℕ
           record {
             refused = λ d. absurd (d (A .result));
             noStore = store e (λ one. omega (arith, A .result, one));
-            each = λ z. trace-each (λ s s′ x one. one-call-demand-1 s (x .lent) (x .call) (x .answer) s′ (x .left) one) (A .left .trace);
+            each = λ z. trace-each (λ s s′ x one. one-call-demand-1 stored stored-lawful s (x .lent) (x .call) (x .answer) s′ (x .left) one) (A .left .trace);
           }
 
   -- a run that answers 0 on a store has made its calls
-  pub ran-all : isStore b ≡ true → Ran b calls answers lists 0 b′ answers′ lists′ → AllRun b calls answers lists 0 b′ answers′ lists′
+  pub ran-all : stored .isStore b ≡ true → Ran b calls answers lists 0 b′ answers′ lists′ → AllRun b calls answers lists 0 b′ answers′ lists′
   ran-all store R = go (hasRoom (callsIn calls) answers lists) refl
     where
       go : (f : Bool) → hasRoom (callsIn calls) answers lists ≡ f → AllRun b calls answers lists 0 b′ answers′ lists′
@@ -78,17 +78,17 @@ module _ (b calls answers lists : List ℕ) (b′ answers′ lists′ : List ℕ
       go false e = let z : _≡_ {A = ℕ} 0 9 = R .noRoom store e .result in absurd (omega arith)
 
   -- demand 3 from any store ..
-  pub ran-any-store : isStore b ≡ true → Ran b calls answers lists 0 b′ answers′ lists′ → WholeRun (capacityOf b) (tuplesOf b) calls answers lists b′ answers′ lists′
+  pub ran-any-store : stored .isStore b ≡ true → Ran b calls answers lists 0 b′ answers′ lists′ → WholeRun (stored .capacityOf b) (stored .stateOf b) calls answers lists b′ answers′ lists′
   ran-any-store store R =
       let A = ran-all store R in
-      record { whole = whole-list (machine-trace (A .left .trace)) store; asked = A .asked; answered = A .left .answered; listed = A .left .listed }
+      record { whole = whole-list stored stored-lawful (machine-trace stored stored-lawful (A .left .trace)) store; asked = A .asked; answered = A .left .answered; listed = A .left .listed }
 
   -- .. and from a buffer just prepared
-  pub ran-prepared : (raw : List ℕ) (C : ℕ) → capacityOf raw ≡ C → Prepared raw b → Ran b calls answers lists 0 b′ answers′ lists′
+  pub ran-prepared : (raw : List ℕ) (C : ℕ) → stored .capacityOf raw ≡ C → stored .Prepared raw b → Ran b calls answers lists 0 b′ answers′ lists′
       → WholeRun C fresh calls answers lists b′ answers′ lists′
   ran-prepared raw C size P R =
       subst (λ (D : ℕ). WholeRun D fresh calls answers lists b′ answers′ lists′) (prepared-capacity raw b P ∙ size)
-      (subst (λ (ts : State). WholeRun (capacityOf b) ts calls answers lists b′ answers′ lists′) (prepared-tuples raw b P) (ran-any-store (prepared-store raw b P) R))
+      (subst (λ (ts : State). WholeRun (stored .capacityOf b) ts calls answers lists b′ answers′ lists′) (prepared-tuples raw b P) (ran-any-store (prepared-store raw b P) R))
 
 -- ---- from what callers of `run_calls` learn
 

@@ -13,6 +13,7 @@ use Rattle.model.specs.Buffer.{capacityOf, tuplesOf, isStore}
 use Rattle.model.specs.Traces.{Trace, end, then}
 use Rattle.model.specs.OneCall.{answerOf, listCount, listAfter, OnStore}
 use Rattle.model.specs.CallLists.{CallMade, OneMade}
+use Rattle.model.specs.Stored.{stored}
 use Rattle.model.proofs.Bools.{clash}
 use Rattle.model.proofs.CallLists.{answer-within}
 use Rattle.records.proofs.Words.{capacity-length}
@@ -24,23 +25,23 @@ use Rattle.run.proofs.Fits.{rooms-next}
 -- ---- one call
 
 -- the number of pairs that a call lists fits a word, since the length of its list does
-pub count-fits : (b l b′ l′ : List ℕ) (c : Call) (a : Answer) → OnStore b l c a b′ l′ → length l′ ≡ length l → length l ≤ 4294967295 → listCount a ≤ 4294967295
-count-fits b l b′ l′ c a O e h = let k : listCount a ≤ length l = answer-within b l b′ l′ c a O e in omega arith
+pub count-fits : (b l b′ l′ : List ℕ) (c : Call) (a : Answer) → OnStore stored b l c a b′ l′ → length l′ ≡ length l → length l ≤ 4294967295 → listCount a ≤ 4294967295
+count-fits b l b′ l′ c a O e h = let k : listCount a ≤ length l = answer-within stored b l b′ l′ c a O e in omega arith
 
 -- a call and its answer written are what the machine makes of it
 pub one-run : (b ws : List ℕ) (i : ℕ) (answers l b′ answers′ l′ : List ℕ) (c : Call) (a : Answer)
-    → c ≡ callAt ws i → length l ≡ roomAt ws i → OnStore b l c a b′ l′ → answers′ ≡ putAnswer answers i a
+    → c ≡ callAt ws i → length l ≡ roomAt ws i → OnStore stored b l c a b′ l′ → answers′ ≡ putAnswer answers i a
     → OneRun (callMade (capacityOf b) (tuplesOf b) (requestAt ws i) l) i b answers b′ answers′ l′
 unfolding callMade
 one-run b ws i answers l b′ answers′ l′ c a ec er O ea =
-    let asked : OnStore b l (callAt ws i) a b′ l′ = subst (λ (d : Call). OnStore b l d a b′ l′) ec O in
+    let asked : OnStore stored b l (callAt ws i) a b′ l′ = subst (λ (d : Call). OnStore stored b l d a b′ l′) ec O in
     let x : CallMade = callMade (capacityOf b) (tuplesOf b) (requestAt ws i) l in
     let answer : a ≡ x .answer
     = asked .answer ∙ ap (λ (n : ℕ). answerOf (machine (capacityOf b) (tuplesOf b) (callAt ws i) n .answer)) er in
     let left : l′ ≡ x .left
     = asked .list ∙ ap (λ (n : ℕ). listAfter (machine (capacityOf b) (tuplesOf b) (callAt ws i) n .answer) l) er in
     record {
-      call = subst (λ (k : List ℕ). OnStore b l (callAt ws i) (x .answer) b′ k) left (subst (λ (y : Answer). OnStore b l (callAt ws i) y b′ l′) answer asked);
+      call = subst (λ (k : List ℕ). OnStore stored b l (callAt ws i) (x .answer) b′ k) left (subst (λ (y : Answer). OnStore stored b l (callAt ws i) y b′ l′) answer asked);
       answered = ea ∙ ap (putAnswer answers i) answer;
       listed = left;
     }
@@ -79,7 +80,7 @@ pub record Running (ws : List ℕ) (count : ℕ) (b₀ a₀ l₀ b a l : List �
   pub room : at + roomsOf (callsFrom ws (count - i) i) ≤ length l
   pub answered : answersAfter (allMade ws count b₀ l₀) a₀ ≡ take (answerWords * i) a ++ answersAfter (restMade ws count b l at i) (drop (answerWords * i) a)
   pub listed : listsAfter (allMade ws count b₀ l₀) l₀ ≡ take at l ++ listsAfter (restMade ws count b l at i) (drop at l)
-  pub trace : (b″ : List ℕ) → Trace OneMade b (restMade ws count b l at i) b″ → Trace OneMade b₀ (allMade ws count b₀ l₀) b″
+  pub trace : (b″ : List ℕ) → Trace (OneMade stored) b (restMade ws count b l at i) b″ → Trace (OneMade stored) b₀ (allMade ws count b₀ l₀) b″
 
 module _ (ws : List ℕ) (count : ℕ) (b₀ a₀ l₀ : List ℕ) where
   pub run-start : isStore b₀ ≡ true → roomsOf (callsFrom ws count 0) ≤ length l₀ → Running ws count b₀ a₀ l₀ b₀ a₀ l₀ 0 0
@@ -96,7 +97,7 @@ module _ (ws : List ℕ) (count : ℕ) (b₀ a₀ l₀ : List ℕ) where
         room = omega (arith, ap roomsOf all);
         answered = ap (λ (xs : List CallMade). answersAfter xs a₀) (sym made);
         listed = ap (λ (xs : List CallMade). listsAfter xs l₀) (sym made);
-        trace = λ b″ T. subst (λ (xs : List CallMade). Trace OneMade b₀ xs b″) made T;
+        trace = λ b″ T. subst (λ (xs : List CallMade). Trace (OneMade stored) b₀ xs b″) made T;
       }
 
   -- all calls are made
@@ -106,7 +107,7 @@ module _ (ws : List ℕ) (count : ℕ) (b₀ a₀ l₀ : List ℕ) where
       let none-left : restMade ws count b l at i ≡ []
       = ap (λ (rs : List Request). callsMade (capacityOf b) (tuplesOf b) rs (drop at l)) (calls-end ws count i h) in
       record {
-        trace = R .trace b (subst (λ (xs : List CallMade). Trace OneMade b xs b) (sym none-left) end);
+        trace = R .trace b (subst (λ (xs : List CallMade). Trace (OneMade stored) b xs b) (sym none-left) end);
         answered =
             sym
             (R .answered
@@ -153,7 +154,7 @@ module _ (ws : List ℕ) (count : ℕ) (b₀ a₀ l₀ : List ℕ) where
 
     state-next : tuplesOf b′ ≡ machine (capacityOf b) (tuplesOf b) (callAt ws i) (roomAt ws i) .state
     unfolding callMade
-    state-next = O .call .tuples ∙ ap (λ (n : ℕ). machine (capacityOf b) (tuplesOf b) (callAt ws i) n .state) lent-length
+    state-next = O .call .state ∙ ap (λ (n : ℕ). machine (capacityOf b) (tuplesOf b) (callAt ws i) n .state) lent-length
 
     -- what is left, before the call and after it
     step-made : restMade ws count b l at i ≡ madeAt ws b l at i ∷ restMade ws count b′ (listsWith ws l at i part) (at + roomAt ws i) (i + 1)
@@ -168,7 +169,7 @@ module _ (ws : List ℕ) (count : ℕ) (b₀ a₀ l₀ : List ℕ) where
         ∙ ap (λ (xs : List CallMade). madeAt ws b l at i ∷ xs) (sym rest)
 
     -- the call as one call of a list of calls
-    as-one-call : OneMade b (madeAt ws b l at i) b′
+    as-one-call : OneMade stored b (madeAt ws b l at i) b′
     as-one-call = record { noStore = λ e. absurd (clash (R .store) e); onStore = λ e. O .call }
 
     answered-next : (xs : List CallMade)
@@ -208,7 +209,7 @@ module _ (ws : List ℕ) (count : ℕ) (b₀ a₀ l₀ : List ℕ) where
           room = omega (arith, room-next, lists-length);
           answered = R .answered ∙ ap (λ (ys : List CallMade). take (answerWords * i) a ++ answersAfter ys (drop (answerWords * i) a)) step-made ∙ answered-next xs;
           listed = R .listed ∙ ap (λ (ys : List CallMade). take at l ++ listsAfter ys (drop at l)) step-made ∙ listed-next xs;
-          trace = λ b″ T. R .trace b″ (subst (λ (ys : List CallMade). Trace OneMade b ys b″) (sym step-made) (then as-one-call T));
+          trace = λ b″ T. R .trace b″ (subst (λ (ys : List CallMade). Trace (OneMade stored) b ys b″) (sym step-made) (then as-one-call T));
         }
 
   -- the part for the next call lies within the lists ..

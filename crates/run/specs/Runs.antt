@@ -7,11 +7,10 @@ use Prim.Native.Nat.{ℕ, _+_, _*_}
 use lib.Dec.{leb}
 use lib.ListN.{length, take, drop}
 use Rattle.model.specs.Machine.{State, Request, machine}
-use Rattle.model.specs.Buffer.{capacityOf, tuplesOf, isStore}
-use Rattle.model.specs.Rules.{IsStore}
 use Rattle.model.specs.Traces.{Trace}
 use Rattle.model.specs.OneCall.{answerOf, listAfter, OnStore}
 use Rattle.model.specs.CallLists.{CallMade, OneMade, MeetsDemand1, exchangeOf, requests, WholeList}
+use Rattle.model.specs.Stored.{stored}
 use Rattle.run.specs.Words.{answerWords, callsIn, kindOf, numberOf, putAnswer}
 
 -- ---- what the machine makes of a list of calls
@@ -65,21 +64,21 @@ pub record NotRun (number : ℕ) (b answers lists : List ℕ) (r : ℕ) (b′ an
 -- what a run leaves of a store, given what the machine makes of the calls
 pub record Left (xs : List CallMade) (b answers lists b′ answers′ lists′ : List ℕ) : Type 0 where
   -- the calls were made one after the other, so that all that holds of one call holds of each of them
-  pub trace : Trace OneMade b xs b′
+  pub trace : Trace (OneMade stored) b xs b′
   pub answered : answers′ ≡ answersAfter xs answers
   pub listed : lists′ ≡ listsAfter xs lists
 
 -- every call was made, in its order and with its own part of the lists
 pub record AllRun (b calls answers lists : List ℕ) (r : ℕ) (b′ answers′ lists′ : List ℕ) : Type 0 where
   pub result : r ≡ 0
-  pub asked : requests (map exchangeOf (callsMade (capacityOf b) (tuplesOf b) (callsIn calls) lists)) ≡ callsIn calls
-  pub left : Left (callsMade (capacityOf b) (tuplesOf b) (callsIn calls) lists) b answers lists b′ answers′ lists′
+  pub asked : requests (map exchangeOf (callsMade (stored .capacityOf b) (stored .stateOf b) (callsIn calls) lists)) ≡ callsIn calls
+  pub left : Left (callsMade (stored .capacityOf b) (stored .stateOf b) (callsIn calls) lists) b answers lists b′ answers′ lists′
 
 -- the run of the words `calls` on the buffer b gives r and leaves the buffer b′, the answers and the lists
 pub record Ran (b calls answers lists : List ℕ) (r : ℕ) (b′ answers′ lists′ : List ℕ) : Type 0 where
-  pub noStore : isStore b ≡ false → NotRun 1 b answers lists r b′ answers′ lists′
-  pub noRoom : isStore b ≡ true → hasRoom (callsIn calls) answers lists ≡ false → NotRun 9 b answers lists r b′ answers′ lists′
-  pub run : isStore b ≡ true → hasRoom (callsIn calls) answers lists ≡ true → AllRun b calls answers lists r b′ answers′ lists′
+  pub noStore : stored .isStore b ≡ false → NotRun 1 b answers lists r b′ answers′ lists′
+  pub noRoom : stored .isStore b ≡ true → hasRoom (callsIn calls) answers lists ≡ false → NotRun 9 b answers lists r b′ answers′ lists′
+  pub run : stored .isStore b ≡ true → hasRoom (callsIn calls) answers lists ≡ true → AllRun b calls answers lists r b′ answers′ lists′
 
 -- ---- the demands of a run
 
@@ -88,13 +87,13 @@ pub record RunDemand1 (b calls answers lists : List ℕ) (r : ℕ) (b′ answers
   -- "A refusal is a number and changes no word", whatever its number: neither of the store nor of the answers and lists
   pub refused : r ≢ 0 → (b′ ≡ b) × (answers′ ≡ answers) × (lists′ ≡ lists)
   -- "A buffer that isn't a store is itself refused.": 1 exactly when it breaks the rules
-  pub noStore : (r ≡ 1) ↔ (IsStore b → ⊥)
-  pub each : r ≡ 0 → Trace MeetsDemand1 b (callsMade (capacityOf b) (tuplesOf b) (callsIn calls) lists) b′
+  pub noStore : (r ≡ 1) ↔ (stored .IsStore b → ⊥)
+  pub each : r ≡ 0 → Trace (MeetsDemand1 stored) b (callsMade (stored .capacityOf b) (stored .stateOf b) (callsIn calls) lists) b′
 
 -- demand 3 of a run that answers 0, on a store of C records that holds the tuples ts: the calls that stand in the words were made, one after the other,
 -- with all that demand 3 claims of them, and the slices hold their answers and their lists
 pub record WholeRun (C : ℕ) (ts : State) (calls answers lists b′ answers′ lists′ : List ℕ) : Type 0 where
-  pub whole : WholeList C ts (map exchangeOf (callsMade C ts (callsIn calls) lists)) b′
+  pub whole : WholeList stored C ts (map exchangeOf (callsMade C ts (callsIn calls) lists)) b′
   pub asked : requests (map exchangeOf (callsMade C ts (callsIn calls) lists)) ≡ callsIn calls
   pub answered : answers′ ≡ answersAfter (callsMade C ts (callsIn calls) lists) answers
   pub listed : lists′ ≡ listsAfter (callsMade C ts (callsIn calls) lists) lists
@@ -103,6 +102,6 @@ pub record WholeRun (C : ℕ) (ts : State) (calls answers lists b′ answers′ 
 
 -- what call number i leaves of a store, given what the machine makes of it
 pub record OneRun (x : CallMade) (i : ℕ) (b answers b′ answers′ l′ : List ℕ) : Type 0 where
-  pub call : OnStore b (x .lent) (x .call) (x .answer) b′ (x .left)
+  pub call : OnStore stored b (x .lent) (x .call) (x .answer) b′ (x .left)
   pub answered : answers′ ≡ putAnswer answers i (x .answer)
   pub listed : l′ ≡ x .left

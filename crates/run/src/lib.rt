@@ -10,8 +10,8 @@ ghost use mathlib.Core.Path.{_≡_};
 ghost use Prim.Native.Nat.{_+_, _*_, _≤_};
 ghost use lib.Dec.{leb};
 ghost use lib.ListN.{length};
-ghost use Rattle.model.specs.Buffer.{isStore, capacityOf, tuplesOf};
 ghost use Rattle.model.specs.OneCall.{listCount};
+ghost use Rattle.model.specs.Stored.{stored};
 ghost use Rattle.run.specs.Words.{spaceOf, lower, upper, callAt, roomAt, requestAt, callsFrom, kindOf, bitOf, numberOf, putAnswer};
 ghost use Rattle.run.specs.Runs.{roomsOf, callMade, callsMade, OneRun, Left, Ran};
 
@@ -137,8 +137,8 @@ fn put_answer(answers: &mut [u32], i: usize, a: Answer)
 
 // Makes call i with its own answer list, and writes its answer.
 fn run_one(store: &mut [u32], calls: &[u32], i: usize, answers: &mut [u32], list: &mut [u32])
-    requires { ⌜ (isStore (now store) ≡ true) × (6 * i + 6 ≤ length (now calls)) × (2 * i + 2 ≤ length (now answers)) × (length (now list) ≡ roomAt (now calls) i) ⌝ }
-    ensures { λ _. ⌜ OneRun (callMade (capacityOf (now (store .entry))) (tuplesOf (now (store .entry))) (requestAt (now (calls .entry)) i) (now (list .entry))) i (now (store .entry)) (now (answers .entry)) (now (store .exit)) (now (answers .exit)) (now (list .exit)) ⌝ }
+    requires { ⌜ (stored .isStore (now store) ≡ true) × (6 * i + 6 ≤ length (now calls)) × (2 * i + 2 ≤ length (now answers)) × (length (now list) ≡ roomAt (now calls) i) ⌝ }
+    ensures { λ _. ⌜ OneRun (callMade (stored .capacityOf (now (store .entry))) (stored .stateOf (now (store .entry))) (requestAt (now (calls .entry)) i) (now (list .entry))) i (now (store .entry)) (now (answers .entry)) (now (store .exit)) (now (answers .exit)) (now (list .exit)) ⌝ }
 {
     let call = call_at(calls, i);
     let answer = calls::execute_known(store, call, list);
@@ -147,8 +147,8 @@ fn run_one(store: &mut [u32], calls: &[u32], i: usize, answers: &mut [u32], list
 
 // Makes the first calls of a list, one after the other.
 fn run_all(store: &mut [u32], calls: &[u32], count: usize, answers: &mut [u32], lists: &mut [u32])
-    requires { ⌜ (isStore (now store) ≡ true) × (6 * count ≤ length (now calls)) × (2 * count ≤ length (now answers)) × (roomsOf (callsFrom (now calls) count 0) ≤ length (now lists)) ⌝ }
-    ensures { λ _. ⌜ Left (callsMade (capacityOf (now (store .entry))) (tuplesOf (now (store .entry))) (callsFrom (now (calls .entry)) count 0) (now (lists .entry))) (now (store .entry)) (now (answers .entry)) (now (lists .entry)) (now (store .exit)) (now (answers .exit)) (now (lists .exit)) ⌝ }
+    requires { ⌜ (stored .isStore (now store) ≡ true) × (6 * count ≤ length (now calls)) × (2 * count ≤ length (now answers)) × (roomsOf (callsFrom (now calls) count 0) ≤ length (now lists)) ⌝ }
+    ensures { λ _. ⌜ Left (callsMade (stored .capacityOf (now (store .entry))) (stored .stateOf (now (store .entry))) (callsFrom (now (calls .entry)) count 0) (now (lists .entry))) (now (store .entry)) (now (answers .entry)) (now (lists .entry)) (now (store .exit)) (now (answers .exit)) (now (lists .exit)) ⌝ }
 {
     let mut at = 0;
     let mut done = 0;

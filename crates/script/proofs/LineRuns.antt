@@ -10,9 +10,11 @@ use Rattle.model.specs.declared.Answer.{Answer}
 use Rattle.model.specs.declared.Answer.the-variants.{Refusal}
 use Rattle.model.specs.Steps.{Reply, refusal}
 use Rattle.model.specs.Machine.{State, Outcome, machine}
-use Rattle.model.specs.Buffer.{capacityOf, tuplesOf, isStore}
+use Rattle.model.specs.Buffer.{capacityOf, tuplesOf}
 use Rattle.model.specs.OneCall.{answerOf, listCount, listAfter, observed, OnStore}
 use Rattle.model.specs.Demand1.{Demand1}
+use Rattle.model.specs.Stored.{stored}
+use Rattle.model.proofs.Stored.{stored-lawful}
 use Rattle.model.proofs.Bools.{clash}
 use Rattle.model.proofs.Store.{store-rules}
 use Rattle.model.proofs.Demand1.{one-call-demand-1}
@@ -37,7 +39,7 @@ module _ (b l : List ℕ) (line : Text) (out : Text) (at : ℕ) where
   as-machine c R = ap₂ (λ (C room : ℕ). machine C (tuplesOf b) c room) (R .records) (R .places)
 
   -- what a caller of the call is told is what the line answers
-  call-reply : (c : Call) (a : Answer) (b′ l′ : List ℕ) → Ready b l → readLine line ≡ Read c → OnStore b l c a b′ l′ → observed a l′ ≡ lineOutcome (tuplesOf b) line .answer
+  call-reply : (c : Call) (a : Answer) (b′ l′ : List ℕ) → Ready b l → readLine line ≡ Read c → OnStore stored b l c a b′ l′ → observed a l′ ≡ lineOutcome (tuplesOf b) line .answer
   unfolding lineOutcome readingOutcome tuplesOf
   call-reply c a b′ l′ R e O =
       ap₂ observed (O .answer) (O .list)
@@ -46,18 +48,18 @@ module _ (b l : List ℕ) (line : Text) (out : Text) (at : ℕ) where
       ∙ ap (λ (r : Reading). readingOutcome (tuplesOf b) r .answer) (sym e)
 
   -- there is room for the answer of a call
-  pub call-printable : (c : Call) (a : Answer) (b′ l′ : List ℕ) → Ready b l → OnStore b l c a b′ l′ → length l′ ≡ length l → ((i : ℕ) → getD l′ i 0 ≤ 4294967295) → at + mostLine ≤ length out
+  pub call-printable : (c : Call) (a : Answer) (b′ l′ : List ℕ) → Ready b l → OnStore stored b l c a b′ l′ → length l′ ≡ length l → ((i : ℕ) → getD l′ i 0 ≤ 4294967295) → at + mostLine ≤ length out
       → Printable (answerLine (observed a l′)) a l′ out at
   call-printable c a b′ l′ R O k f room =
-      line-printable a l′ out at (omega (arith, answer-within b l b′ l′ c a O k)) (omega (arith, R .places)) f room
+      line-printable a l′ out at (omega (arith, answer-within stored b l b′ l′ c a O k)) (omega (arith, R .places)) f room
 
-  pub call-run : (c : Call) (a : Answer) (b′ l′ : List ℕ) (end : ℕ) (out′ : Text) → Ready b l → readLine line ≡ Read c → OnStore b l c a b′ l′ → length l′ ≡ length l
+  pub call-run : (c : Call) (a : Answer) (b′ l′ : List ℕ) (end : ℕ) (out′ : Text) → Ready b l → readLine line ≡ Read c → OnStore stored b l c a b′ l′ → length l′ ≡ length l
       → ((i : ℕ) → getD l′ i 0 ≤ 4294967295) → at + mostLine ≤ length out → Put (answerLine (observed a l′)) out at end out′ → LineRun b l line out at b′ l′ end out′
   call-run c a b′ l′ end out′ R e O k f room P =
       record {
         called =
             subst (LineCalled b l b′ l′) (sym e)
-            (call (R .store) (subst (λ (x : Answer). OnStore b l c x b′ l′) (O .answer) O));
+            (call (R .store) (subst (λ (x : Answer). OnStore stored b l c x b′ l′) (O .answer) O));
         places = k;
         put = subst (λ (r : Reply). Put (answerLine r) out at end out′) (call-reply c a b′ l′ R e O) P;
         within = omega (arith, P .place, call-printable c a b′ l′ R O k f room .room);
@@ -98,7 +100,7 @@ module _ (b l : List ℕ) (line : Text) (out : Text) (at : ℕ) where
 -- what a line leaves of the store and the list
 pub record LineLeft (b l : List ℕ) (line : Text) (b′ l′ : List ℕ) : Type 0 where
   pub ready : Ready b′ l′
-  pub tuples : tuplesOf b′ ≡ lineOutcome (tuplesOf b) line .state
+  pub state : tuplesOf b′ ≡ lineOutcome (tuplesOf b) line .state
   pub size : length b′ ≡ length b
   pub list : l′ ≡ lineList (tuplesOf b) (readLine line) l
 
@@ -108,8 +110,8 @@ module _ (b l : List ℕ) (R : Ready b l) where
   left-of (Read c) line b′ l′ e k (call store O) =
       record {
         ready = record { store = O .store; records = capacity-length b b′ (O .size) ∙ R .records; places = k ∙ R .places };
-        tuples =
-            O .tuples
+        state =
+            O .state
             ∙ ap (λ (o : Outcome). o .state) (as-machine b l line line 0 c R)
             ∙ ap (λ (r : Reading). readingOutcome (tuplesOf b) r .state) (sym e);
         size = O .size;
@@ -121,7 +123,7 @@ module _ (b l : List ℕ) (R : Ready b l) where
   left-of (Refused number) line b′ l′ e k (no-call sb sl) =
       record {
         ready = subst (λ (x : List ℕ). Ready x l′) (sym sb) (subst (Ready b) (sym sl) R);
-        tuples = ap tuplesOf sb ∙ ap (λ (r : Reading). readingOutcome (tuplesOf b) r .state) (sym e);
+        state = ap tuplesOf sb ∙ ap (λ (r : Reading). readingOutcome (tuplesOf b) r .state) (sym e);
         size = ap length sb;
         list = sl ∙ ap (λ (r : Reading). lineList (tuplesOf b) r l) (sym e);
       }
@@ -147,12 +149,12 @@ line-demand-1 s s′ line made = record { unreadable = λ number e. unread numbe
     unread number e x = of-refused (subst (LineCalled (s .0) (s .1) (s′ .0) (s′ .1)) e x)
 
     of-call : {c : Call} → LineCalled (s .0) (s .1) (s′ .0) (s′ .1) (Read c)
-        → Demand1 (s .0) (s .1) c (answerOf (machine (capacityOf (s .0)) (tuplesOf (s .0)) c (length (s .1)) .answer)) (s′ .0) (s′ .1)
+        → Demand1 stored (s .0) (s .1) c (answerOf (machine (capacityOf (s .0)) (tuplesOf (s .0)) c (length (s .1)) .answer)) (s′ .0) (s′ .1)
     of-call (call store O) =
-        one-call-demand-1 (s .0) (s .1) _ _ (s′ .0) (s′ .1) (record { noStore = λ no. absurd (clash store no); onStore = λ yes. O })
+        one-call-demand-1 stored stored-lawful (s .0) (s .1) _ _ (s′ .0) (s′ .1) (record { noStore = λ no. absurd (clash store no); onStore = λ yes. O })
 
     read : (c : Call) → readLine line ≡ Read c → LineStep s line s′
-        → Demand1 (s .0) (s .1) c (answerOf (machine (capacityOf (s .0)) (tuplesOf (s .0)) c (length (s .1)) .answer)) (s′ .0) (s′ .1)
+        → Demand1 stored (s .0) (s .1) c (answerOf (machine (capacityOf (s .0)) (tuplesOf (s .0)) c (length (s .1)) .answer)) (s′ .0) (s′ .1)
     read c e x = of-call (subst (LineCalled (s .0) (s .1) (s′ .0) (s′ .1)) e x)
 
 -- the store of a line keeps its length

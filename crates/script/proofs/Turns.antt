@@ -156,7 +156,7 @@ module _ (b₀ l₀ : List ℕ) (script : Text) (from : ℕ) (out₀ : Text) whe
       = ap (runLines (length out₀ - size) (tuplesOf b) l) (X .split)
       ∙ one-line (length out₀ - size) (tuplesOf b) l line (linesOf (drop next script)) room
       ∙ ap (λ (n : ℕ). runBefore (line ∷ []) a (runLines n (lineOutcome (tuplesOf b) line .state) (lineList (tuplesOf b) (readLine line) l) (linesOf (drop next script)))) room′
-      ∙ ap (λ (ts : State). runBefore (line ∷ []) a (runLines (length out₀ - stop) ts (lineList (tuplesOf b) (readLine line) l) (linesOf (drop next script)))) (sym (left .tuples))
+      ∙ ap (λ (ts : State). runBefore (line ∷ []) a (runLines (length out₀ - stop) ts (lineList (tuplesOf b) (readLine line) l) (linesOf (drop next script)))) (sym (left .state))
       ∙ ap (λ (k : List ℕ). runBefore (line ∷ []) a (runLines (length out₀ - stop) (tuplesOf b′) k (linesOf (drop next script)))) (sym (left .list)) in
       record {
         ready = left .ready;
@@ -194,7 +194,7 @@ module _ (b₀ l₀ : List ℕ) (script : Text) (from : ℕ) (out₀ : Text) whe
       record {
         ready = S .ready;
         called = subst (λ (xs : List Text). Trace LineStep (b₀, l₀) xs (b, l)) all (S .called);
-        tuples = sym (ap (λ (u : Run). u .state) done);
+        state = sym (ap (λ (u : Run). u .state) done);
         list = sym (ap (λ (u : Run). u .list) done);
         put = subst (λ (bs : Text). Put bs out₀ 0 size out) (sym (ap (λ (u : Run). u .text) done ∙ append-nil (S .done))) (S .put);
         fits = S .fits;

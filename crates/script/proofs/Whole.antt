@@ -14,8 +14,8 @@ use Rattle.model.specs.declared.Preparation.{Preparation}
 use Rattle.model.specs.Tuples.{fresh}
 use Rattle.model.specs.Steps.{refusal}
 use Rattle.model.specs.Machine.{State}
-use Rattle.model.specs.Buffer.{tuplesOf}
 use Rattle.model.specs.Traces.{Trace, end}
+use Rattle.model.specs.Stored.{stored}
 use Rattle.model.proofs.Traces.{trace-each, trace-append}
 use Rattle.calls.proofs.Lists.{PreparedBy, prepared-preparing}
 use Rattle.text.specs.Bytes.{Text}
@@ -46,36 +46,36 @@ pub data Printed (script : Text) : List ℕ → List ℕ → ℕ → Text → Li
 
 -- what one block puts out, and then what the lines behind it print
 block-output : (b l : List ℕ) (script : Text) (at : ℕ) (out : Text) (r : Block) (b′ l′ : List ℕ) (out′ more : Text)
-    → BlockRun (runLines (length out) (tuplesOf b) l (linesOf (drop at script))) b l script at out r b′ l′ out′
-    → more ≡ linesOutput (tuplesOf b′) (linesOf (drop (r .next) script)) → take (r .length) out′ ++ more ≡ linesOutput (tuplesOf b) (linesOf (drop at script))
+    → BlockRun (runLines (length out) (stored .stateOf b) l (linesOf (drop at script))) b l script at out r b′ l′ out′
+    → more ≡ linesOutput (stored .stateOf b′) (linesOf (drop (r .next) script)) → take (r .length) out′ ++ more ≡ linesOutput (stored .stateOf b) (linesOf (drop at script))
 block-output b l script at out r b′ l′ out′ more B e =
     let xs : List Text = linesOf (drop at script) in
-    let u : Run = runLines (length out) (tuplesOf b) l xs in
-    let A : AsAll (tuplesOf b) l xs u = run-as-all (length out) (tuplesOf b) l xs in
+    let u : Run = runLines (length out) (stored .stateOf b) l xs in
+    let A : AsAll (stored .stateOf b) l xs u = run-as-all (length out) (stored .stateOf b) l xs in
     let counted : r .length ≡ length (u .text) = omega (arith, B .put .place) in
     let text : take (r .length) out′ ≡ u .text
     = ap₂ (λ (n : ℕ) (bs : Text). take n bs) counted (B .put .bytes) ∙ take-first out (u .text) in
-    ap₂ (λ (bs cs : Text). bs ++ cs) text (e ∙ ap₂ linesOutput (B .tuples) (B .rest)) ∙ A .output
+    ap₂ (λ (bs cs : Text). bs ++ cs) text (e ∙ ap₂ linesOutput (B .state) (B .rest)) ∙ A .output
 
 -- the lines of one block, and then those behind it
 block-called : (b l : List ℕ) (script : Text) (at : ℕ) (out : Text) (r : Block) (b′ l′ : List ℕ) (out′ : Text) (b″ l″ : List ℕ)
-    → BlockRun (runLines (length out) (tuplesOf b) l (linesOf (drop at script))) b l script at out r b′ l′ out′
+    → BlockRun (runLines (length out) (stored .stateOf b) l (linesOf (drop at script))) b l script at out r b′ l′ out′
     → Trace LineStep (b′, l′) (linesOf (drop (r .next) script)) (b″, l″) → Trace LineStep (b, l) (linesOf (drop at script)) (b″, l″)
 block-called b l script at out r b′ l′ out′ b″ l″ B rest =
     let xs : List Text = linesOf (drop at script) in
-    let u : Run = runLines (length out) (tuplesOf b) l xs in
-    let A : AsAll (tuplesOf b) l xs u = run-as-all (length out) (tuplesOf b) l xs in
+    let u : Run = runLines (length out) (stored .stateOf b) l xs in
+    let A : AsAll (stored .stateOf b) l xs u = run-as-all (length out) (stored .stateOf b) l xs in
     subst (λ (ys : List Text). Trace LineStep (b, l) ys (b″, l″)) (sym (A .split))
     (trace-append (B .called) (subst (λ (ys : List Text). Trace LineStep (b′, l′) ys (b″, l″)) (B .rest) rest))
 
 -- what one call of `run_block` has said of the script
 abbrev BlockOf : Text → List ℕ → List ℕ → ℕ → Text → Block → List ℕ → List ℕ → Text → Type 0
-BlockOf s b l at out r b′ l′ out′ = BlockRun (runLines (length out) (tuplesOf b) l (linesOf (drop at s))) b l s at out r b′ l′ out′
+BlockOf s b l at out r b′ l′ out′ = BlockRun (runLines (length out) (stored .stateOf b) l (linesOf (drop at s))) b l s at out r b′ l′ out′
 
 -- line after line what is printed is what the machine answers
-pub printed-output : {script out : Text} {b l b′ l′ : List ℕ} {at : ℕ} → Printed script b l at out b′ l′ → out ≡ linesOutput (tuplesOf b) (linesOf (drop at script))
+pub printed-output : {script out : Text} {b l b′ l′ : List ℕ} {at : ℕ} → Printed script b l at out b′ l′ → out ≡ linesOutput (stored .stateOf b) (linesOf (drop at script))
 unfolding linesOutput
-printed-output {script} {out} {b} {l} {b′} {l′} {at} (no-more h) = ap (linesOutput (tuplesOf b)) (sym (no-lines script at h))
+printed-output {script} {out} {b} {l} {b′} {l′} {at} (no-more h) = ap (linesOutput (stored .stateOf b)) (sym (no-lines script at h))
 printed-output {script} {out} {b} {l} {b′} {l′} {at} (block-then {more} κs a r e same L rest) =
     block-output b l script at (a .1 .1 .1 .1 .0 .now) r (e .0 .now) (e .1 .0 .now) (e .1 .1 .1 .1 .0 .now) more
     (subst (λ (s : Text). BlockOf s b l at (a .1 .1 .1 .1 .0 .now) r (e .0 .now) (e .1 .0 .now) (e .1 .1 .1 .1 .0 .now)) same L) (printed-output rest)

@@ -7,10 +7,10 @@ use lib.Dec.{leb, ltb}
 use lib.ListN.{length, drop}
 use Rattle.model.specs.declared.Call.{Call}
 use Rattle.model.specs.Machine.{State, machine}
-use Rattle.model.specs.Buffer.{capacityOf, tuplesOf, isStore}
 use Rattle.model.specs.Traces.{Trace}
 use Rattle.model.specs.OneCall.{answerOf, listAfter, OnStore}
 use Rattle.model.specs.Demand1.{Demand1}
+use Rattle.model.specs.Stored.{stored}
 use Rattle.text.specs.Bytes.{Text}
 use Rattle.lines.specs.declared.Reading.{Reading}
 use Rattle.lines.specs.declared.Reading.the-variants.{Read, Refused}
@@ -22,15 +22,15 @@ use Rattle.script.specs.Scripts.{scriptRecords, scriptPlaces, lineOutcom
 
 -- a store and an answer list for a script: "a store with C = 2,048 and an answer list of 2,048 places"
 pub record Ready (b l : List ℕ) : Type 0 where
-  pub store : isStore b ≡ true
-  pub records : capacityOf b ≡ scriptRecords
+  pub store : stored .isStore b ≡ true
+  pub records : stored .capacityOf b ≡ scriptRecords
   pub places : length l ≡ scriptPlaces
 
 -- ---- one line
 
 -- a line that reads as a call is that call; one that does not makes none
 pub data LineCalled (b l : List ℕ) (b′ l′ : List ℕ) : Reading → Type 0 where
-  call : {c : Call} → isStore b ≡ true → OnStore b l c (answerOf (machine (capacityOf b) (tuplesOf b) c (length l) .answer)) b′ l′ → LineCalled b l b′ l′ (Read c)
+  call : {c : Call} → stored .isStore b ≡ true → OnStore stored b l c (answerOf (machine (stored .capacityOf b) (stored .stateOf b) c (length l) .answer)) b′ l′ → LineCalled b l b′ l′ (Read c)
   no-call : {number : ℕ} → b′ ≡ b → l′ ≡ l → LineCalled b l b′ l′ (Refused number)
 
 -- the same as a step from a store and a list to a store and a list
@@ -41,7 +41,7 @@ LineStep s line s′ = LineCalled (s .0) (s .1) (s′ .0) (s′ .1) (readLine li
 pub record LineRun (b l : List ℕ) (line : Text) (out : Text) (at : ℕ) (b′ l′ : List ℕ) (end : ℕ) (out′ : Text) : Type 0 where
   pub called : LineCalled b l b′ l′ (readLine line)
   pub places : length l′ ≡ length l
-  pub put : Put (answerLine (lineOutcome (tuplesOf b) line .answer)) out at end out′
+  pub put : Put (answerLine (lineOutcome (stored .stateOf b) line .answer)) out at end out′
   pub within : end ≤ length out
 
 -- ---- as many lines as there is room for
@@ -95,7 +95,7 @@ pub record BlockRun (u : Run) (b l : List ℕ) (script : Text) (from : ℕ) (out
   pub ready : Ready b′ l′
   -- the lines were run one after the other, so that all that holds of one call holds of each line that reads as one
   pub called : Trace LineStep (b, l) (u .lines) (b′, l′)
-  pub tuples : tuplesOf b′ ≡ u .state
+  pub state : stored .stateOf b′ ≡ u .state
   pub list : l′ ≡ u .list
   pub put : Put (u .text) out 0 (r .length) out′
   pub fits : r .length ≤ length out
@@ -111,8 +111,8 @@ pub record BlockRun (u : Run) (b l : List ℕ) (script : Text) (from : ℕ) (out
 pub record ScriptRun (b l : List ℕ) (script : Text) (b′ l′ : List ℕ) : Type 0 where
   pub ready : Ready b′ l′
   pub called : Trace LineStep (b, l) (linesOf script) (b′, l′)
-  pub tuples : tuplesOf b′ ≡ linesFinal (tuplesOf b) (linesOf script)
-  pub list : l′ ≡ linesList (tuplesOf b) l (linesOf script)
+  pub state : stored .stateOf b′ ≡ linesFinal (stored .stateOf b) (linesOf script)
+  pub list : l′ ≡ linesList (stored .stateOf b) l (linesOf script)
 
 -- ---- demand 1
 
@@ -122,4 +122,4 @@ pub record LineDemand1 (s : List ℕ × List ℕ) (line : Text) (s′ : List ℕ
   pub unreadable : (number : ℕ) → readLine line ≡ Refused number → (s′ .0 ≡ s .0) × (s′ .1 ≡ s .1)
   -- a line that reads as a call has demand 1 of that call
   pub call : (c : Call) → readLine line ≡ Read c
-      → Demand1 (s .0) (s .1) c (answerOf (machine (capacityOf (s .0)) (tuplesOf (s .0)) c (length (s .1)) .answer)) (s′ .0) (s′ .1)
+      → Demand1 stored (s .0) (s .1) c (answerOf (machine (stored .capacityOf (s .0)) (stored .stateOf (s .0)) c (length (s .1)) .answer)) (s′ .0) (s′ .1)

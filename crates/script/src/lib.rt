@@ -6,8 +6,8 @@ ghost use mathlib.Core.Path.{_≡_};
 ghost use Prim.Native.Nat.{_+_, _≤_};
 ghost use lib.Dec.{leb};
 ghost use lib.ListN.{length, drop};
-ghost use Rattle.model.specs.Buffer.{tuplesOf};
 ghost use Rattle.model.specs.Steps.{refusal};
+ghost use Rattle.model.specs.Stored.{stored};
 ghost use Rattle.lines.specs.Lines.{linesOf};
 ghost use Rattle.print.specs.Answers.{answerLine, mostLine, Put};
 ghost use Rattle.script.specs.Scripts.{mostInput};
@@ -62,7 +62,7 @@ pub fn run_block(
     out: &mut [u8],
 ) -> Block
     requires { ⌜ Ready (now store) (now list) × (from ≤ length (now script)) ⌝ }
-    ensures { λ r. ⌜ BlockRun (runLines (length (now (out .entry))) (tuplesOf (now (store .entry))) (now (list .entry)) (linesOf (drop from (now (script .entry))))) (now (store .entry)) (now (list .entry)) (now (script .entry)) from (now (out .entry)) r (now (store .exit)) (now (list .exit)) (now (out .exit)) ⌝ }
+    ensures { λ r. ⌜ BlockRun (runLines (length (now (out .entry))) (stored .stateOf (now (store .entry))) (now (list .entry)) (linesOf (drop from (now (script .entry))))) (now (store .entry)) (now (list .entry)) (now (script .entry)) from (now (out .entry)) r (now (store .exit)) (now (list .exit)) (now (out .exit)) ⌝ }
 {
     let mut at = from;
     let mut length = 0;
