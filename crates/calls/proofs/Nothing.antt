@@ -10,12 +10,13 @@ use Rattle.model.specs.declared.Answer.{Answer}
 use Rattle.model.specs.declared.Answer.the-variants.{Refusal}
 use Rattle.model.specs.declared.Call.{Call}
 use Rattle.model.specs.declared.Operator.{Operator}
+use Rattle.model.specs.declared.Row.{Row}
 use Rattle.model.specs.declared.Space.{Space}
 use Rattle.model.specs.declared.Space.the-variants.{Universe, Numbered, Nothing}
-use Rattle.model.specs.Operators.{operatorOf, readsOf}
+use Rattle.model.specs.Operators.{operatorOf, readsOf, rowOf}
 use Rattle.model.specs.Buffer.{capacityOf, tuplesOf, isStore}
 use Rattle.model.specs.Steps.{idleReply}
-use Rattle.model.specs.Refusals.{first, isUniverse, isNothing, selectsNothing, noOperator, zeroName, needsSpace, lacksSpace, destroysUniverse, ofCall}
+use Rattle.model.specs.Refusals.{first, isUniverse, isNothing, selectsNothing, noOperator, zeroName, lacksSpace, destroysUniverse, ofCall}
 use Rattle.model.specs.Machine.{Outcome}
 use Rattle.model.specs.OneCall.{answerOf, listAfter, OnStore}
 use Rattle.model.specs.NoSelection.{refusalOr, nothingReply}
@@ -43,12 +44,12 @@ module _ (c : Call) (e : selectsNothing c ≡ true) where
       no-universe true Nothing h = refl
       no-universe false s h = refl
 
-  lacks : (x : Bool) → x ≡ needsSpace (c .operator) → lacksSpace c ≡ x
+  lacks : (x : Bool) → x ≡ (rowOf (c .operator) .asks .selection) → lacksSpace c ≡ x
   unfolding lacksSpace
-  lacks x X = ap (λ (t : Bool). t && needsSpace (c .operator)) e ∙ sym X
+  lacks x X = ap (λ (t : Bool). t && (rowOf (c .operator) .asks .selection)) e ∙ sym X
 
   -- condition 3, then condition 12
-  stopped-by : (z x : Bool) → z ≡ zeroName c → x ≡ needsSpace (c .operator) → first (ofCall c) ≡ cond z (some 3) (cond x (some 12) none)
+  stopped-by : (z x : Bool) → z ≡ zeroName c → x ≡ (rowOf (c .operator) .asks .selection) → first (ofCall c) ≡ cond z (some 3) (cond x (some 12) none)
   unfolding ofCall first
   stopped-by z x Z X =
       ap (λ (a : Bool). cond a (some 2) (cond (zeroName c) (some 3) (cond (lacksSpace c) (some 12) (cond (destroysUniverse c) (some 4) none)))) numbered-operator
@@ -62,23 +63,29 @@ module _ (c : Call) (e : selectsNothing c ≡ true) where
   unfolding nothingReply
   answered r R = ap (λ (s : Option ℕ). answerOf (refusalOr (idleReply (operatorOf (c .operator)) c) s)) (sym R)
 
-  pub nothing-zero : (z x : Bool) → z ≡ zeroName c → x ≡ needsSpace (c .operator) → z ≡ true → Refusal 3 ≡ answerOf (nothingReply c)
-  unfolding refusalOr answerOf
-  nothing-zero z x Z X y = answered (some 3) (stopped-by z x Z X ∙ ap (λ (b : Bool). cond b (some 3) (cond x (some 12) none)) y)
+  -- by the row of its operator
+  module _ (row : Row) (R : row ≡ rowOf (c .operator)) (z : Bool) (Z : z ≡ zeroName c) where
+    asks : row .asks .selection ≡ rowOf (c .operator) .asks .selection
+    asks = ap (λ (r : Row). r .asks .selection) R
 
-  pub nothing-needs : (z x : Bool) → z ≡ zeroName c → x ≡ needsSpace (c .operator) → z ≡ false → x ≡ true → Refusal 12 ≡ answerOf (nothingReply c)
-  unfolding refusalOr answerOf
-  nothing-needs z x Z X n y =
-      answered (some 12)
-      (stopped-by z x Z X ∙ ap (λ (b : Bool). cond b (some 3) (cond x (some 12) none)) n ∙ ap (λ (b : Bool). cond b (some 12) none) y)
+    pub nothing-zero : z ≡ true → Refusal 3 ≡ answerOf (nothingReply c)
+    unfolding refusalOr answerOf
+    nothing-zero y = answered (some 3) (stopped-by z _ Z asks ∙ ap (λ (b : Bool). cond b (some 3) (cond (row .asks .selection) (some 12) none)) y)
 
-  pub nothing-idles : (z x : Bool) (op : Operator) (a : Answer) → z ≡ zeroName c → x ≡ needsSpace (c .operator) → z ≡ false → x ≡ false
-      → op ≡ operatorOf (c .operator) → a ≡ answerOf (idleReply op c) → a ≡ answerOf (nothingReply c)
-  unfolding refusalOr
-  nothing-idles z x op a Z X n m O A =
-      A
-      ∙ ap (λ (o : Operator). answerOf (idleReply o c)) O
-      ∙ answered none (stopped-by z x Z X ∙ ap (λ (b : Bool). cond b (some 3) (cond x (some 12) none)) n ∙ ap (λ (b : Bool). cond b (some 12) none) m)
+    pub nothing-needs : z ≡ false → row .asks .selection ≡ true → Refusal 12 ≡ answerOf (nothingReply c)
+    unfolding refusalOr answerOf
+    nothing-needs n y =
+        answered (some 12)
+        (stopped-by z _ Z asks ∙ ap (λ (b : Bool). cond b (some 3) (cond (row .asks .selection) (some 12) none)) n ∙ ap (λ (b : Bool). cond b (some 12) none) y)
+
+    pub nothing-idles : (op : Operator) (a : Answer) → z ≡ false → row .asks .selection ≡ false → op ≡ operatorOf (c .operator) → a ≡ answerOf (idleReply op c)
+        → a ≡ answerOf (nothingReply c)
+    unfolding refusalOr
+    nothing-idles op a n m O A =
+        A
+        ∙ ap (λ (o : Operator). answerOf (idleReply o c)) O
+        ∙ answered none
+        (stopped-by z _ Z asks ∙ ap (λ (b : Bool). cond b (some 3) (cond (row .asks .selection) (some 12) none)) n ∙ ap (λ (b : Bool). cond b (some 12) none) m)
 
 -- ---- on a store
 

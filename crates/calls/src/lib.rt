@@ -57,9 +57,10 @@ fn answer_nothing(c: Call) -> Answer
     requires { ⌜ selectsNothing c ≡ true ⌝ }
     ensures { λ r. ⌜ r ≡ answerOf (nothingReply c) ⌝ }
 {
-    let reads = decode::reads_of(c.operator);
+    let row = decode::row_of(c.operator);
+    let reads = row.reads;
     let zero = decode::zero_name(c, reads);
-    let needs = decode::needs_space(c.operator);
+    let needs = row.asks.selection;
     if zero {
         return Answer::Refusal(3);
     }
@@ -81,11 +82,12 @@ pub fn execute_known(store: &mut [u32], call: Call, list: &mut [u32]) -> Answer
     if k != 0 {
         return Answer::List(k);
     }
-    let above = conditions::locate_universe(store, call);
-    let located = conditions::locate(store, above, call);
-    let near = located.near;
-    let universe = conditions::also_in_universe(near, above, call);
-    let stop = refusals::refusal_of(store, located, universe, call, list.len());
+    let row = decode::row_of(call.operator);
+    let above = located::locate_universe(store, row, call);
+    let found = located::locate(store, above, row, call);
+    let near = found.near;
+    let universe = located::also_in_universe(near, above, call);
+    let stop = refusals::refusal_of(store, found, universe, call, list.len());
     if stop != 0 {
         return Answer::Refusal(stop);
     }

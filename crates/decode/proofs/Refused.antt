@@ -3,10 +3,10 @@ use mathlib.Core.Bool.{Bool, true, false, not, _&&_, _||_, true≢false}
 use mathlib.Core.List.{[], _∷_}
 use mathlib.Core.Logic.{inl, inr}
 use mathlib.Core.Path.{_≡_, refl, sym, ap, _∙_}
-use Prim.Native.Nat.{ℕ, _≤_, _<_}
 use native.Mathlib.Omega.{arith}
-use lib.Dec.{eqb, leb, ltb}
-use borrow.Author.Tests.{lt-ltb, le-ltb, le-leb, lt-leb, leb-true, leb-false, eq-eqb, ne-eqb}
+use lib.Dec.{eqb, leb}
+use borrow.Author.Tests.{leb-false}
+use Rattle.model.specs.declared.Asks.{Asks}
 use Rattle.model.specs.declared.Call.{Call}
 use Rattle.model.specs.declared.Reads.{Reads}
 use types.Run.{OneOf}
@@ -14,11 +14,11 @@ use denote.Enum.Declared.{tagOf}
 use Rattle.model.proofs.Space.{the-type}
 use Rattle.model.specs.declared.Space.{Space}
 use Rattle.model.specs.declared.Space.the-variants.{Universe, Numbered, Nothing}
-use Rattle.model.specs.Operators.{within, readsOf}
+use Rattle.model.specs.Operators.{readsOf, asksOf}
 use Rattle.model.specs.Steps.{nOf, gOf, mOf}
-use Rattle.model.proofs.Bools.{or-left, or-right, and-never, neither, not-yes, not-no}
-use Rattle.model.specs.Refusals.{zeroSpace, zeroName, noOperator, isUniverse, isNothing, selectsNothing, needsSpace, destroysUniverse}
-use Rattle.decode.proofs.Ranges.{every, above, under, reads-0, reads-above}
+use Rattle.model.proofs.Bools.{or-left, or-right, and-never, not-yes, not-no}
+use Rattle.model.specs.Refusals.{zeroSpace, zeroName, noOperator, isUniverse, isNothing, selectsNothing, destroysUniverse}
+use Rattle.decode.proofs.Ranges.{reads-0, reads-above}
 
 -- the tests of the names, over what is read
 abbrev nTest : Call → Reads → Bool
@@ -79,32 +79,16 @@ pub no-s : (c : Call) (r : Reads) (a b d : Bool) → r ≡ readsOf (c .operator)
 no-s c r a b d e p x q y s z given =
     given ∙ sym (ap (λ (u : Bool). u && zeroSpace (c .s)) given) ∙ left-to-space c r a b d e p x q y s z
 
-pub below-all : (c : Call) → c .operator < 1 → ltb (c .operator) 1 ≡ noOperator c
-unfolding noOperator
-below-all c h = lt-ltb _ _ h ∙ ap (λ (a : Bool). not (a && leb (c .operator) 57)) (sym (lt-leb 1 (c .operator) h))
-
-pub from-one : (c : Call) → 1 ≤ c .operator → ltb 57 (c .operator) ≡ noOperator c
-unfolding noOperator
-from-one c h = turned (leb (c .operator) 57) refl ∙ ap (λ (a : Bool). not (a && leb (c .operator) 57)) (sym (le-leb 1 (c .operator) h))
-  where
-    turned : (b : Bool) → leb (c .operator) 57 ≡ b → ltb 57 (c .operator) ≡ not b
-    turned true e = le-ltb 57 (c .operator) (leb-true (c .operator) 57 e)
-    turned false e = lt-ltb 57 (c .operator) (leb-false (c .operator) 57 e)
-
 pub is-read : (a b : Bool) → a ≡ true → b ≡ (a && b)
 is-read a b e = ap (λ (x : Bool). x && b) (sym e)
 
-pub universe-55 : (c : Call) (u : Bool) → c .operator ≡ 55 → u ≡ isUniverse (c .s) → u ≡ destroysUniverse c
+pub universe-asked : (c : Call) (asks : Asks) (u : Bool) → asks ≡ asksOf (c .operator) → not (asks .number) ≡ false → u ≡ isUniverse (c .s) → u ≡ destroysUniverse c
 unfolding destroysUniverse
-universe-55 c u e f = f ∙ ap (λ (x : Bool). x && isUniverse (c .s)) (sym (eq-eqb (c .operator) 55 e))
+universe-asked c asks u e n f = f ∙ ap (λ (x : Bool). x && isUniverse (c .s)) (sym (not-no _ n) ∙ ap (λ (a : Asks). a .number) e)
 
-pub not-55 : (c : Call) → (c .operator ≡ 55 → ⊥) → eqb (c .operator) 55 ≡ destroysUniverse c
+pub universe-unasked : (c : Call) (asks : Asks) → asks ≡ asksOf (c .operator) → not (asks .number) ≡ true → false ≡ destroysUniverse c
 unfolding destroysUniverse
-not-55 c n = go (eqb (c .operator) 55) (ne-eqb (c .operator) 55 n)
-  where
-    go : (b : Bool) → b ≡ false → b ≡ (b && isUniverse (c .s))
-    go true e = absurd (true≢false e)
-    go false e = refl
+universe-unasked c asks e n = ap (λ (x : Bool). x && isUniverse (c .s)) (sym (not-yes _ n) ∙ ap (λ (a : Asks). a .number) e)
 
 -- ---- nothing
 
@@ -144,24 +128,3 @@ selects-as-read c r x R X e =
     alone : (b : Bool) → (b && true) ≡ b
     alone true = refl
     alone false = refl
-
-outside : (o : ℕ) → within 7 8 o ≡ false → eqb o 47 ≡ false → within 51 55 o ≡ false → false ≡ needsSpace o
-outside o a b d = sym (neither _ _ (neither _ _ a b) d)
-
-pub none-below-7 : (o : ℕ) → o < 7 → false ≡ needsSpace o
-none-below-7 o h = outside o (under 7 8 o h) (ne-eqb o 47 (λ e. omega (arith, h, e))) (under 51 55 o (omega (arith, h)))
-
-pub none-below-51 : (o : ℕ) → 9 ≤ o → o < 51 → (o ≡ 47 → ⊥) → false ≡ needsSpace o
-none-below-51 o h l d = outside o (above 7 8 o (omega (arith, h))) (ne-eqb o 47 d) (under 51 55 o l)
-
-pub none-from-56 : (o : ℕ) → 56 ≤ o → false ≡ needsSpace o
-none-from-56 o h = outside o (above 7 8 o (omega (arith, h))) (ne-eqb o 47 (λ e. omega (arith, h, e))) (above 51 55 o (omega (arith, h)))
-
-pub needs-7-8 : (o : ℕ) → 7 ≤ o → o < 9 → true ≡ needsSpace o
-needs-7-8 o h l = sym (every needsSpace (λ (o : ℕ). true) 7 2 (refl, (refl, tt)) o h l)
-
-pub needs-47 : (o : ℕ) → o ≡ 47 → true ≡ needsSpace o
-needs-47 o e = sym (ap needsSpace e)
-
-pub needs-51-55 : (o : ℕ) → 51 ≤ o → o < 56 → true ≡ needsSpace o
-needs-51-55 o h l = sym (every needsSpace (λ (o : ℕ). true) 51 5 (refl, (refl, (refl, (refl, (refl, tt))))) o h l)

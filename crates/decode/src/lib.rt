@@ -1,4 +1,5 @@
-// A number's operator, the fields that it reads, and the refusals that depend on the call alone.
+// A number's row and its operator, and the refusals that depend on the call alone.
+use model::Asks;
 use model::Call;
 use model::Direction;
 use model::Listing;
@@ -6,13 +7,14 @@ use model::Object;
 use model::Operator;
 use model::Reads;
 use model::Removal;
+use model::Row;
 use model::Space;
 ghost use mathlib.Core.Path.{_≡_};
-ghost use mathlib.Core.Bool.{_&&_};
+ghost use mathlib.Core.Bool.{not, _&&_, _||_};
 ghost use lib.Dec.{eqb};
 ghost use Prim.Native.Nat.{_-_, _<_, _≤_};
-ghost use Rattle.model.specs.Operators.{operatorOf, readsOf};
-ghost use Rattle.model.specs.Refusals.{zeroSpace, isUniverse, isNothing, selectsNothing, needsSpace, noOperator, zeroName, destroysUniverse};
+ghost use Rattle.model.specs.Operators.{within, operatorOf, readsOf, asksOf, rowOf};
+ghost use Rattle.model.specs.Refusals.{zeroSpace, isUniverse, isNothing, selectsNothing, zeroName, destroysUniverse};
 ghost use Rattle.decode.specs.Decode.{turn};
 
 // For each field, whether it is read.
@@ -38,6 +40,74 @@ pub fn reads_of(o: u32) -> Reads
         52 => fields(false, false, false, true, true),
         57 => fields(true, false, false, false, false),
         _ => fields(false, false, false, false, false),
+    }
+}
+
+// Is a number one of a range, both ends in it.
+fn is_within(low: u32, high: u32, o: u32) -> bool
+    ensures { λ r. ⌜ r ≡ within low high o ⌝ }
+{
+    if o < low {
+        return false;
+    }
+    o <= high
+}
+
+// Is one of two so.
+fn or(a: bool, b: bool) -> bool
+    ensures { λ r. ⌜ r ≡ (a || b) ⌝ }
+{
+    if a {
+        return true;
+    }
+    b
+}
+
+// Is the first so and the second not.
+fn without(a: bool, b: bool) -> bool
+    ensures { λ r. ⌜ r ≡ (a && not b) ⌝ }
+{
+    if !a {
+        return false;
+    }
+    !b
+}
+
+// What an operator asks for; `reads` are the fields that it reads.
+fn asks_of(o: u32, reads: Reads) -> Asks
+    requires { ⌜ reads ≡ readsOf o ⌝ }
+    ensures { λ r. ⌜ r ≡ asksOf o ⌝ }
+{
+    Asks {
+        selection: or(or(is_within(7, 8, o), o == 47), is_within(51, 55, o)),
+        number: o == 55,
+        space: without(reads.s, or(o == 51, is_within(54, 55, o))),
+        node: or(is_within(1, 44, o), is_within(46, 47, o)),
+        universe: o == 57,
+        edge: is_within(4, 8, o),
+    }
+}
+
+// "For 1–50 the last, s, may be missing" in a script.
+pub fn space_optional(o: u32) -> bool
+    ensures { λ r. ⌜ r ≡ rowOf o .optional ⌝ }
+{
+    is_within(1, 50, o)
+}
+
+// The row of a number: all that the number fixes.
+pub fn row_of(o: u32) -> Row
+    ensures { λ r. ⌜ r ≡ rowOf o ⌝ }
+{
+    let reads = reads_of(o);
+    let asks = asks_of(o, reads);
+    Row {
+        known: is_within(1, 57, o),
+        reads,
+        asks,
+        both: or(is_within(1, 3, o), o == 45),
+        first: or(is_within(51, 52, o), o == 55),
+        optional: space_optional(o),
     }
 }
 
@@ -174,23 +244,6 @@ pub fn selects_nothing(c: Call) -> bool
     reads.s
 }
 
-// Operators that condition 12 stops where their space is nothing: V (7, 8, 47, 53) and 51–55.
-pub fn needs_space(o: u32) -> bool
-    ensures { λ r. ⌜ r ≡ needsSpace o ⌝ }
-{
-    match o {
-        7..=8 | 47 | 51..=55 => true,
-        _ => false,
-    }
-}
-
-// Condition 2: the number is no operator's.
-pub fn no_operator(c: Call) -> bool
-    ensures { λ r. ⌜ r ≡ noOperator c ⌝ }
-{
-    c.operator < 1 || c.operator > 57
-}
-
 // Is the name read, and 0.
 fn zero_if_read(read: bool, name: u16) -> bool
     ensures { λ r. ⌜ r ≡ (read && eqb name 0) ⌝ }
@@ -216,10 +269,14 @@ pub fn zero_name(c: Call, r: Reads) -> bool
     r.s && zero_space(s)
 }
 
-// Condition 4: 55 on UNIVERSE.
-pub fn destroys_universe(c: Call) -> bool
+// Condition 4: the operator asks for a numbered space, and the space is UNIVERSE.
+pub fn destroys_universe(c: Call, asks: Asks) -> bool
+    requires { ⌜ asks ≡ asksOf (c .operator) ⌝ }
     ensures { λ r. ⌜ r ≡ destroysUniverse c ⌝ }
 {
+    if !asks.number {
+        return false;
+    }
     let s = c.s;
-    c.operator == 55 && is_universe(s)
+    is_universe(s)
 }

@@ -8,7 +8,7 @@ use Rattle.model.specs.declared.Call.{Call}
 use Rattle.model.specs.declared.Space.{Space}
 use Rattle.model.specs.declared.Space.the-variants.{Universe, Numbered, Nothing}
 use Rattle.model.specs.Keys.{mostName}
-use Rattle.model.specs.Operators.{readsOf, within}
+use Rattle.model.specs.Operators.{rowOf}
 use Rattle.text.specs.Bytes.{Text, sameText, U, hyphen}
 use Rattle.text.specs.Numerals.{readNumber}
 use Rattle.lines.specs.declared.Reading.{Reading}
@@ -55,11 +55,11 @@ callOf o n g m v s =
 -- "Arguments follow in the order above": n g m v, those that are read, and s; "For 1–50 the last, s, may be missing"
 unfoldable pub inOrder : ℕ → List Text → Reading
 inOrder o ws =
-    takeNumber (readsOf o .n) mostName ws (λ (n : ℕ) (ws₁ : List Text).
-    takeNumber (readsOf o .g) mostName ws₁ (λ (g : ℕ) (ws₂ : List Text).
-    takeNumber (readsOf o .m) mostName ws₂ (λ (m : ℕ) (ws₃ : List Text).
-    takeNumber (readsOf o .v) mostValue ws₃ (λ (v : ℕ) (ws₄ : List Text).
-    takeSpace (within 1 50 o) ws₄ (λ (s : Space) (ws₅ : List Text). complete (callOf o n g m v s) ws₅)))))
+    takeNumber (rowOf o .reads .n) mostName ws (λ (n : ℕ) (ws₁ : List Text).
+    takeNumber (rowOf o .reads .g) mostName ws₁ (λ (g : ℕ) (ws₂ : List Text).
+    takeNumber (rowOf o .reads .m) mostName ws₂ (λ (m : ℕ) (ws₃ : List Text).
+    takeNumber (rowOf o .reads .v) mostValue ws₃ (λ (v : ℕ) (ws₄ : List Text).
+    takeSpace (rowOf o .optional) ws₄ (λ (s : Space) (ws₅ : List Text). complete (callOf o n g m v s) ws₅)))))
 
 -- "52 s v"
 unfoldable pub spaceThenValue : ℕ → List Text → Reading

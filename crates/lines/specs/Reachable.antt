@@ -8,7 +8,7 @@ use Rattle.model.specs.declared.Call.{Call}
 use Rattle.model.specs.declared.Space.{Space}
 use Rattle.model.specs.declared.Space.the-variants.{Universe, Numbered, Nothing}
 use Rattle.model.specs.Keys.{mostName}
-use Rattle.model.specs.Operators.{readsOf}
+use Rattle.model.specs.Operators.{rowOf}
 use Rattle.text.specs.Bytes.{Text, blank, S, U, hyphen}
 use Rattle.text.specs.Numerals.{printedNumber}
 use Rattle.letters.specs.OperatorWords.{operatorWords}
@@ -37,14 +37,14 @@ ifRead true w ws = w ∷ ws
 -- "n g m v", those that are read, in front of what follows them
 unfoldable pub fieldsThen : Call → List Text → List Text
 fieldsThen c ws =
-    ifRead (readsOf (c .operator) .n) (printedNumber (c .n .0))
-    (ifRead (readsOf (c .operator) .g) (printedNumber (c .g .0))
-    (ifRead (readsOf (c .operator) .m) (printedNumber (c .m .0))
-    (ifRead (readsOf (c .operator) .v) (printedNumber (c .v)) ws)))
+    ifRead (rowOf (c .operator) .reads .n) (printedNumber (c .n .0))
+    (ifRead (rowOf (c .operator) .reads .g) (printedNumber (c .g .0))
+    (ifRead (rowOf (c .operator) .reads .m) (printedNumber (c .m .0))
+    (ifRead (rowOf (c .operator) .reads .v) (printedNumber (c .v)) ws)))
 
 -- "n g m v s", those that are read
 unfoldable pub orderedOf : Call → List Text
-orderedOf c = fieldsThen c (ifRead (readsOf (c .operator) .s) (spaceText (c .s)) [])
+orderedOf c = fieldsThen c (ifRead (rowOf (c .operator) .reads .s) (spaceText (c .s)) [])
 
 -- "52 s v"
 unfoldable pub argumentsOf : Call → List Text

@@ -8,7 +8,6 @@ use model::Space;
 use model::SpaceName;
 ghost use mathlib.Core.Path.{_≡_};
 ghost use Rattle.model.specs.Keys.{mostName};
-ghost use Rattle.model.specs.Operators.{within};
 ghost use Rattle.lines.specs.Places.{ofWord, argumentAt, fieldAt, spaceOf};
 
 // What reading a space finds.
@@ -17,13 +16,6 @@ pub enum SpaceArgument {
     Given(Space, usize),
     // A word that is no space, or none where a space may not be missing.
     NotASpace,
-}
-
-// "For 1–50 the last, s, may be missing".
-pub fn space_optional(o: u32) -> bool
-    ensures { λ r. ⌜ r ≡ within 1 50 o ⌝ }
-{
-    1 <= o && o <= 50
 }
 
 // The argument that a word is; the word ends at a place of the line.

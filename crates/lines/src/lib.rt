@@ -7,7 +7,6 @@ use arguments::SpaceArgument;
 use arguments::argument_at;
 use arguments::field_at;
 use arguments::space_at;
-use arguments::space_optional;
 use letters::operator_number;
 use model::Call;
 use model::EdgeName;
@@ -80,7 +79,7 @@ fn in_order(line: &[u8], end: usize, o: u32) -> Reading
     let Argument::Number(v, after_v) = field_at(read.v, line, after_m, 4294967295) else {
         return Reading::Refused(11);
     };
-    let SpaceArgument::Given(s, after_s) = space_at(line, after_v, space_optional(o)) else {
+    let SpaceArgument::Given(s, after_s) = space_at(line, after_v, decode::space_optional(o)) else {
         return Reading::Refused(11);
     };
     let c = Call {

@@ -1,10 +1,11 @@
 -- Document 01, the table of operators and "The number fixes the arguments that are read".
 -- An operator's name is composed of letters, as the manual's rules of composition have it: what is done (C B V X D S), the direction of pairs (O I A), and the object.
-use mathlib.Core.Bool.{Bool, true, false, cond, _&&_, _||_}
+use mathlib.Core.Bool.{Bool, true, false, cond, not, _&&_, _||_}
 use mathlib.Core.List.{List, [], _∷_, _++_}
 use Prim.Native.Nat.{ℕ, _-_}
 use lib.Dec.{leb, eqb}
 use lib.ListN.{getD}
+use Rattle.model.specs.declared.Asks.{Asks}
 use Rattle.model.specs.declared.Direction.{Direction}
 use Rattle.model.specs.declared.Direction.the-variants.{Outpointing, Inpointing, Adjacent}
 use Rattle.model.specs.declared.Listing.{Listing}
@@ -13,6 +14,7 @@ use Rattle.model.specs.declared.Operator.{Operator}
 use Rattle.model.specs.declared.Operator.the-variants.{Create, Bind, Value as Values, Exists, Destroy, List as Lists}
 use Rattle.model.specs.declared.Reads.{Reads}
 use Rattle.model.specs.declared.Removal.{Removal}
+use Rattle.model.specs.declared.Row.{Row}
 
 -- three operators in the order of the table: O, I, A
 abbrev pub each : (Direction → Operator) → List Operator
@@ -66,3 +68,36 @@ readsOf o =
     (cond (eqb o 52) (fields false false false true true)
     (cond (eqb o 57) (fields true false false false false)
     (fields false false false false false))))))))))
+
+-- what an operator asks for before its step
+abbrev pub asksOf : ℕ → Asks
+asksOf o =
+    record {
+      -- condition 12: "a V operator, or any of 51–55": 7, 8, 47 and 53 are V
+      selection = within 7 8 o || eqb o 47 || within 51 55 o;
+      -- condition 4: "55 on UNIVERSE"
+      number = eqb o 55;
+      -- condition 5: "s absent (not for 51, 54, 55)"
+      space = (readsOf o .s) && not (eqb o 51 || within 54 55 o);
+      -- condition 6: "n absent from s (1–44, 46, 47), or from 0 (57)"
+      node = within 1 44 o || within 46 47 o;
+      universe = eqb o 57;
+      -- condition 8: "4–8: no such edge"
+      edge = within 4 8 o;
+    }
+
+-- what an operator's number fixes: all that is asked of a number stands in its row
+abbrev pub rowOf : ℕ → Row
+rowOf o =
+    record {
+      -- condition 2: "not 1 to 57"
+      known = within 1 57 o;
+      reads = readsOf o;
+      asks = asksOf o;
+      -- "add the edge .. in s and in 0", "add n to s and to 0"
+      both = within 1 3 o || eqb o 45;
+      -- "C, B and D return the first argument (51, 52, 55: the space)"
+      first = within 51 52 o || eqb o 55;
+      -- scripts: "For 1–50 the last, s, may be missing"
+      optional = within 1 50 o;
+    }

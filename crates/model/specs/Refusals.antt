@@ -15,7 +15,7 @@ use Rattle.model.specs.Keys.{spaceKey, nodeKey}
 use Rattle.model.specs.Tuples.{Tuples, present, anyPresent, missing}
 use Rattle.model.specs.declared.Operator.{Operator}
 use Rattle.model.specs.declared.Operator.the-variants.{Create, Bind, Value as Values, Exists, Destroy, List as Lists}
-use Rattle.model.specs.Operators.{operatorOf, within, readsOf}
+use Rattle.model.specs.Operators.{operatorOf, rowOf}
 use Rattle.model.specs.Steps.{nOf, gOf, mOf, sOf, objectKeys, wouldList, wouldAdd}
 
 -- the number of a condition, and whether it applies
@@ -51,44 +51,39 @@ isNothing Nothing = true
 
 -- request 1, "a row that selects nothing": the space of the call is read, and it is nothing
 unfoldable pub selectsNothing : Call → Bool
-selectsNothing c = (readsOf (c .operator) .s) && isNothing (c .s)
+selectsNothing c = (rowOf (c .operator) .reads .s) && isNothing (c .s)
 
 -- 2, operator: "not 1 to 57"
 unfoldable pub noOperator : Call → Bool
-noOperator c = not (within 1 57 (c .operator))
+noOperator c = not (rowOf (c .operator) .known)
 
 -- 3, names: "a name that is read is 0"
 unfoldable pub zeroName : Call → Bool
 zeroName c =
-    let r = readsOf (c .operator) in
+    let r = rowOf (c .operator) .reads in
     (r .n && eqb (nOf c) 0) || (r .g && eqb (gOf c) 0) || (r .m && eqb (mOf c) 0) || (r .s && zeroSpace (c .s))
 
--- "a V operator, or any of 51–55": 7, 8, 47 and 53 are V
-abbrev pub needsSpace : ℕ → Bool
-needsSpace o = within 7 8 o || eqb o 47 || within 51 55 o
-
--- 12, space: these "with `-`; tested after 3 and before 4"
+-- 12, space: "a V operator, or any of 51–55, with `-`; tested after 3 and before 4"
 unfoldable pub lacksSpace : Call → Bool
-lacksSpace c = selectsNothing c && needsSpace (c .operator)
+lacksSpace c = selectsNothing c && (rowOf (c .operator) .asks .selection)
 
 -- 4, space: "55 on UNIVERSE"
 unfoldable pub destroysUniverse : Call → Bool
-destroysUniverse c = eqb (c .operator) 55 && isUniverse (c .s)
+destroysUniverse c = (rowOf (c .operator) .asks .number) && isUniverse (c .s)
 
 -- 5, space: "s absent (not for 51, 54, 55)"
 unfoldable pub spaceAbsent : Call → Tuples → Bool
-spaceAbsent c ts =
-    (readsOf (c .operator) .s) && not (eqb (c .operator) 51 || within 54 55 (c .operator)) && not (present (spaceKey (sOf c)) ts)
+spaceAbsent c ts = (rowOf (c .operator) .asks .space) && not (present (spaceKey (sOf c)) ts)
 
 -- 6, node: "n absent from s (1–44, 46, 47), or from 0 (57)"
 unfoldable pub nodeAbsent : Call → Tuples → Bool
 nodeAbsent c ts =
-    ((within 1 44 (c .operator) || within 46 47 (c .operator)) && not (present (nodeKey (sOf c) (nOf c)) ts))
-    || (eqb (c .operator) 57 && not (present (nodeKey 0 (nOf c)) ts))
+    ((rowOf (c .operator) .asks .node) && not (present (nodeKey (sOf c) (nOf c)) ts))
+    || ((rowOf (c .operator) .asks .universe) && not (present (nodeKey 0 (nOf c)) ts))
 
 -- 7, node: "m, where it is read, absent from s"
 unfoldable pub secondAbsent : Call → Tuples → Bool
-secondAbsent c ts = (readsOf (c .operator) .m) && not (present (nodeKey (sOf c) (mOf c)) ts)
+secondAbsent c ts = (rowOf (c .operator) .reads .m) && not (present (nodeKey (sOf c) (mOf c)) ts)
 
 -- the keys in s that C, B, V and X work on
 unfoldable pub workedOn : Operator → Call → List Key
@@ -101,7 +96,7 @@ workedOn (Lists l) c = []
 
 -- 8, pair: "4–8: no such edge; 6 only if both are absent"
 unfoldable pub edgeAbsent : Call → Tuples → Bool
-edgeAbsent c ts = within 4 8 (c .operator) && not (anyPresent (workedOn (operatorOf (c .operator)) c) ts)
+edgeAbsent c ts = (rowOf (c .operator) .asks .edge) && not (anyPresent (workedOn (operatorOf (c .operator)) c) ts)
 
 -- 9, answer list: "shorter than k"
 unfoldable pub listShort : Call → Tuples → ℕ → Bool

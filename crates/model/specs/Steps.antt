@@ -17,7 +17,7 @@ use Rattle.model.specs.declared.Object.{Object}
 use Rattle.model.specs.declared.Operator.{Operator}
 use Rattle.model.specs.declared.Operator.the-variants.{Create, Bind, Value as Values, Exists, Destroy, List as Lists}
 use Rattle.model.specs.declared.Removal.{Removal}
-use Rattle.model.specs.Operators.{within}
+use Rattle.model.specs.Operators.{rowOf}
 use Rattle.model.specs.Pairs.{edgeOf, nodeOf, pairsAt, pairsOf, edgeNames, nodeNames, withEdge, withNode, nodesIn, spacesIn, spacesWith, pairKeys, anyPair}
 
 -- "In tuples and answers UNIVERSE is written 0." No tuple and no answer is made with nothing; what stands here for it has no effect.
@@ -105,7 +105,7 @@ listed Listing.USn c ts = spacesWith (nOf c) ts
 
 -- "C, B and D return the first argument (51, 52, 55: the space)"
 unfoldable pub firstArgument : Call → ℕ
-firstArgument c = cond (within 51 52 (c .operator) || eqb (c .operator) 55) (sOf c) (nOf c)
+firstArgument c = cond (rowOf (c .operator) .first) (sOf c) (nOf c)
 
 -- "Answers are equal when they are of the same kind (refusal, name, value, yes or no, list) and carry the same; a list carries k and its k pairs in order."
 pub data Reply : Type 0 where

@@ -114,6 +114,36 @@ pub struct Reads {
     pub s: bool,
 }
 
+// What an operator asks for before its step: where it is not there, the call is stopped. It asks for node m where it reads m.
+pub struct Asks {
+    // A selection, be it UNIVERSE or a numbered space (12).
+    pub selection: bool,
+    // A numbered space and not UNIVERSE (4).
+    pub number: bool,
+    // That its space is there (5).
+    pub space: bool,
+    // That node n is in its space (6).
+    pub node: bool,
+    // That node n is in UNIVERSE (6).
+    pub universe: bool,
+    // That there is such an edge (8).
+    pub edge: bool,
+}
+
+// What an operator's number fixes: one row of the table of operators.
+pub struct Row {
+    // Is it an operator's number.
+    pub known: bool,
+    pub reads: Reads,
+    pub asks: Asks,
+    // Does it add in UNIVERSE too what it adds in its space.
+    pub both: bool,
+    // Is the space its first argument.
+    pub first: bool,
+    // May a script leave its space out.
+    pub optional: bool,
+}
+
 // "C, B and D return the first argument; V a value; X yes or no; S a count k"; a call that is stopped, its refusal's number.
 pub enum Answer {
     // The number of the condition that stopped the call.

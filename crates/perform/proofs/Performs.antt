@@ -1,12 +1,9 @@
 -- The step of each family of operators (specs/Perform.antt).
-use mathlib.Core.Bool.{Bool, true, false, cond, _&&_, _||_, or-true, or-false, true≢false}
+use mathlib.Core.Bool.{Bool, true, false, cond, true≢false}
 use mathlib.Core.List.{List}
-use mathlib.Core.Logic.{_≢_}
 use mathlib.Core.Path.{_≡_, refl, sym, ap, ap₂, _∙_, subst}
-use Prim.Native.Nat.{ℕ, _≤_, _<_}
-use lib.Dec.{eqb, leb}
+use Prim.Native.Nat.{ℕ}
 use lib.ListN.{length}
-use borrow.Author.Tests.{le-leb, lt-leb, eq-eqb, ne-eqb}
 use Rattle.model.specs.declared.Answer.{Answer}
 use Rattle.model.specs.declared.Answer.the-variants.{Name, Value, YesNo, List as Listed}
 use Rattle.model.specs.declared.Call.{Call}
@@ -15,7 +12,8 @@ use Rattle.model.specs.declared.Listing.{Listing}
 use Rattle.model.specs.declared.Operator.{Operator}
 use Rattle.model.specs.declared.Operator.the-variants.{Create, Bind, Value as Values, Exists, Destroy, List as Lists}
 use Rattle.model.specs.declared.Removal.{Removal}
-use Rattle.model.specs.Operators.{within}
+use Rattle.model.specs.declared.Row.{Row}
+use Rattle.model.specs.Operators.{rowOf}
 use Rattle.model.specs.Tuples.{anyPresent, addAll, assignAll}
 use Rattle.model.specs.Buffer.{tuplesOf}
 use Rattle.model.specs.Steps.{nOf, sOf, vOf, objectKeys, created, firstValue, destroyed, listed, firstArgument, reply, idleReply, after}
@@ -27,26 +25,13 @@ use Rattle.perform.specs.Perform.{NamesRead, Ready, Performed}
 
 -- ---- the first argument
 
-abbrev spaceFirst : ℕ → Bool
-spaceFirst o = within 51 52 o || eqb o 55
-
-pub space-first-55 : (o : ℕ) → o ≡ 55 → true ≡ spaceFirst o
-space-first-55 o e = sym (ap (λ (x : Bool). within 51 52 o || x) (eq-eqb o 55 e) ∙ or-true (within 51 52 o))
-
-pub space-first-below : (o : ℕ) → o ≢ 55 → o < 51 → false ≡ spaceFirst o
-space-first-below o d h = sym (ap₂ (λ (x y : Bool). (x && leb o 52) || y) (lt-leb 51 o h) (ne-eqb o 55 d))
-
-pub space-first-above : (o : ℕ) → o ≢ 55 → 51 ≤ o → leb o 52 ≡ spaceFirst o
-space-first-above o d h =
-    sym (ap₂ (λ (x y : Bool). (x && leb o 52) || y) (le-leb 51 o h) (ne-eqb o 55 d) ∙ or-false (leb o 52))
-
-pub first-is-space : (c : Call) (f : Bool) (x : ℕ) → f ≡ spaceFirst (c .operator) → f ≡ true → x ≡ sOf c → x ≡ firstArgument c
+pub first-is-space : (c : Call) (row : Row) (x : ℕ) → row ≡ rowOf (c .operator) → row .first ≡ true → x ≡ sOf c → x ≡ firstArgument c
 unfolding firstArgument
-first-is-space c f x F e h = h ∙ ap (λ (y : Bool). cond y (sOf c) (nOf c)) (sym e ∙ F)
+first-is-space c row x R e h = h ∙ ap (λ (y : Bool). cond y (sOf c) (nOf c)) (sym e ∙ ap (λ (r : Row). r .first) R)
 
-pub first-is-node : (c : Call) (f : Bool) → f ≡ spaceFirst (c .operator) → f ≡ false → nOf c ≡ firstArgument c
+pub first-is-node : (c : Call) (row : Row) → row ≡ rowOf (c .operator) → row .first ≡ false → nOf c ≡ firstArgument c
 unfolding firstArgument
-first-is-node c f F e = ap (λ (y : Bool). cond y (sOf c) (nOf c)) (sym e ∙ F)
+first-is-node c row R e = ap (λ (y : Bool). cond y (sOf c) (nOf c)) (sym e ∙ ap (λ (r : Row). r .first) R)
 
 -- ---- D
 

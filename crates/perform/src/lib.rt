@@ -6,30 +6,15 @@ use model::Operator;
 use model::Removal;
 use model::Space;
 use operate::Near;
-ghost use mathlib.Core.Bool.{true, _||_};
+ghost use mathlib.Core.Bool.{true};
 ghost use mathlib.Core.Path.{_≡_};
-ghost use lib.Dec.{eqb};
 ghost use lib.ListN.{length};
-ghost use Rattle.model.specs.Operators.{within};
 ghost use Rattle.model.specs.Buffer.{tuplesOf, isStore};
 ghost use Rattle.model.specs.Steps.{spaceNumber, firstArgument, destroyed, idleReply};
 ghost use Rattle.model.specs.OneCall.{answerOf};
 ghost use Rattle.chain.specs.Links.{Edited};
 ghost use Rattle.operate.specs.Operate.{NearIn};
 ghost use Rattle.perform.specs.Perform.{NamesRead, Ready, Performed};
-
-// Operators whose first argument is the space: 51, 52, 55.
-fn space_is_first(o: u32) -> bool
-    ensures { λ r. ⌜ r ≡ (within 51 52 o || eqb o 55) ⌝ }
-{
-    if o == 55 {
-        return true;
-    }
-    if o < 51 {
-        return false;
-    }
-    o <= 52
-}
 
 // The name of a space; 0 for UNIVERSE, and for nothing, which no call answers (12).
 fn space_name(s: Space) -> u16
@@ -46,7 +31,8 @@ fn space_name(s: Space) -> u16
 fn first_argument(c: Call) -> u16
     ensures { λ r. ⌜ r ≡ firstArgument c ⌝ }
 {
-    if space_is_first(c.operator) {
+    let row = decode::row_of(c.operator);
+    if row.first {
         let s = c.s;
         return space_name(s);
     }

@@ -16,7 +16,7 @@ use Rattle.model.specs.Operators.{operatorOf}
 use Rattle.model.specs.Tuples.{Tuples, missing}
 use Rattle.model.specs.Buffer.{word, capacityOf, tuplesOf}
 use Rattle.model.specs.Steps.{wouldList, wouldAdd}
-use Rattle.model.specs.Refusals.{Stop, stop, first, selectsNothing, listShort, full, ofCall, ofTuples, ifLookedUp, earlier, refusalOf}
+use Rattle.model.specs.Refusals.{Stop, stop, first, selectsNothing, noOperator, zeroName, destroysUniverse, spaceAbsent, nodeAbsent, secondAbsent, edgeAbsent, listShort, full, ofCall, ofTuples, ifLookedUp, earlier, refusalOf}
 use Rattle.model.proofs.Bools.{equal, not-yes}
 use Rattle.model.proofs.Store.{tuples-fit}
 use Rattle.model.proofs.Refusals.{everyNumber, first-number, asked, looked-up}
@@ -37,6 +37,18 @@ pub passes : (number : ℕ) (applies x : Bool) (xs : List Stop) (r : ℕ) → x 
 unfolding stopNumber first
 passes number applies x xs r X e R = R ∙ ap (λ (b : Bool). stopNumber (cond b (some number) (first xs))) (sym e ∙ X)
 
+-- what was tested of a condition
+pub tested : (applies x t : Bool) → x ≡ applies → x ≡ t → applies ≡ t
+tested applies x t X e = sym X ∙ e
+
+-- the first condition that applies, where those before it do not
+pub stops-here : (number : ℕ) (applies : Bool) (xs : List Stop) → applies ≡ true → number ≡ stopNumber (first (stop number applies ∷ xs))
+stops-here number applies xs e = stops number applies applies xs refl e
+
+pub goes-on : (number : ℕ) (applies : Bool) (xs : List Stop) (r : ℕ) → applies ≡ false → r ≡ stopNumber (first xs)
+    → r ≡ stopNumber (first (stop number applies ∷ xs))
+goes-on number applies xs r e R = passes number applies applies xs r refl e R
+
 pub nothing-left : 0 ≡ stopNumber (first [])
 unfolding stopNumber first
 nothing-left = refl
@@ -45,6 +57,25 @@ nothing-left = refl
 pub as-asked : (C : ℕ) (ts : Tuples) (c : Call) (room r : ℕ) → selectsNothing c ≡ false → r ≡ stopNumber (first (asked C ts c room))
     → r ≡ stopNumber (refusalOf C ts c room)
 as-asked C ts c room r e R = R ∙ ap stopNumber (sym (looked-up C ts c room e))
+
+-- conditions 2 to 7 do not apply
+pub record NamesPassed (c : Call) (ts : Tuples) : Type 0 where
+  pub known : noOperator c ≡ false
+  pub names : zeroName c ≡ false
+  pub universe : destroysUniverse c ≡ false
+  pub space : spaceAbsent c ts ≡ false
+  pub node : nodeAbsent c ts ≡ false
+  pub second : secondAbsent c ts ≡ false
+
+-- conditions 8 to 10 then decide
+pub after-names : (C : ℕ) (ts : Tuples) (c : Call) (room r : ℕ) → NamesPassed c ts → selectsNothing c ≡ false
+    → r ≡ stopNumber (first (stop 8 (edgeAbsent c ts) ∷ stop 9 (listShort c ts room) ∷ stop 10 (full C c ts) ∷ []))
+    → r ≡ stopNumber (refusalOf C ts c room)
+after-names C ts c room r P e R =
+    as-asked C ts c room r e
+    (goes-on 2 _ _ r (P .known)
+    (goes-on 3 _ _ r (P .names)
+    (goes-on 4 _ _ r (P .universe) (goes-on 5 _ _ r (P .space) (goes-on 6 _ _ r (P .node) (goes-on 7 _ _ r (P .second) R))))))
 
 -- ---- what the number says
 

@@ -1,24 +1,101 @@
 // Conditions 2 to 10 in their order: which one stops a call on a store, but for one whose space is read and nothing (`selectsNothing`).
-use conditions::Located;
+use located::Located;
 use model::Call;
+use model::Key;
 use model::Listing;
 use model::Operator;
 use operate::Near;
 ghost use mathlib.Core.Path.{_≡_};
-ghost use mathlib.Core.Bool.{true, false};
+ghost use mathlib.Core.Bool.{true, false, not};
 ghost use Prim.Native.Nat.{_-_};
 ghost use lib.ListN.{length};
 ghost use Rattle.model.specs.Operators.{operatorOf};
-ghost use Rattle.model.specs.Tuples.{missing};
+ghost use Rattle.model.specs.Tuples.{present, anyPresent, missing};
 ghost use Rattle.model.specs.Buffer.{capacityOf, tuplesOf, isStore};
 ghost use Rattle.model.specs.Steps.{listed, wouldAdd};
-ghost use Rattle.model.specs.Refusals.{selectsNothing, noOperator, zeroName, listShort, full, refusalOf};
-ghost use Rattle.chain.specs.Links.{Linked};
+ghost use Rattle.model.specs.Refusals.{selectsNothing, noOperator, zeroName, spaceAbsent, nodeAbsent, secondAbsent, workedOn, edgeAbsent, listShort, full, refusalOf};
+ghost use Rattle.chain.specs.Links.{Linked, Hint};
 ghost use Rattle.listing.specs.Lists.{NamesAsked};
 ghost use lib.Dec.{ltb};
 ghost use Rattle.operate.specs.Operate.{NearIn};
-ghost use Rattle.conditions.specs.Located.{Told};
+ghost use Rattle.located.specs.Located.{Told};
 ghost use Rattle.refusals.specs.Numbers.{stopNumber};
+
+// Is there no tuple with this key.
+fn key_absent(b: &[u32], hint: usize, k: Key) -> bool
+    requires { ⌜ Linked (now b) × Hint (now b) hint ⌝ }
+    ensures { λ r. ⌜ r ≡ not (present k (tuplesOf (now (b .entry)))) ⌝ }
+{
+    !chain::has(b, hint, k)
+}
+
+// Condition 5: s is absent.
+fn space_absent(b: &[u32], l: Located, c: Call) -> bool
+    requires { ⌜ Told (now b) c l ⌝ }
+    ensures { λ r. ⌜ r ≡ spaceAbsent c (tuplesOf (now (b .entry))) ⌝ }
+{
+    let row = l.row;
+    if !row.asks.space {
+        return false;
+    }
+    !l.space
+}
+
+// Condition 6: n is absent from s, or, for 57, from 0. Asked where conditions 2 and 5 do not apply.
+fn node_absent(b: &[u32], l: Located, c: Call) -> bool
+    requires { ⌜ Linked (now b) × Told (now b) c l × (noOperator c ≡ false) × (spaceAbsent c (tuplesOf (now b)) ≡ false) ⌝ }
+    ensures { λ r. ⌜ r ≡ nodeAbsent c (tuplesOf (now (b .entry))) ⌝ }
+{
+    let row = l.row;
+    if row.asks.universe {
+        let f = operate::fields_of(c);
+        return key_absent(b, 0, records::node_key(0, f.n));
+    }
+    if !row.asks.node {
+        return false;
+    }
+    !l.node
+}
+
+// Condition 7: m, where it is read, is absent from s. Asked where conditions 2 and 5 do not apply.
+fn second_absent(b: &[u32], l: Located, c: Call) -> bool
+    requires { ⌜ Told (now b) c l × (noOperator c ≡ false) × (spaceAbsent c (tuplesOf (now b)) ≡ false) ⌝ }
+    ensures { λ r. ⌜ r ≡ secondAbsent c (tuplesOf (now (b .entry))) ⌝ }
+{
+    let row = l.row;
+    if !row.reads.m {
+        return false;
+    }
+    !l.second
+}
+
+// Is nothing present of what C, B, V and X work on.
+fn object_absent(b: &[u32], near: Near, op: Operator, c: Call) -> bool
+    requires { ⌜ Linked (now b) × NearIn (now b) near ⌝ }
+    ensures { λ r. ⌜ r ≡ not (anyPresent (workedOn op c) (tuplesOf (now (b .entry)))) ⌝ }
+{
+    match op {
+        Operator::Create(o) => !operate::exists(b, near, o, c),
+        Operator::Bind(o) => !operate::exists(b, near, o, c),
+        Operator::Value(o) => !operate::exists(b, near, o, c),
+        Operator::Exists(o) => !operate::exists(b, near, o, c),
+        Operator::Destroy(r) => true,
+        Operator::List(l) => true,
+    }
+}
+
+// Condition 8: no such edge.
+fn edge_absent(b: &[u32], l: Located, c: Call) -> bool
+    requires { ⌜ Linked (now b) × Told (now b) c l ⌝ }
+    ensures { λ r. ⌜ r ≡ edgeAbsent c (tuplesOf (now (b .entry))) ⌝ }
+{
+    let row = l.row;
+    if !row.asks.edge {
+        return false;
+    }
+    let near = l.near;
+    object_absent(b, near, decode::operator_of(c.operator), c)
+}
 
 // Condition 9 for an S operator: the entries are counted only where the tuples could give more than the list holds.
 fn list_short(b: &[u32], near: Near, l: Listing, c: Call, room: usize) -> bool
@@ -85,26 +162,28 @@ pub fn refusal_of(b: &[u32], l: Located, universe: Near, c: Call, room: usize) -
     ensures { λ r. ⌜ r ≡ stopNumber (refusalOf (capacityOf (now (b .entry))) (tuplesOf (now (b .entry))) c room) ⌝ }
 {
     let near = l.near;
-    let reads = l.reads;
-    if decode::no_operator(c) {
+    let row = l.row;
+    let reads = row.reads;
+    let asks = row.asks;
+    if !row.known {
         return 2;
     }
     if decode::zero_name(c, reads) {
         return 3;
     }
-    if decode::destroys_universe(c) {
+    if decode::destroys_universe(c, asks) {
         return 4;
     }
-    if conditions::space_absent(b, l, c) {
+    if space_absent(b, l, c) {
         return 5;
     }
-    if conditions::node_absent(b, l, c) {
+    if node_absent(b, l, c) {
         return 6;
     }
-    if conditions::second_absent(b, l, c) {
+    if second_absent(b, l, c) {
         return 7;
     }
-    if conditions::edge_absent(b, near, c) {
+    if edge_absent(b, l, c) {
         return 8;
     }
     let op = decode::operator_of(c.operator);

@@ -1,5 +1,5 @@
 use Rattle.calls.proofs.AtOnce.{other-operator, name-zero, no-room, room-enough, all-listed}
-use Rattle.conditions.proofs.Nearby.{nowhere-near}
+use Rattle.located.proofs.Nearby.{nowhere-near}
 use Rattle.model.proofs.Bools.{not-no, not-yes}
 use Rattle.edit.proofs.Built.{store-linked}
 use Rattle.listing.proofs.Stores.{store-readable}

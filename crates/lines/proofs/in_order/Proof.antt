@@ -11,7 +11,7 @@ use Rattle.lines.proofs.in_order.Lts as lts
 use Rattle.decode.proofs.reads_of.Reads as reads-of-reads
 use Rattle.lines.proofs.arguments.field_at.Reads as field-at-reads
 use Rattle.lines.proofs.arguments.space_at.Reads as space-at-reads
-use Rattle.lines.proofs.arguments.space_optional.Reads as space-optional-reads
+use Rattle.decode.proofs.space_optional.Reads as space-optional-reads
 use Rattle.lines.proofs.completed.Reads as completed-reads
 
 reads-of-requires : tie.Need-reads-of-requires

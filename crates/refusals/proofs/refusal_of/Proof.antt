@@ -1,122 +1,97 @@
-use mathlib.Core.Path.{sym, _∙_}
+use Rattle.model.specs.Buffer.{tuplesOf}
 use Rattle.edit.proofs.Built.{store-linked}
-use Rattle.refusals.proofs.Stops.{stops, passes, nothing-left, as-asked}
+use Rattle.refusals.proofs.Stops.{stops-here, goes-on, tested, nothing-left, as-asked, NamesPassed, after-names}
+use Rattle.refusals.proofs.Absent.{known-told, reads-told, asks-told}
 use borrow.Author.Needs.{needs}
 use Rattle.refusals.proofs.refusal_of.Statement.{statement}
 use Rattle.refusals.proofs.refusal_of.Tie as tie
 use Rattle.refusals.proofs.refusal_of.Reads as reads
 use Rattle.refusals.proofs.refusal_of.Lts as lts
-use Rattle.conditions.proofs.edge_absent.Reads as edge-absent-reads
-use Rattle.conditions.proofs.node_absent.Reads as node-absent-reads
-use Rattle.conditions.proofs.second_absent.Reads as second-absent-reads
-use Rattle.conditions.proofs.space_absent.Reads as space-absent-reads
-use Rattle.decode.proofs.destroys_universe.Reads as destroys-universe-reads
-use Rattle.decode.proofs.no_operator.Reads as no-operator-reads
-use Rattle.decode.proofs.operator_of.Reads as operator-of-reads
-use Rattle.decode.proofs.zero_name.Reads as zero-name-reads
+use Rattle.refusals.proofs.edge_absent.Reads as edge-absent-reads
 use Rattle.refusals.proofs.is_full.Reads as is-full-reads
 use Rattle.refusals.proofs.is_short.Reads as is-short-reads
+use Rattle.refusals.proofs.node_absent.Reads as node-absent-reads
+use Rattle.refusals.proofs.second_absent.Reads as second-absent-reads
+use Rattle.refusals.proofs.space_absent.Reads as space-absent-reads
+use Rattle.decode.proofs.destroys_universe.Reads as destroys-universe-reads
+use Rattle.decode.proofs.operator_of.Reads as operator-of-reads
+use Rattle.decode.proofs.zero_name.Reads as zero-name-reads
 
--- src/lib.rt:78:8
-no-operator-requires : tie.Need-no-operator-requires
-no-operator-requires c κs = search needs
+at-start : tie.Else6 → tie.Start
+at-start c = c .before .before .before .before .before .before .before .before .before .before .before .before .before .before .before .before .before
 
--- src/lib.rt:79:9
-returns : tie.Need-returns
-returns c = as-asked _ _ _ _ _ (c .before .before .before .before .before .pre .3) (stops _ _ _ _ (c .before .no-operator .ensures) (c .if1 .taken))
+passed : (c : tie.Else6) → NamesPassed (at-start c .args .c) (tuplesOf (at-start c .args .b .now))
+unfolding at-start
+passed c =
+    let node-passed : tie.Else5 = c .before .before in
+    let space-passed : tie.Else4 = node-passed .before .before in
+    let universe-passed : tie.Else3 = space-passed .before .before in
+    let names-passed : tie.Else2 = universe-passed .before .before in
+    let known : tie.Else1 = names-passed .before .before in
+    record {
+      known = tested _ _ _ (known-told _ _ _ (at-start c .pre .1)) (known .if1 .left);
+      names = tested _ _ _ (names-passed .before .zero-name .ensures) (names-passed .if2 .left);
+      universe = tested _ _ _ (universe-passed .before .destroys-universe .ensures) (universe-passed .if3 .left);
+      space = tested _ _ _ (space-passed .before .space-absent .ensures) (space-passed .if4 .left);
+      node = tested _ _ _ (node-passed .before .node-absent .ensures) (node-passed .if5 .left);
+      second = tested _ _ _ (c .before .second-absent .ensures) (c .if6 .left);
+    }
 
--- src/lib.rt:81:8
-zero-name-requires : tie.Need-zero-name-requires
-zero-name-requires c κs = c .before .before .before .before .before .pre .1 .reads
+edge-stops : tie.Need-returns-7
+unfolding at-start
+edge-stops c =
+    let at-names : tie.Else6 = c .before .before in
+    after-names _ _ _ _ _ (passed at-names) (at-start at-names .pre .3) (stops-here _ _ _ (tested _ _ _ (c .before .edge-absent .ensures) (c .if7 .taken)))
 
--- src/lib.rt:82:9
-returns-2 : tie.Need-returns-2
-returns-2 c = as-asked _ _ _ _ _ (c .before .before .before .before .before .before .before .pre .3) (passes _ _ _ _ _ (c .before .before .before .no-operator .ensures) (c .before .before .if1 .left) (stops _ _ _ _ (c .before .zero-name .ensures) (c .if2 .taken)))
+list-stops : tie.Need-returns-8
+unfolding at-start
+list-stops c =
+    let no-edge : tie.Else7 = c .before .before .before in
+    let at-names : tie.Else6 = no-edge .before .before in
+    after-names _ _ _ _ _ (passed at-names) (at-start at-names .pre .3)
+    (goes-on _ _ _ _ (tested _ _ _ (no-edge .before .edge-absent .ensures) (no-edge .if7 .left)) (stops-here _ _ _ (tested _ _ _ (c .before .is-short .ensures) (c .if8 .taken))))
 
--- src/lib.rt:84:8
-destroys-universe-requires : tie.Need-destroys-universe-requires
-destroys-universe-requires c κs = search needs
+full-stops : tie.Need-returns-9
+unfolding at-start
+full-stops c =
+    let fits : tie.Else8 = c .before .before in
+    let no-edge : tie.Else7 = fits .before .before .before in
+    let at-names : tie.Else6 = no-edge .before .before in
+    after-names _ _ _ _ _ (passed at-names) (at-start at-names .pre .3)
+    (goes-on _ _ _ _ (tested _ _ _ (no-edge .before .edge-absent .ensures) (no-edge .if7 .left))
+    (goes-on _ _ _ _ (tested _ _ _ (fits .before .is-short .ensures) (fits .if8 .left)) (stops-here _ _ _ (tested _ _ _ (c .before .is-full .ensures) (c .if9 .taken)))))
 
--- src/lib.rt:85:9
-returns-3 : tie.Need-returns-3
-returns-3 c = as-asked _ _ _ _ _ (c .before .before .before .before .before .before .before .before .before .pre .3) (passes _ _ _ _ _ (c .before .before .before .before .before .no-operator .ensures) (c .before .before .before .before .if1 .left) (passes _ _ _ _ _ (c .before .before .before .zero-name .ensures) (c .before .before .if2 .left) (stops _ _ _ _ (c .before .destroys-universe .ensures) (c .if3 .taken))))
-
--- src/lib.rt:87:8
-space-absent-requires : tie.Need-space-absent-requires
-space-absent-requires c κs = c .before .before .before .before .before .before .before .before .before .pre .1
-
--- src/lib.rt:88:9
-returns-4 : tie.Need-returns-4
-returns-4 c = as-asked _ _ _ _ _ (c .before .before .before .before .before .before .before .before .before .before .before .pre .3) (passes _ _ _ _ _ (c .before .before .before .before .before .before .before .no-operator .ensures) (c .before .before .before .before .before .before .if1 .left) (passes _ _ _ _ _ (c .before .before .before .before .before .zero-name .ensures) (c .before .before .before .before .if2 .left) (passes _ _ _ _ _ (c .before .before .before .destroys-universe .ensures) (c .before .before .if3 .left) (stops _ _ _ _ (c .before .space-absent .ensures) (c .if4 .taken)))))
-
--- src/lib.rt:90:8
-node-absent-requires : tie.Need-node-absent-requires
-node-absent-requires c κs = (store-linked _ (c .before .before .before .before .before .before .before .before .before .before .before .pre .0), c .before .before .before .before .before .before .before .before .before .before .before .pre .1, sym (c .before .before .before .before .before .before .before .no-operator .ensures) ∙ c .before .before .before .before .before .before .if1 .left, sym (c .before .space-absent .ensures) ∙ c .if4 .left)
-
--- src/lib.rt:91:9
-returns-5 : tie.Need-returns-5
-returns-5 c = as-asked _ _ _ _ _ (c .before .before .before .before .before .before .before .before .before .before .before .before .before .pre .3) (passes _ _ _ _ _ (c .before .before .before .before .before .before .before .before .before .no-operator .ensures) (c .before .before .before .before .before .before .before .before .if1 .left) (passes _ _ _ _ _ (c .before .before .before .before .before .before .before .zero-name .ensures) (c .before .before .before .before .before .before .if2 .left) (passes _ _ _ _ _ (c .before .before .before .before .before .destroys-universe .ensures) (c .before .before .before .before .if3 .left) (passes _ _ _ _ _ (c .before .before .before .space-absent .ensures) (c .before .before .if4 .left) (stops _ _ _ _ (c .before .node-absent .ensures) (c .if5 .taken))))))
-
--- src/lib.rt:93:8
-second-absent-requires : tie.Need-second-absent-requires
-second-absent-requires c κs = (c .before .before .before .before .before .before .before .before .before .before .before .before .before .pre .1, sym (c .before .before .before .before .before .before .before .before .before .no-operator .ensures) ∙ c .before .before .before .before .before .before .before .before .if1 .left, sym (c .before .before .before .space-absent .ensures) ∙ c .before .before .if4 .left)
-
--- src/lib.rt:94:9
-returns-6 : tie.Need-returns-6
-returns-6 c = as-asked _ _ _ _ _ (c .before .before .before .before .before .before .before .before .before .before .before .before .before .before .before .pre .3) (passes _ _ _ _ _ (c .before .before .before .before .before .before .before .before .before .before .before .no-operator .ensures) (c .before .before .before .before .before .before .before .before .before .before .if1 .left) (passes _ _ _ _ _ (c .before .before .before .before .before .before .before .before .before .zero-name .ensures) (c .before .before .before .before .before .before .before .before .if2 .left) (passes _ _ _ _ _ (c .before .before .before .before .before .before .before .destroys-universe .ensures) (c .before .before .before .before .before .before .if3 .left) (passes _ _ _ _ _ (c .before .before .before .before .before .space-absent .ensures) (c .before .before .before .before .if4 .left) (passes _ _ _ _ _ (c .before .before .before .node-absent .ensures) (c .before .before .if5 .left) (stops _ _ _ _ (c .before .second-absent .ensures) (c .if6 .taken)))))))
-
--- src/lib.rt:96:8
-edge-absent-requires : tie.Need-edge-absent-requires
-edge-absent-requires c κs = (store-linked _ (c .before .before .before .before .before .before .before .before .before .before .before .before .before .before .before .pre .0), c .before .before .before .before .before .before .before .before .before .before .before .before .before .before .before .pre .1 .near)
-
--- src/lib.rt:97:9
-returns-7 : tie.Need-returns-7
-returns-7 c = as-asked _ _ _ _ _ (c .before .before .before .before .before .before .before .before .before .before .before .before .before .before .before .before .before .pre .3) (passes _ _ _ _ _ (c .before .before .before .before .before .before .before .before .before .before .before .before .before .no-operator .ensures) (c .before .before .before .before .before .before .before .before .before .before .before .before .if1 .left) (passes _ _ _ _ _ (c .before .before .before .before .before .before .before .before .before .before .before .zero-name .ensures) (c .before .before .before .before .before .before .before .before .before .before .if2 .left) (passes _ _ _ _ _ (c .before .before .before .before .before .before .before .before .before .destroys-universe .ensures) (c .before .before .before .before .before .before .before .before .if3 .left) (passes _ _ _ _ _ (c .before .before .before .before .before .before .before .space-absent .ensures) (c .before .before .before .before .before .before .if4 .left) (passes _ _ _ _ _ (c .before .before .before .before .before .node-absent .ensures) (c .before .before .before .before .if5 .left) (passes _ _ _ _ _ (c .before .before .before .second-absent .ensures) (c .before .before .if6 .left) (stops _ _ _ _ (c .before .edge-absent .ensures) (c .if7 .taken))))))))
-
--- src/lib.rt:99:8
-operator-of-requires : tie.Need-operator-of-requires
-operator-of-requires c κs = search needs
-
-is-short-requires : tie.Need-is-short-requires
-is-short-requires c κs = (c .before .before .before .before .before .before .before .before .before .before .before .before .before .before .before .before .before .before .pre .0, c .before .before .before .before .before .before .before .before .before .before .before .before .before .before .before .before .before .before .pre .1 .near, sym (c .before .before .before .before .before .before .before .before .before .before .before .before .before .before .no-operator .ensures) ∙ c .before .before .before .before .before .before .before .before .before .before .before .before .before .if1 .left, sym (c .before .before .before .before .before .before .before .before .before .before .before .before .zero-name .ensures) ∙ c .before .before .before .before .before .before .before .before .before .before .before .if2 .left, c .operator-of .ensures)
-
--- src/lib.rt:100:9
-returns-8 : tie.Need-returns-8
-returns-8 c = as-asked _ _ _ _ _ (c .before .before .before .before .before .before .before .before .before .before .before .before .before .before .before .before .before .before .before .before .pre .3) (passes _ _ _ _ _ (c .before .before .before .before .before .before .before .before .before .before .before .before .before .before .before .before .no-operator .ensures) (c .before .before .before .before .before .before .before .before .before .before .before .before .before .before .before .if1 .left) (passes _ _ _ _ _ (c .before .before .before .before .before .before .before .before .before .before .before .before .before .before .zero-name .ensures) (c .before .before .before .before .before .before .before .before .before .before .before .before .before .if2 .left) (passes _ _ _ _ _ (c .before .before .before .before .before .before .before .before .before .before .before .before .destroys-universe .ensures) (c .before .before .before .before .before .before .before .before .before .before .before .if3 .left) (passes _ _ _ _ _ (c .before .before .before .before .before .before .before .before .before .before .space-absent .ensures) (c .before .before .before .before .before .before .before .before .before .if4 .left) (passes _ _ _ _ _ (c .before .before .before .before .before .before .before .before .node-absent .ensures) (c .before .before .before .before .before .before .before .if5 .left) (passes _ _ _ _ _ (c .before .before .before .before .before .before .second-absent .ensures) (c .before .before .before .before .before .if6 .left) (passes _ _ _ _ _ (c .before .before .before .before .edge-absent .ensures) (c .before .before .before .if7 .left) (stops _ _ _ _ (c .before .is-short .ensures) (c .if8 .taken)))))))))
-
--- src/lib.rt:102:8
-is-full-requires : tie.Need-is-full-requires
-is-full-requires c κs = (store-linked _ (c .before .before .before .before .before .before .before .before .before .before .before .before .before .before .before .before .before .before .before .before .pre .0), c .before .before .before .before .before .before .before .before .before .before .before .before .before .before .before .before .before .before .before .before .pre .1 .near, c .before .before .before .before .before .before .before .before .before .before .before .before .before .before .before .before .before .before .before .before .pre .2, c .before .before .operator-of .ensures)
-
--- src/lib.rt:103:9
-returns-9 : tie.Need-returns-9
-returns-9 c = as-asked _ _ _ _ _ (c .before .before .before .before .before .before .before .before .before .before .before .before .before .before .before .before .before .before .before .before .before .before .pre .3) (passes _ _ _ _ _ (c .before .before .before .before .before .before .before .before .before .before .before .before .before .before .before .before .before .before .no-operator .ensures) (c .before .before .before .before .before .before .before .before .before .before .before .before .before .before .before .before .before .if1 .left) (passes _ _ _ _ _ (c .before .before .before .before .before .before .before .before .before .before .before .before .before .before .before .before .zero-name .ensures) (c .before .before .before .before .before .before .before .before .before .before .before .before .before .before .before .if2 .left) (passes _ _ _ _ _ (c .before .before .before .before .before .before .before .before .before .before .before .before .before .before .destroys-universe .ensures) (c .before .before .before .before .before .before .before .before .before .before .before .before .before .if3 .left) (passes _ _ _ _ _ (c .before .before .before .before .before .before .before .before .before .before .before .before .space-absent .ensures) (c .before .before .before .before .before .before .before .before .before .before .before .if4 .left) (passes _ _ _ _ _ (c .before .before .before .before .before .before .before .before .before .before .node-absent .ensures) (c .before .before .before .before .before .before .before .before .before .if5 .left) (passes _ _ _ _ _ (c .before .before .before .before .before .before .before .before .second-absent .ensures) (c .before .before .before .before .before .before .before .if6 .left) (passes _ _ _ _ _ (c .before .before .before .before .before .before .edge-absent .ensures) (c .before .before .before .before .before .if7 .left) (passes _ _ _ _ _ (c .before .before .before .is-short .ensures) (c .before .before .if8 .left) (stops _ _ _ _ (c .before .is-full .ensures) (c .if9 .taken))))))))))
-
--- src/lib.rt:74:1
-returns-10 : tie.Need-returns-10
-returns-10 c = as-asked _ _ _ _ _ (c .before .before .before .before .before .before .before .before .before .before .before .before .before .before .before .before .before .before .before .before .before .before .pre .3) (passes _ _ _ _ _ (c .before .before .before .before .before .before .before .before .before .before .before .before .before .before .before .before .before .before .no-operator .ensures) (c .before .before .before .before .before .before .before .before .before .before .before .before .before .before .before .before .before .if1 .left) (passes _ _ _ _ _ (c .before .before .before .before .before .before .before .before .before .before .before .before .before .before .before .before .zero-name .ensures) (c .before .before .before .before .before .before .before .before .before .before .before .before .before .before .before .if2 .left) (passes _ _ _ _ _ (c .before .before .before .before .before .before .before .before .before .before .before .before .before .before .destroys-universe .ensures) (c .before .before .before .before .before .before .before .before .before .before .before .before .before .if3 .left) (passes _ _ _ _ _ (c .before .before .before .before .before .before .before .before .before .before .before .before .space-absent .ensures) (c .before .before .before .before .before .before .before .before .before .before .before .if4 .left) (passes _ _ _ _ _ (c .before .before .before .before .before .before .before .before .before .before .node-absent .ensures) (c .before .before .before .before .before .before .before .before .before .if5 .left) (passes _ _ _ _ _ (c .before .before .before .before .before .before .before .before .second-absent .ensures) (c .before .before .before .before .before .before .before .if6 .left) (passes _ _ _ _ _ (c .before .before .before .before .before .before .edge-absent .ensures) (c .before .before .before .before .before .if7 .left) (passes _ _ _ _ _ (c .before .before .before .is-short .ensures) (c .before .before .if8 .left) (passes _ _ _ _ _ (c .before .is-full .ensures) (c .if9 .left) nothing-left)))))))))
+nothing-stops : tie.Need-returns-10
+unfolding at-start
+nothing-stops c =
+    let fits : tie.Else8 = c .before .before in
+    let no-edge : tie.Else7 = fits .before .before .before in
+    let at-names : tie.Else6 = no-edge .before .before in
+    after-names _ _ _ _ _ (passed at-names) (at-start at-names .pre .3)
+    (goes-on _ _ _ _ (tested _ _ _ (no-edge .before .edge-absent .ensures) (no-edge .if7 .left))
+    (goes-on _ _ _ _ (tested _ _ _ (fits .before .is-short .ensures) (fits .if8 .left))
+    (goes-on _ _ _ _ (tested _ _ _ (c .before .is-full .ensures) (c .if9 .left)) nothing-left)))
 
 pub refusal-of-spec : {M : Type 1} → statement M
 refusal-of-spec =
     tie.close
     (tie.spec
-    no-operator-requires
-    returns
-    zero-name-requires
-    returns-2
-    destroys-universe-requires
-    returns-3
-    space-absent-requires
-    returns-4
-    node-absent-requires
-    returns-5
-    second-absent-requires
-    returns-6
-    edge-absent-requires
-    returns-7
-    operator-of-requires
-    is-short-requires
-    returns-8
-    is-full-requires
-    returns-9
-    returns-10)
+    (λ c. search (as-asked, stops-here, tested, known-told) depth 14)
+    (λ c κs. search reads-told)
+    (λ c. search (as-asked, goes-on, stops-here, tested, known-told) depth 14)
+    (λ c κs. search asks-told)
+    (λ c. search (as-asked, goes-on, stops-here, tested, known-told) depth 14)
+    (λ c κs. search needs)
+    (λ c. search (as-asked, goes-on, stops-here, tested, known-told) depth 14)
+    (λ c κs. search (store-linked, tested, known-told))
+    (λ c. search (as-asked, goes-on, stops-here, tested, known-told) depth 14)
+    (λ c κs. (search, search (tested, known-told), search tested))
+    (λ c. search (as-asked, goes-on, stops-here, tested, known-told) depth 14)
+    (λ c κs. search store-linked)
+    edge-stops
+    (λ c κs. search needs)
+    (λ c κs. (search, search, search (tested, known-told), search tested, search))
+    list-stops
+    (λ c κs. search store-linked)
+    full-stops
+    nothing-stops)
