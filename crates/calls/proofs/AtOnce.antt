@@ -34,9 +34,9 @@ use Rattle.model.proofs.Entries.{Member, samePair, own-pair, listed-sound}
 use Rattle.model.proofs.Refusals.{reading}
 use Rattle.model.proofs.Store.{tuples-fit}
 use Rattle.edit.proofs.Built.{store-linked, store-tuples}
-use Rattle.list.specs.Queries.{written, mostOf}
-use Rattle.listing.specs.Lists.{queryOf}
-use Rattle.listing.proofs.Asked.{surely-not-short}
+use Rattle.entries.specs.Queries.{written, mostOf}
+use Rattle.listings.specs.Lists.{queryOf}
+use Rattle.listings.proofs.Asked.{surely-not-short}
 use Rattle.refusals.proofs.Stops.{passes, nothing-left, as-asked, not-refused}
 use Rattle.calls.specs.AtOnce.{sin, atOnce, listedAtOnce}
 

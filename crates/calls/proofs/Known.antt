@@ -27,7 +27,7 @@ use Rattle.model.proofs.Bools.{and-left, and-right}
 use Rattle.model.proofs.Steps.{Passed, passed, agrees, agree, n-named, g-named, m-named, s-named, after-rules}
 use Rattle.model.proofs.Refusals.{stopped, none≢some}
 use Rattle.edit.proofs.Built.{store-tuples, edited-store}
-use Rattle.listing.proofs.Stores.{names-asked}
+use Rattle.listings.proofs.Stores.{names-asked}
 use Rattle.perform.specs.Perform.{NamesRead, Ready, Performed}
 use Rattle.refusals.specs.Numbers.{stopNumber}
 use Rattle.refusals.proofs.Stops.{some-exactly, not-refused}

@@ -24,7 +24,7 @@ use Rattle.model.specs.Stored.{stored}
 use Rattle.model.proofs.Bools.{and-left, and-right}
 use Rattle.model.proofs.Demand1.{nothing-unwritten}
 use Rattle.model.proofs.NoSelection.{nothing-idle}
-use Rattle.decode.proofs.Refused.{reads-space-operator}
+use Rattle.operators.proofs.Refused.{reads-space-operator}
 
 -- ---- which condition stops it
 

@@ -11,8 +11,8 @@ use Rattle.model.specs.declared.Pair.{Pair}
 use Rattle.model.specs.Tuples.{Tuples}
 use Rattle.model.specs.Steps.{listed}
 use Rattle.model.specs.Refusals.{zeroName}
-use Rattle.list.specs.Queries.{mostOf}
-use Rattle.listing.specs.Lists.{queryOf}
+use Rattle.entries.specs.Queries.{mostOf}
+use Rattle.listings.specs.Lists.{queryOf}
 
 -- what SIN lists
 abbrev pub sin : Listing

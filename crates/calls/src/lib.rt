@@ -3,7 +3,7 @@ use model::Answer;
 use model::Call;
 use model::Direction;
 use model::Listing;
-use operate::Near;
+use steps::Near;
 ghost use mathlib.Core.Bool.{true};
 ghost use mathlib.Core.Path.{_≡_};
 ghost use lib.ListN.{length};
@@ -11,7 +11,7 @@ ghost use Rattle.model.specs.Refusals.{selectsNothing};
 ghost use Rattle.model.specs.OneCall.{answerOf, OnStore, OneCall};
 ghost use Rattle.model.specs.NoSelection.{nothingReply};
 ghost use Rattle.model.specs.Stored.{stored};
-ghost use Rattle.list.specs.Queries.{written};
+ghost use Rattle.entries.specs.Queries.{written};
 ghost use Rattle.calls.specs.AtOnce.{listedAtOnce};
 
 // The entries of a SIN (40), written to the list without a search for n, and their number: an entry shows that n is there.
@@ -24,11 +24,11 @@ fn list_at_once(b: &[u32], c: Call, list: &mut [u32]) -> usize
     if c.operator != 40 {
         return 0;
     }
-    if decode::zero_name(c, decode::reads_of(c.operator)) {
+    if operators::zero_name(c, operators::reads_of(c.operator)) {
         return 0;
     }
     let sin = Listing::N(Direction::Inpointing);
-    if !listing::surely_fits(b, sin, c, list.len()) {
+    if !listings::surely_fits(b, sin, c, list.len()) {
         return 0;
     }
     let nowhere = Near {
@@ -48,7 +48,7 @@ fn list_at_once(b: &[u32], c: Call, list: &mut [u32]) -> usize
         v: c.v,
         s,
     };
-    listing::write_listed(b, nowhere, sin, copy, list)
+    listings::write_listed(b, nowhere, sin, copy, list)
 }
 
 // The answer to a call with nothing as its space: the call alone decides it, and no store is read or written.
@@ -57,9 +57,9 @@ fn answer_nothing(c: Call) -> Answer
     requires { ⌜ selectsNothing c ≡ true ⌝ }
     ensures { λ r. ⌜ r ≡ answerOf (nothingReply c) ⌝ }
 {
-    let row = decode::row_of(c.operator);
+    let row = operators::row_of(c.operator);
     let reads = row.reads;
-    let zero = decode::zero_name(c, reads);
+    let zero = operators::zero_name(c, reads);
     let needs = row.asks.selection;
     if zero {
         return Answer::Refusal(3);
@@ -67,7 +67,7 @@ fn answer_nothing(c: Call) -> Answer
     if needs {
         return Answer::Refusal(12);
     }
-    perform::idle(decode::operator_of(c.operator), c)
+    perform::idle(operators::operator_of(c.operator), c)
 }
 
 // One call on a buffer that the caller has proved to be a store: no check is paid.
@@ -75,14 +75,14 @@ pub fn execute_known(store: &mut [u32], call: Call, list: &mut [u32]) -> Answer
     requires { ⌜ stored .isStore (now store) ≡ true ⌝ }
     ensures { λ r. ⌜ OnStore stored (now (store .entry)) (now (list .entry)) call r (now (store .exit)) (now (list .exit)) ⌝ }
 {
-    if decode::selects_nothing(call) {
+    if operators::selects_nothing(call) {
         return answer_nothing(call);
     }
     let k = list_at_once(store, call, list);
     if k != 0 {
         return Answer::List(k);
     }
-    let row = decode::row_of(call.operator);
+    let row = operators::row_of(call.operator);
     let above = located::locate_universe(store, row, call);
     let found = located::locate(store, above, row, call);
     let near = found.near;
@@ -91,7 +91,7 @@ pub fn execute_known(store: &mut [u32], call: Call, list: &mut [u32]) -> Answer
     if stop != 0 {
         return Answer::Refusal(stop);
     }
-    let op = decode::operator_of(call.operator);
+    let op = operators::operator_of(call.operator);
     perform::perform(store, near, universe, op, call, list)
 }
 

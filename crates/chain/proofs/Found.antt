@@ -17,8 +17,8 @@ use Rattle.model.proofs.Order.{keys, opposite, lt≢gt}
 use Rattle.model.proofs.Ordered.{Below, holds-append, below-not-held, above-not-held, ascending-tail, above-less}
 use Rattle.model.proofs.Tuples.{same-key, own-key}
 use Rattle.model.proofs.Chains.{Within}
-use Rattle.records.specs.Words.{Inside}
-use Rattle.records.proofs.Words.{inside}
+use Rattle.words.specs.Words.{Inside}
+use Rattle.words.proofs.Words.{inside}
 use Rattle.chain.specs.declared.Place.{Place}
 use Rattle.chain.specs.Links.{Linked, place, placeIn, findIn}
 use Rattle.chain.proofs.Walks.{Rest, used-rest}

@@ -15,8 +15,8 @@ use Rattle.model.specs.Buffer.{word, capacityOf, next, keyAt, tupleAt, usedOf, 
 use Rattle.model.specs.Rules.{Chain}
 use Rattle.model.proofs.Order.{keys}
 use Rattle.model.proofs.Chains.{Within}
-use Rattle.records.specs.Words.{Inside}
-use Rattle.records.proofs.Words.{inside}
+use Rattle.words.specs.Words.{Inside}
+use Rattle.words.proofs.Words.{inside}
 use Rattle.chain.specs.declared.Place.{Place}
 use Rattle.chain.specs.Links.{Linked, Reached, Hint, startOf, afterIn, place, placeIn}
 use Rattle.chain.proofs.Walks.{Rest, used-rest}

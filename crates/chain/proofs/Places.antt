@@ -12,8 +12,8 @@ use Rattle.model.specs.Buffer.{word, next, keyAt, usedOf, freeOf}
 use Rattle.chain.specs.declared.Place.{Place}
 use Rattle.chain.specs.Links.{Linked, place, placeIn}
 use Rattle.model.proofs.Store.{capacity-most}
-use Rattle.records.specs.Words.{Inside}
-use Rattle.records.proofs.Words.{inside-most}
+use Rattle.words.specs.Words.{Inside}
+use Rattle.words.proofs.Words.{inside-most}
 use Rattle.chain.proofs.Walks.{Rest, remaining, Step, step, falls, at-end, used-rest}
 
 -- a store has fewer than 4,096 records

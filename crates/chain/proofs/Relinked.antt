@@ -15,8 +15,8 @@ use Rattle.model.specs.Keys.{Value, Tuple}
 use Rattle.model.specs.Buffer.{word, capacityOf, next, tupleAt, pastRecords, oneIf, count}
 use Rattle.model.specs.Rules.{Chain, ChainRules}
 use Rattle.model.proofs.Chains.{Within, chain-agree, chain-within, count-append, hit}
-use Rattle.records.specs.Words.{Inside, putNext, putTuple}
-use Rattle.records.proofs.Words.{capacity-length, inside, next-head, tuple-head, word-head, past-head, length-putNext, word-putNext, next-putNext, next-putNext-other, tuple-putNext, past-putNext, length-putTuple, word-putTuple, next-putTuple, tuple-putTuple, tuple-putTuple-other, past-putTuple}
+use Rattle.words.specs.Words.{Inside, putNext, putTuple}
+use Rattle.words.proofs.Words.{capacity-length, inside, next-head, tuple-head, word-head, past-head, length-putNext, word-putNext, next-putNext, next-putNext-other, tuple-putNext, past-putNext, length-putTuple, word-putTuple, next-putTuple, tuple-putTuple, tuple-putTuple-other, past-putTuple}
 use Rattle.chain.specs.Links.{Linking, insertAfter, Unlinking, removeAfter}
 use Rattle.chain.proofs.Paths.{Path, chain-split, path-chain, here, later, path-agree, map-agree, counted-within, within-left, within-right, map-append}
 

@@ -10,8 +10,8 @@ use Rattle.model.specs.Buffer.{word, capacityOf, next, walk, orNothing, usedOf,
 use Rattle.model.specs.Rules.{Chain, ChainRules}
 use Rattle.model.proofs.Chains.{Within, chain-walk, chain-within}
 use Rattle.model.proofs.Store.{chains-count}
-use Rattle.records.specs.Words.{Inside}
-use Rattle.records.proofs.Words.{inside}
+use Rattle.words.specs.Words.{Inside}
+use Rattle.words.proofs.Words.{inside}
 
 -- the records from `at` to the end of its chain
 pub record Rest (b : List ℕ) (at : ℕ) : Type 0 where

@@ -6,8 +6,8 @@ use native.Mathlib.Omega.{arith}
 use lib.ListN.{set}
 use Rattle.model.specs.declared.Key.{Key}
 use Rattle.model.specs.Buffer.{word, next}
-use Rattle.records.specs.Words.{putNext, putTuple}
-use Rattle.records.proofs.Words.{inside-most}
+use Rattle.words.specs.Words.{putNext, putTuple}
+use Rattle.words.proofs.Words.{inside-most}
 use Rattle.chain.specs.Links.{Linking, insertAfter, Unlinking, removeAfter}
 
 -- an index that is a word of the buffer fits

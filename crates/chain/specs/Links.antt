@@ -14,7 +14,7 @@ use Rattle.model.specs.Tuples.{Tuples}
 use Rattle.model.specs.Buffer.{word, capacityOf, next, pastRecords, usedOf, freeOf, tuplesOf}
 use Rattle.model.specs.Rules.{firstKey, ChainRules}
 use Rattle.chain.specs.declared.Place.{Place}
-use Rattle.records.specs.Words.{Inside, putNext, putTuple}
+use Rattle.words.specs.Words.{Inside, putNext, putTuple}
 
 -- a store but for what its tuples name: chains that meet each record once, keys that ascend from (0,0,0,0).
 -- Within a call that adds or removes several tuples the buffer is that much at each moment.

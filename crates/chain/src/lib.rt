@@ -5,7 +5,7 @@ ghost use mathlib.Core.Path.{_≡_};
 ghost use Prim.Native.Nat.{_+_, _≤_, _<_};
 ghost use Rattle.model.specs.Tuples.{present, valueAt};
 ghost use Rattle.model.specs.Buffer.{usedOf, tuplesOf, keyAt};
-ghost use Rattle.records.specs.Words.{Inside};
+ghost use Rattle.words.specs.Words.{Inside};
 ghost use Rattle.chain.specs.Links.{Linked, Hint, startOf, afterIn, placeIn, findIn, Linking, insertAfter, Unlinking, removeAfter};
 
 // A place in the used chain: a record and the one after it; 0 for none.
@@ -20,7 +20,7 @@ pub fn used_key(b: &[u32], at: usize) -> Key
     requires { ⌜ Linked (now b) × Inside (now b) at ⌝ }
     ensures { λ r. ⌜ r ≡ keyAt (now (b .entry)) at ⌝ }
 {
-    records::key_of(b, at % 4096)
+    words::key_of(b, at % 4096)
 }
 
 // The record that a search for a key starts behind: the hint, where its key is below; else 0.
@@ -31,7 +31,7 @@ fn start_of(b: &[u32], hint: usize, k: Key) -> usize
     if hint == 0 {
         return 0;
     }
-    if records::key_below(used_key(b, hint), k) {
+    if words::key_below(used_key(b, hint), k) {
         return hint;
     }
     0
@@ -43,9 +43,9 @@ pub fn after(b: &[u32], before: usize) -> usize
     ensures { λ r. ⌜ r ≡ afterIn (now (b .entry)) before ⌝ }
 {
     if before == 0 {
-        return records::head_word(b, 1);
+        return words::head_word(b, 1);
     }
-    records::next_of(b, before)
+    words::next_of(b, before)
 }
 
 // The place of a key: the last record whose key is below it, and the record after that.
@@ -57,8 +57,8 @@ pub fn seek(b: &[u32], hint: usize, k: Key) -> Place
     let mut before = start_of(b, hint, k);
     let mut at = after(b, before);
     while at != 0 {
-        let next = records::next_of(b, at);
-        if !records::key_below(used_key(b, at), k) {
+        let next = words::next_of(b, at);
+        if !words::key_below(used_key(b, at), k) {
             break;
         }
         before = at;
@@ -75,15 +75,15 @@ pub fn insert_after(b: &mut [u32], before: usize, k: Key, v: u32)
     requires { ⌜ Linking (now b) before ⌝ }
     ensures { λ _. ⌜ now (b .exit) ≡ insertAfter (now (b .entry)) before k v ⌝ }
 {
-    let taken = records::head_word(b, 2);
-    let free = records::next_of(b, taken);
-    let after = records::next_of(b, before);
-    let used = records::head_word(b, 3);
-    records::put_head_word(b, 2, free);
-    records::put_tuple(b, taken, k, v);
-    records::put_next(b, taken, after);
-    records::put_next(b, before, taken);
-    records::put_head_word(b, 3, used + 1);
+    let taken = words::head_word(b, 2);
+    let free = words::next_of(b, taken);
+    let after = words::next_of(b, before);
+    let used = words::head_word(b, 3);
+    words::put_head_word(b, 2, free);
+    words::put_tuple(b, taken, k, v);
+    words::put_next(b, taken, after);
+    words::put_next(b, before, taken);
+    words::put_head_word(b, 3, used + 1);
 }
 
 // The record after record `before` is unlinked and put first in the free chain.
@@ -91,14 +91,14 @@ pub fn remove_after(b: &mut [u32], before: usize)
     requires { ⌜ Unlinking (now b) before ⌝ }
     ensures { λ _. ⌜ now (b .exit) ≡ removeAfter (now (b .entry)) before ⌝ }
 {
-    let gone = records::next_of(b, before);
-    let after = records::next_of(b, gone);
-    let free = records::head_word(b, 2);
-    let used = records::head_word(b, 3);
-    records::put_next(b, before, after);
-    records::put_next(b, gone, free);
-    records::put_head_word(b, 2, gone);
-    records::put_head_word(b, 3, used - 1);
+    let gone = words::next_of(b, before);
+    let after = words::next_of(b, gone);
+    let free = words::head_word(b, 2);
+    let used = words::head_word(b, 3);
+    words::put_next(b, before, after);
+    words::put_next(b, gone, free);
+    words::put_head_word(b, 2, gone);
+    words::put_head_word(b, 3, used - 1);
 }
 
 // The record that holds a key; 0 for none.
@@ -111,7 +111,7 @@ pub fn find(b: &[u32], hint: usize, k: Key) -> usize
     if at == 0 {
         return 0;
     }
-    if records::key_same(k, used_key(b, at)) {
+    if words::key_same(k, used_key(b, at)) {
         return at;
     }
     0
@@ -134,5 +134,5 @@ pub fn value_at(b: &[u32], hint: usize, k: Key) -> u32
     if at == 0 {
         return 0;
     }
-    records::value_of(b, at)
+    words::value_of(b, at)
 }

@@ -21,8 +21,8 @@ use Rattle.model.proofs.Ordered.{put-below, put-before, put-held, holds-append}
 use Rattle.model.proofs.Tuples.{present-add, add-ascending}
 use Rattle.model.proofs.Rules.{never-below-universe, universe-first, first-universe}
 use Rattle.model.proofs.Store.{chains-count, capacity-most, used-of}
-use Rattle.records.specs.Words.{Inside}
-use Rattle.records.proofs.Words.{inside}
+use Rattle.words.specs.Words.{Inside}
+use Rattle.words.proofs.Words.{inside}
 use Rattle.chain.specs.declared.Place.{Place}
 use Rattle.chain.specs.Links.{Linked, placeIn, Edited, Linking, insertAfter, KeepsHints}
 use Rattle.chain.proofs.Found.{snoc, NotBelow, AtPlace, at-place, above-all, find-at, present-found, place-inside}

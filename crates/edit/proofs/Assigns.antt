@@ -21,8 +21,8 @@ use Rattle.model.proofs.Ordered.{above-not-held, ascending-tail}
 use Rattle.model.proofs.Tuples.{same-key, own-key, present-assign, assign-ascending}
 use Rattle.model.proofs.Rules.{universe-first, first-universe}
 use Rattle.model.proofs.Chains.{Within, chain-within, chain-agree}
-use Rattle.records.specs.Words.{Inside, putValue}
-use Rattle.records.proofs.Words.{capacity-length, length-putValue, word-putValue, next-putValue, key-putValue, value-putValue, value-putValue-other, past-putValue}
+use Rattle.words.specs.Words.{Inside, putValue}
+use Rattle.words.proofs.Words.{capacity-length, length-putValue, word-putValue, next-putValue, key-putValue, value-putValue, value-putValue-other, past-putValue}
 use Rattle.chain.specs.Links.{Linked, KeepsHints, findIn, Edited}
 use Rattle.model.proofs.Store.{used-of}
 use Rattle.chain.proofs.Found.{present-found, found-inside}

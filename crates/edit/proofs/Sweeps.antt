@@ -22,18 +22,18 @@ use Rattle.model.proofs.Tuples.{present-remove, remove-ascending}
 use Rattle.model.proofs.Rules.{universe-first, first-universe}
 use Rattle.model.proofs.Chains.{Within, within-append, chain-within}
 use Rattle.model.proofs.Store.{chains-count, capacity-most}
-use Rattle.records.specs.Words.{Inside}
-use Rattle.records.proofs.Words.{inside}
+use Rattle.words.specs.Words.{Inside}
+use Rattle.words.proofs.Words.{inside}
 use Rattle.chain.specs.declared.Place.{Place}
 use Rattle.chain.specs.Links.{Linked, placeIn, Edited, Unlinking, removeAfter}
 use Rattle.chain.proofs.Found.{lastOf, snoc, at-place}
 use Rattle.chain.proofs.Walks.{Rest, remaining, remaining-is, at-end}
 use Rattle.chain.proofs.Paths.{chain-split, within-right, map-append}
 use Rattle.chain.proofs.Relinked.{Removed, remove-reads, Parts, removing, apart, removed-rules}
-use Rattle.select.specs.declared.Selection.{Selection}
-use Rattle.select.specs.declared.Span.{Span}
-use Rattle.select.specs.Selections.{takenBy, spanOf, spanStart, beyond}
-use Rattle.select.proofs.Spans.{below-not-taken, beyond-not-taken, after-not-taken}
+use Rattle.taken.specs.declared.Selection.{Selection}
+use Rattle.taken.specs.declared.Span.{Span}
+use Rattle.taken.specs.Selections.{takenBy, spanOf, spanStart, beyond}
+use Rattle.taken.proofs.Spans.{below-not-taken, beyond-not-taken, after-not-taken}
 use Rattle.edit.specs.Edits.{Turned, orFirst, sweepStart}
 use Rattle.edit.proofs.Built.{edited}
 

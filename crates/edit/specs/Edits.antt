@@ -9,11 +9,11 @@ use Rattle.model.specs.declared.Key.{Key}
 use Rattle.model.specs.Keys.{Value}
 use Rattle.model.specs.Tuples.{present, assign}
 use Rattle.model.specs.Buffer.{word, capacityOf, keyAt, usedOf, tuplesOf}
-use Rattle.records.specs.Words.{putValue}
+use Rattle.words.specs.Words.{putValue}
 use Rattle.chain.specs.Links.{Linked, KeepsHints, placeIn, findIn, Edited, removeAfter}
-use Rattle.select.specs.declared.Selection.{Selection}
-use Rattle.select.specs.declared.Span.{Span}
-use Rattle.select.specs.Selections.{takenBy, spanStart}
+use Rattle.taken.specs.declared.Selection.{Selection}
+use Rattle.taken.specs.declared.Span.{Span}
+use Rattle.taken.specs.Selections.{takenBy, spanStart}
 
 -- room for a key that is missing
 pub record Adding (b : List ℕ) (k : Key) : Type 0 where

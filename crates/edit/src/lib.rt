@@ -2,15 +2,15 @@
 // A hint is a used record, or 0: the walk for a key starts behind it where its key is below.
 // Each function is pub for the crates above, which have proved what it requires.
 use model::Key;
-use select::Selection;
-use select::Span;
+use taken::Selection;
+use taken::Span;
 ghost use mathlib.Core.Path.{_≡_};
 ghost use mathlib.Core.Bool.{false};
 ghost use Rattle.model.specs.Keys.{spaceKey};
 ghost use Rattle.model.specs.Tuples.{present, add, remove};
 ghost use Rattle.model.specs.Buffer.{next, keyAt, usedOf, tuplesOf};
 ghost use Rattle.chain.specs.Links.{Linked, Hint, KeepsHints, placeIn, Edited, Unlinking};
-ghost use Rattle.select.specs.Selections.{takenBy};
+ghost use Rattle.taken.specs.Selections.{takenBy};
 ghost use Rattle.edit.specs.Edits.{Adding, Assigned, Turned, sweepStart};
 
 // Is a key present, by the record at its place. Public for the crates above, which have sought the place.
@@ -21,7 +21,7 @@ pub fn held_at(b: &[u32], k: Key, at: usize) -> bool
     if at == 0 {
         return false;
     }
-    records::key_same(k, chain::used_key(b, at))
+    words::key_same(k, chain::used_key(b, at))
 }
 
 // Adds a tuple, NIL, where its key is missing; a present one keeps its value.
@@ -46,7 +46,7 @@ pub fn assign_value(b: &mut [u32], hint: usize, k: Key, v: u32)
     if at == 0 {
         return;
     }
-    records::put_value(b, at, v);
+    words::put_value(b, at, v);
 }
 
 // The tuple of record `at`, whose key is k, is removed where the selection takes it; the answer is the record that then stands before the next.
@@ -54,7 +54,7 @@ fn keep_or_remove(b: &mut [u32], sel: Selection, before: usize, at: usize, k: Ke
     requires { ⌜ Unlinking (now b) before × (at ≡ next (now b) before) × (k ≡ keyAt (now b) at) ⌝ }
     ensures { λ r. ⌜ Turned (now (b .entry)) sel before at r (now (b .exit)) ⌝ }
 {
-    if select::takes(sel, k) {
+    if taken::takes(sel, k) {
         chain::remove_after(b, before);
         return before;
     }
@@ -74,7 +74,7 @@ fn start_behind(b: &[u32], hint: usize, span: Span) -> usize
     };
     let place = chain::seek(b, hint, first);
     if place.before == 0 {
-        return records::head_word(b, 1);
+        return words::head_word(b, 1);
     }
     place.before
 }
@@ -85,13 +85,13 @@ pub fn sweep(b: &mut [u32], hint: usize, sel: Selection)
     requires { ⌜ Linked (now b) × Hint (now b) hint × (takenBy sel (spaceKey 0) ≡ false) ⌝ }
     ensures { λ _. ⌜ Edited (now (b .entry)) (now (b .exit)) (remove (takenBy sel) (tuplesOf (now (b .entry)))) ⌝ }
 {
-    let span = select::span_of(sel);
+    let span = taken::span_of(sel);
     let mut before = start_behind(b, hint, span);
-    let mut at = records::next_of(b, before);
+    let mut at = words::next_of(b, before);
     while at != 0 {
-        let after = records::next_of(b, at);
-        let k = records::key_of(b, at);
-        if select::is_beyond(span, k) {
+        let after = words::next_of(b, at);
+        let k = words::key_of(b, at);
+        if taken::is_beyond(span, k) {
             return;
         }
         before = keep_or_remove(b, sel, before, at, k);

@@ -15,8 +15,8 @@ use Rattle.model.specs.Keys.{NIL, spaceKey}
 use Rattle.model.specs.Buffer.{word, recordStart, fitsLength, capacityOf, next, keyAt, tupleAt, pastRecords, follower, Prepared, Preparing}
 use Rattle.model.proofs.Bools.{clash}
 use Rattle.model.proofs.Store.{fits-length}
-use Rattle.records.specs.Words.{putNext, putTuple}
-use Rattle.records.proofs.Sizes.{some-record, room}
+use Rattle.words.specs.Words.{putNext, putTuple}
+use Rattle.words.proofs.Sizes.{some-record, room}
 use Rattle.fresh.specs.Prepare.{headed, universeIn, chained, preparedBuffer, afterPreparing}
 
 -- ---- the chain of free records

@@ -5,7 +5,7 @@ use Prim.Native.Nat.{ℕ, zero, suc, _+_, _-_}
 use lib.ListN.{set}
 use Rattle.model.specs.Keys.{NIL, spaceKey}
 use Rattle.model.specs.Buffer.{fitsLength, capacityOf, follower}
-use Rattle.records.specs.Words.{putNext, putTuple}
+use Rattle.words.specs.Words.{putNext, putTuple}
 
 -- the buffer with words 0 to 3 of a store of C records that holds UNIVERSE alone
 unfoldable pub headed : ℕ → List ℕ → List ℕ

@@ -23,10 +23,10 @@ fn put_heads(b: &mut [u32], c: usize)
     ensures { λ _. ⌜ now (b .exit) ≡ headed c (now (b .entry)) ⌝ }
 {
     let free = follower_of(c, 1);
-    records::put_head_word(b, 0, c);
-    records::put_head_word(b, 1, 1);
-    records::put_head_word(b, 2, free);
-    records::put_head_word(b, 3, 1);
+    words::put_head_word(b, 0, c);
+    words::put_head_word(b, 1, 1);
+    words::put_head_word(b, 2, free);
+    words::put_head_word(b, 3, 1);
 }
 
 // UNIVERSE with NIL in record 1, which ends its chain.
@@ -34,9 +34,9 @@ fn put_universe(b: &mut [u32])
     requires { ⌜ 10 ≤ length (now b) ⌝ }
     ensures { λ _. ⌜ now (b .exit) ≡ universeIn (now (b .entry)) ⌝ }
 {
-    let universe = records::node_key(0, 0);
-    records::put_next(b, 1, 0);
-    records::put_tuple(b, 1, universe, 0);
+    let universe = words::node_key(0, 0);
+    words::put_next(b, 1, 0);
+    words::put_tuple(b, 1, universe, 0);
 }
 
 // Records 2 to C chained as free in ascending order.
@@ -47,7 +47,7 @@ fn chain_free(b: &mut [u32], c: usize)
     let mut n = 0;
     while n + 1 < c {
         let j = follower_of(c, n + 2);
-        records::put_next(b, n + 2, j);
+        words::put_next(b, n + 2, j);
         n += 1;
     }
 }
@@ -63,7 +63,7 @@ pub fn prepare(buffer: &mut [u32]) -> Preparation
     if buffer.len() > 12297 {
         return Preparation::Refused(1);
     }
-    let c = records::capacity(buffer);
+    let c = words::capacity(buffer);
     put_heads(buffer, c);
     put_universe(buffer);
     chain_free(buffer, c);

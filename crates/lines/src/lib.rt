@@ -66,7 +66,7 @@ fn completed(line: &[u8], end: usize, c: Call) -> Reading
 fn in_order(line: &[u8], end: usize, o: u32) -> Reading
     ensures { λ r. ⌜ r ≡ inOrder o (wordsBehind (now (line .entry)) end) ⌝ }
 {
-    let read = decode::reads_of(o);
+    let read = operators::reads_of(o);
     let Argument::Number(n, after_n) = field_at(read.n, line, end, 65535) else {
         return Reading::Refused(11);
     };
@@ -79,7 +79,8 @@ fn in_order(line: &[u8], end: usize, o: u32) -> Reading
     let Argument::Number(v, after_v) = field_at(read.v, line, after_m, 4294967295) else {
         return Reading::Refused(11);
     };
-    let SpaceArgument::Given(s, after_s) = space_at(line, after_v, decode::space_optional(o)) else {
+    let SpaceArgument::Given(s, after_s) = space_at(line, after_v, operators::space_optional(o))
+    else {
         return Reading::Refused(11);
     };
     let c = Call {

@@ -18,9 +18,9 @@ use Rattle.model.proofs.Bools.{clash, not-yes, not-no}
 use Rattle.chain.specs.declared.Place.{Place}
 use Rattle.chain.specs.Links.{Linked, Hint, placeIn}
 use Rattle.chain.proofs.Hints.{no-hint, place-hint}
-use Rattle.operate.specs.declared.Fields.{Fields}
-use Rattle.operate.specs.declared.Near.{Near}
-use Rattle.operate.specs.Operate.{NearIn, fieldsOf}
+use Rattle.steps.specs.declared.Fields.{Fields}
+use Rattle.steps.specs.declared.Near.{Near}
+use Rattle.steps.specs.Operate.{NearIn, fieldsOf}
 use Rattle.located.specs.Located.{beforeKey, near, nearNodes, nearUniverse, alsoIn, fartherOf, soughtIn, spaceAlone, withNode, withNodes, locatedIn, Told}
 use Rattle.located.specs.declared.Sought.{Sought}
 use Rattle.located.specs.declared.Located.{Located}

@@ -13,9 +13,9 @@ use Rattle.model.specs.Operators.{rowOf}
 use Rattle.model.specs.Buffer.{keyAt, usedOf, tuplesOf}
 use Rattle.model.specs.Steps.{nOf, mOf, sOf}
 use Rattle.chain.specs.Links.{placeIn}
-use Rattle.operate.specs.declared.Fields.{Fields}
-use Rattle.operate.specs.declared.Near.{Near}
-use Rattle.operate.specs.Operate.{NearIn}
+use Rattle.steps.specs.declared.Fields.{Fields}
+use Rattle.steps.specs.declared.Near.{Near}
+use Rattle.steps.specs.Operate.{NearIn}
 use Rattle.located.specs.declared.Sought.{Sought}
 use Rattle.located.specs.declared.Located.{Located}
 

@@ -2,14 +2,14 @@
 // Each function is pub for the crate above, which has proved what it requires.
 use model::Call;
 use model::Row;
-use operate::Fields;
-use operate::Near;
+use steps::Fields;
+use steps::Near;
 ghost use mathlib.Core.Path.{_≡_};
 ghost use Rattle.model.specs.Operators.{rowOf};
 ghost use Rattle.chain.specs.Links.{Linked, Hint};
 ghost use Rattle.model.specs.Keys.{nodeKey};
 ghost use Rattle.model.specs.Machine.{FieldsFit};
-ghost use Rattle.operate.specs.Operate.{NearIn};
+ghost use Rattle.steps.specs.Operate.{NearIn};
 ghost use Rattle.located.specs.Located.{beforeKey, near, nearNodes, nearUniverse, alsoIn, fartherOf, soughtIn, spaceAlone, withNode, withNodes, locatedIn};
 ghost use Rattle.model.specs.Steps.{sOf};
 
@@ -18,7 +18,7 @@ fn before_node(b: &[u32], hint: usize, s: u32, n: u32) -> usize
     requires { ⌜ Linked (now b) × Hint (now b) hint ⌝ }
     ensures { λ r. ⌜ r ≡ beforeKey (now (b .entry)) (nodeKey s n) ⌝ }
 {
-    let place = chain::seek(b, hint, records::node_key(s, n));
+    let place = chain::seek(b, hint, words::node_key(s, n));
     place.before
 }
 
@@ -61,7 +61,7 @@ pub fn locate_universe(b: &[u32], row: Row, c: Call) -> Near
     requires { ⌜ Linked (now b) × (row ≡ rowOf (c .operator)) ⌝ }
     ensures { λ r. ⌜ r ≡ nearUniverse (now (b .entry)) c ⌝ }
 {
-    let f = operate::fields_of(c);
+    let f = steps::fields_of(c);
     if f.s == 0 {
         return nowhere();
     }
@@ -75,7 +75,7 @@ pub fn locate_universe(b: &[u32], row: Row, c: Call) -> Near
 pub fn also_in_universe(near: Near, universe: Near, c: Call) -> Near
     ensures { λ r. ⌜ r ≡ alsoIn near universe (sOf c) ⌝ }
 {
-    let f = operate::fields_of(c);
+    let f = steps::fields_of(c);
     if f.s == 0 {
         return near;
     }
@@ -112,7 +112,7 @@ fn seek_node(b: &[u32], hint: usize, s: u32, n: u32) -> Sought
     requires { ⌜ Linked (now b) × Hint (now b) hint ⌝ }
     ensures { λ r. ⌜ r ≡ soughtIn (now (b .entry)) (nodeKey s n) ⌝ }
 {
-    let k = records::node_key(s, n);
+    let k = words::node_key(s, n);
     let place = chain::seek(b, hint, k);
     let at = place.at;
     Sought {
@@ -193,7 +193,7 @@ pub fn locate(b: &[u32], universe: Near, row: Row, c: Call) -> Located
     ensures { λ r. ⌜ r ≡ locatedIn (now (b .entry)) c ⌝ }
     ensures fit { λ _. ⌜ FieldsFit c ⌝ }
 {
-    let f = operate::fields_of(c);
+    let f = steps::fields_of(c);
     let reads = row.reads;
     if !reads.s {
         return space_alone(row, 0, false);

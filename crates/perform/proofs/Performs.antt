@@ -20,7 +20,7 @@ use Rattle.model.specs.Steps.{nOf, sOf, vOf, objectKeys, created, firstValue, d
 use Rattle.model.specs.OneCall.{answerOf, listAfter, writes}
 use Rattle.chain.specs.Links.{Linked, Edited}
 use Rattle.edit.proofs.Built.{unedited}
-use Rattle.list.specs.Queries.{written}
+use Rattle.entries.specs.Queries.{written}
 use Rattle.perform.specs.Perform.{NamesRead, Ready, Performed}
 
 -- ---- the first argument

@@ -14,8 +14,8 @@ use Rattle.model.specs.Buffer.{tuplesOf}
 use Rattle.model.specs.Steps.{nOf, gOf, mOf, sOf, created, listed, reply, after}
 use Rattle.model.specs.OneCall.{answerOf, listAfter, writes}
 use Rattle.chain.specs.Links.{Edited}
-use Rattle.listing.specs.Lists.{NamesAsked}
-use Rattle.operate.specs.Operate.{Room}
+use Rattle.listings.specs.Lists.{NamesAsked}
+use Rattle.steps.specs.Operate.{Room}
 
 -- names that a removal reads are not 0
 abbrev pub NamesRead : Removal → Call → Type 0

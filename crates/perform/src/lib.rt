@@ -5,7 +5,7 @@ use model::Call;
 use model::Operator;
 use model::Removal;
 use model::Space;
-use operate::Near;
+use steps::Near;
 ghost use mathlib.Core.Bool.{true};
 ghost use mathlib.Core.Path.{_≡_};
 ghost use lib.ListN.{length};
@@ -13,7 +13,7 @@ ghost use Rattle.model.specs.Buffer.{tuplesOf, isStore};
 ghost use Rattle.model.specs.Steps.{spaceNumber, firstArgument, destroyed, idleReply};
 ghost use Rattle.model.specs.OneCall.{answerOf};
 ghost use Rattle.chain.specs.Links.{Edited};
-ghost use Rattle.operate.specs.Operate.{NearIn};
+ghost use Rattle.steps.specs.Operate.{NearIn};
 ghost use Rattle.perform.specs.Perform.{NamesRead, Ready, Performed};
 
 // The name of a space; 0 for UNIVERSE, and for nothing, which no call answers (12).
@@ -31,7 +31,7 @@ fn space_name(s: Space) -> u16
 fn first_argument(c: Call) -> u16
     ensures { λ r. ⌜ r ≡ firstArgument c ⌝ }
 {
-    let row = decode::row_of(c.operator);
+    let row = operators::row_of(c.operator);
     if row.first {
         let s = c.s;
         return space_name(s);
@@ -49,8 +49,8 @@ fn destroy(b: &mut [u32], near: Near, r: Removal, c: Call)
         Removal::G(d) => removals::destroy_edges(b, near, d, c),
         Removal::GG(d) => removals::destroy_edges_named(b, near, d, c),
         Removal::GN(d) => removals::destroy_edges_between(b, near, d, c),
-        Removal::N(d) => collect::destroy_nodes(b, near, d, c),
-        Removal::NG(d) => collect::destroy_nodes_by_edge(b, near, d, c),
+        Removal::N(d) => removals::destroy_nodes(b, near, d, c),
+        Removal::NG(d) => removals::destroy_nodes_by_edge(b, near, d, c),
         Removal::UN => removals::destroy_node(b, near, c),
         Removal::US => removals::destroy_space(b, near, c),
     }
@@ -84,19 +84,19 @@ pub fn perform(
 {
     match op {
         Operator::Create(o) => {
-            operate::create(store, near, universe, o, c);
+            steps::create(store, near, universe, o, c);
             Answer::Name(first_argument(c))
         }
         Operator::Bind(o) => {
-            operate::bind(store, near, o, c);
+            steps::bind(store, near, o, c);
             Answer::Name(first_argument(c))
         }
-        Operator::Value(o) => Answer::Value(operate::value_of(store, near, o, c)),
-        Operator::Exists(o) => Answer::YesNo(operate::exists(store, near, o, c)),
+        Operator::Value(o) => Answer::Value(steps::value_of(store, near, o, c)),
+        Operator::Exists(o) => Answer::YesNo(steps::exists(store, near, o, c)),
         Operator::Destroy(r) => {
             destroy(store, near, r, c);
             Answer::Name(first_argument(c))
         }
-        Operator::List(l) => Answer::List(listing::write_listed(store, near, l, c, list)),
+        Operator::List(l) => Answer::List(listings::write_listed(store, near, l, c, list)),
     }
 }

@@ -19,8 +19,8 @@ use Rattle.model.specs.Refusals.{noOperator, spaceAbsent, nodeAbsent, secondAbs
 use Rattle.model.specs.Buffer.{everyRecord, tuplesOf}
 use Rattle.model.proofs.Bools.{or-left, or-right, and-left, and-right, and-no, not-no, not-yes}
 use Rattle.model.proofs.Steps.{every-record}
-use Rattle.operate.specs.declared.Fields.{Fields}
-use Rattle.operate.specs.Operate.{fieldsOf}
+use Rattle.steps.specs.declared.Fields.{Fields}
+use Rattle.steps.specs.Operate.{fieldsOf}
 use Rattle.located.specs.declared.Located.{Located}
 use Rattle.located.specs.Located.{Told}
 

@@ -4,7 +4,7 @@ use model::Call;
 use model::Key;
 use model::Listing;
 use model::Operator;
-use operate::Near;
+use steps::Near;
 ghost use mathlib.Core.Path.{_≡_};
 ghost use mathlib.Core.Bool.{true, false, not};
 ghost use Prim.Native.Nat.{_-_};
@@ -15,9 +15,9 @@ ghost use Rattle.model.specs.Buffer.{capacityOf, tuplesOf, isStore};
 ghost use Rattle.model.specs.Steps.{listed, wouldAdd};
 ghost use Rattle.model.specs.Refusals.{selectsNothing, noOperator, zeroName, spaceAbsent, nodeAbsent, secondAbsent, workedOn, edgeAbsent, listShort, full, refusalOf};
 ghost use Rattle.chain.specs.Links.{Linked, Hint};
-ghost use Rattle.listing.specs.Lists.{NamesAsked};
+ghost use Rattle.listings.specs.Lists.{NamesAsked};
 ghost use lib.Dec.{ltb};
-ghost use Rattle.operate.specs.Operate.{NearIn};
+ghost use Rattle.steps.specs.Operate.{NearIn};
 ghost use Rattle.located.specs.Located.{Told};
 ghost use Rattle.refusals.specs.Numbers.{stopNumber};
 
@@ -48,8 +48,8 @@ fn node_absent(b: &[u32], l: Located, c: Call) -> bool
 {
     let row = l.row;
     if row.asks.universe {
-        let f = operate::fields_of(c);
-        return key_absent(b, 0, records::node_key(0, f.n));
+        let f = steps::fields_of(c);
+        return key_absent(b, 0, words::node_key(0, f.n));
     }
     if !row.asks.node {
         return false;
@@ -75,10 +75,10 @@ fn object_absent(b: &[u32], near: Near, op: Operator, c: Call) -> bool
     ensures { λ r. ⌜ r ≡ not (anyPresent (workedOn op c) (tuplesOf (now (b .entry)))) ⌝ }
 {
     match op {
-        Operator::Create(o) => !operate::exists(b, near, o, c),
-        Operator::Bind(o) => !operate::exists(b, near, o, c),
-        Operator::Value(o) => !operate::exists(b, near, o, c),
-        Operator::Exists(o) => !operate::exists(b, near, o, c),
+        Operator::Create(o) => !steps::exists(b, near, o, c),
+        Operator::Bind(o) => !steps::exists(b, near, o, c),
+        Operator::Value(o) => !steps::exists(b, near, o, c),
+        Operator::Exists(o) => !steps::exists(b, near, o, c),
         Operator::Destroy(r) => true,
         Operator::List(l) => true,
     }
@@ -94,7 +94,7 @@ fn edge_absent(b: &[u32], l: Located, c: Call) -> bool
         return false;
     }
     let near = l.near;
-    object_absent(b, near, decode::operator_of(c.operator), c)
+    object_absent(b, near, operators::operator_of(c.operator), c)
 }
 
 // Condition 9 for an S operator: the entries are counted only where the tuples could give more than the list holds.
@@ -102,10 +102,10 @@ fn list_short(b: &[u32], near: Near, l: Listing, c: Call, room: usize) -> bool
     requires { ⌜ (isStore (now b) ≡ true) × NearIn (now b) near × NamesAsked l c ⌝ }
     ensures { λ r. ⌜ r ≡ ltb room (length (listed l c (tuplesOf (now (b .entry))))) ⌝ }
 {
-    if listing::surely_fits(b, l, c, room) {
+    if listings::surely_fits(b, l, c, room) {
         return false;
     }
-    room < listing::count_listed(b, near, l, c)
+    room < listings::count_listed(b, near, l, c)
 }
 
 // Condition 9: the answer list is shorter than what the call would list; that is nothing but for S.
@@ -129,7 +129,7 @@ fn count_added(b: &[u32], near: Near, universe: Near, op: Operator, c: Call) -> 
     ensures { λ r. ⌜ r ≡ length (missing (wouldAdd (operatorOf (c .operator)) c) (tuplesOf (now (b .entry)))) ⌝ }
 {
     match op {
-        Operator::Create(o) => operate::count_created(b, near, universe, o, c),
+        Operator::Create(o) => steps::count_created(b, near, universe, o, c),
         Operator::Bind(o) => 0,
         Operator::Value(o) => 0,
         Operator::Exists(o) => 0,
@@ -143,7 +143,7 @@ fn free_records(b: &[u32]) -> usize
     requires { ⌜ Linked (now b) ⌝ }
     ensures { λ r. ⌜ r ≡ capacityOf (now (b .entry)) - length (tuplesOf (now (b .entry))) ⌝ }
 {
-    records::head_word(b, 0) - records::head_word(b, 3)
+    words::head_word(b, 0) - words::head_word(b, 3)
 }
 
 // Condition 10: fewer records are free than the call would add tuples.
@@ -168,10 +168,10 @@ pub fn refusal_of(b: &[u32], l: Located, universe: Near, c: Call, room: usize) -
     if !row.known {
         return 2;
     }
-    if decode::zero_name(c, reads) {
+    if operators::zero_name(c, reads) {
         return 3;
     }
-    if decode::destroys_universe(c, asks) {
+    if operators::destroys_universe(c, asks) {
         return 4;
     }
     if space_absent(b, l, c) {
@@ -186,7 +186,7 @@ pub fn refusal_of(b: &[u32], l: Located, universe: Near, c: Call, room: usize) -
     if edge_absent(b, l, c) {
         return 8;
     }
-    let op = decode::operator_of(c.operator);
+    let op = operators::operator_of(c.operator);
     if is_short(b, near, op, c, room) {
         return 9;
     }

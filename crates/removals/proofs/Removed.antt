@@ -9,11 +9,11 @@ use Rattle.model.specs.declared.Pair.{Pair}
 use Rattle.model.specs.declared.Removal.{Removal}
 use Rattle.model.specs.Tuples.{Tuples, remove}
 use Rattle.model.specs.Steps.{nOf, gOf, mOf, sOf, edgesTaken, nodeTaken, spaceTaken, destroyed}
-use Rattle.select.specs.Selections.{passes}
-use Rattle.select.proofs.Passes.{passes-any, passes-edge, passes-node, passes-both}
-use Rattle.operate.specs.declared.Fields.{Fields}
-use Rattle.select.specs.declared.EdgesOf.{EdgesOf}
-use Rattle.operate.specs.Operate.{fieldsOf, edgesOf}
+use Rattle.taken.specs.Selections.{passes}
+use Rattle.taken.proofs.Passes.{passes-any, passes-edge, passes-node, passes-both}
+use Rattle.steps.specs.declared.Fields.{Fields}
+use Rattle.taken.specs.declared.EdgesOf.{EdgesOf}
+use Rattle.steps.specs.Operate.{fieldsOf, edgesOf}
 
 -- the same test of pairs, the same tuples left
 same-test : (d : Direction) (s n : ℕ) (p q : Pair → Bool) (ts : Tuples) → ((x : Pair) → p x ≡ q x)

@@ -1,21 +1,28 @@
-// What D 12–23, 49 and 55 remove from a store.
-// Each function is pub for the crates above, which have proved what it requires.
+// What the D operators remove from a store.
+// Each function is pub for the crate above, which has proved what it requires.
 use model::Call;
 use model::Direction;
-use operate::Fields;
-use operate::Near;
-use select::EdgesOf;
-use select::NodeOf;
-use select::Selection;
+use model::Listing;
+use steps::Fields;
+use steps::Near;
+use taken::EdgesOf;
+use taken::NodeOf;
+use taken::Selection;
 ghost use mathlib.Core.Logic.{_≢_};
 ghost use mathlib.Core.Path.{_≡_};
 ghost use Rattle.model.specs.declared.Removal.{Removal};
 ghost use Rattle.model.specs.Tuples.{remove};
-ghost use Rattle.model.specs.Buffer.{tuplesOf};
-ghost use Rattle.model.specs.Steps.{nOf, gOf, mOf, sOf, edgesTaken, nodeTaken, spaceTaken, destroyed};
+ghost use Rattle.model.specs.Buffer.{tuplesOf, isStore};
+ghost use Rattle.model.specs.Steps.{nOf, gOf, mOf, sOf, edgesTaken, nodeTaken, spaceTaken, destroyed, listed, removeNodes};
 ghost use Rattle.chain.specs.Links.{Linked, Hint, Edited};
-ghost use Rattle.select.specs.Selections.{passes};
-ghost use Rattle.operate.specs.Operate.{NearIn, edgesOf};
+ghost use Rattle.taken.specs.Selections.{passes};
+ghost use Rattle.steps.specs.Operate.{NearIn, edgesOf};
+ghost use mathlib.Core.Bool.{true};
+ghost use Prim.Native.Nat.{_≤_};
+ghost use lib.ListN.{length, take};
+ghost use Rattle.entries.specs.Queries.{Readable};
+ghost use Rattle.listings.specs.Lists.{NamesAsked};
+ghost use Rattle.removals.specs.Collected.{removeEach, NamedBelow, NodesListed};
 
 // Removes the edges of the pairs of node n in space s with edge g and node m (0: any).
 fn remove_edges(b: &mut [u32], hint: usize, e: EdgesOf)
@@ -59,7 +66,7 @@ pub fn destroy_pair(b: &mut [u32], near: Near, d: Direction, c: Call)
     requires { ⌜ Linked (now b) × NearIn (now b) near × (gOf c ≢ 0) × (mOf c ≢ 0) ⌝ }
     ensures { λ _. ⌜ Edited (now (b .entry)) (now (b .exit)) (destroyed (Removal.P d) c (tuplesOf (now (b .entry)))) ⌝ }
 {
-    let f = operate::fields_of(c);
+    let f = steps::fields_of(c);
     remove_edges(b, near.space, edges_of(d, f, f.g, f.m));
 }
 
@@ -68,7 +75,7 @@ pub fn destroy_edges(b: &mut [u32], near: Near, d: Direction, c: Call)
     requires { ⌜ Linked (now b) × NearIn (now b) near ⌝ }
     ensures { λ _. ⌜ Edited (now (b .entry)) (now (b .exit)) (destroyed (Removal.G d) c (tuplesOf (now (b .entry)))) ⌝ }
 {
-    let f = operate::fields_of(c);
+    let f = steps::fields_of(c);
     remove_edges(b, near.space, edges_of(d, f, 0, 0));
 }
 
@@ -77,7 +84,7 @@ pub fn destroy_edges_named(b: &mut [u32], near: Near, d: Direction, c: Call)
     requires { ⌜ Linked (now b) × NearIn (now b) near × (gOf c ≢ 0) ⌝ }
     ensures { λ _. ⌜ Edited (now (b .entry)) (now (b .exit)) (destroyed (Removal.GG d) c (tuplesOf (now (b .entry)))) ⌝ }
 {
-    let f = operate::fields_of(c);
+    let f = steps::fields_of(c);
     remove_edges(b, near.space, edges_of(d, f, f.g, 0));
 }
 
@@ -86,7 +93,7 @@ pub fn destroy_edges_between(b: &mut [u32], near: Near, d: Direction, c: Call)
     requires { ⌜ Linked (now b) × NearIn (now b) near × (mOf c ≢ 0) ⌝ }
     ensures { λ _. ⌜ Edited (now (b .entry)) (now (b .exit)) (destroyed (Removal.GN d) c (tuplesOf (now (b .entry)))) ⌝ }
 {
-    let f = operate::fields_of(c);
+    let f = steps::fields_of(c);
     remove_edges(b, near.space, edges_of(d, f, 0, f.m));
 }
 
@@ -95,7 +102,7 @@ pub fn destroy_node(b: &mut [u32], near: Near, c: Call)
     requires { ⌜ Linked (now b) × NearIn (now b) near × (nOf c ≢ 0) ⌝ }
     ensures { λ _. ⌜ Edited (now (b .entry)) (now (b .exit)) (destroyed Removal.UN c (tuplesOf (now (b .entry)))) ⌝ }
 {
-    let f = operate::fields_of(c);
+    let f = steps::fields_of(c);
     remove_node(b, near.space, NodeOf { s: f.s, n: f.n });
 }
 
@@ -104,6 +111,47 @@ pub fn destroy_space(b: &mut [u32], near: Near, c: Call)
     requires { ⌜ Linked (now b) × NearIn (now b) near × (sOf c ≢ 0) ⌝ }
     ensures { λ _. ⌜ Edited (now (b .entry)) (now (b .exit)) (destroyed Removal.US c (tuplesOf (now (b .entry)))) ⌝ }
 {
-    let f = operate::fields_of(c);
+    let f = steps::fields_of(c);
     remove_space(b, near.space, f.s);
+}
+
+// D 24–29: "the nodes of such pairs are collected first, then each is removed as by DUN".
+
+// Removes each of the first `count` nodes of a list from space s (0: from all spaces), with its edges.
+fn remove_each(b: &mut [u32], s: u32, nodes: &[u32], count: usize)
+    requires { ⌜ Linked (now b) × (count ≤ length (now nodes)) × NamedBelow (now nodes) count × (count ≤ 4096) ⌝ }
+    ensures { λ _. ⌜ Edited (now (b .entry)) (now (b .exit)) (removeEach s (take count (now (nodes .entry))) (tuplesOf (now (b .entry)))) ⌝ }
+{
+    let mut i = 0;
+    while i < count {
+        remove_node(b, 0, NodeOf { s, n: nodes[i] });
+        i += 1;
+    }
+}
+
+// Removes from the call's space the nodes that an S operator lists; they are at most two for each tuple.
+fn remove_listed(b: &mut [u32], near: Near, l: Listing, c: Call)
+    requires { ⌜ Readable (now b) × NearIn (now b) near × NamesAsked l c × NodesListed (listed l c (tuplesOf (now b))) ⌝ }
+    ensures { λ _. ⌜ Edited (now (b .entry)) (now (b .exit)) (removeNodes (sOf c) (listed l c (tuplesOf (now (b .entry)))) (tuplesOf (now (b .entry)))) ⌝ }
+{
+    let mut nodes: [u32; 4096] = [0; 4096];
+    let count = listings::write_listed(b, near, l, c, &mut nodes);
+    let f = steps::fields_of(c);
+    remove_each(b, f.s, &nodes, count);
+}
+
+// D 24–26: removes the nodes of the pairs of node n.
+pub fn destroy_nodes(b: &mut [u32], near: Near, d: Direction, c: Call)
+    requires { ⌜ (isStore (now b) ≡ true) × NearIn (now b) near ⌝ }
+    ensures { λ _. ⌜ Edited (now (b .entry)) (now (b .exit)) (destroyed (Removal.N d) c (tuplesOf (now (b .entry)))) ⌝ }
+{
+    remove_listed(b, near, Listing::N(d), c);
+}
+
+// D 27–29: removes the nodes of the pairs of node n with edge g.
+pub fn destroy_nodes_by_edge(b: &mut [u32], near: Near, d: Direction, c: Call)
+    requires { ⌜ (isStore (now b) ≡ true) × NearIn (now b) near × (gOf c ≢ 0) ⌝ }
+    ensures { λ _. ⌜ Edited (now (b .entry)) (now (b .exit)) (destroyed (Removal.NG d) c (tuplesOf (now (b .entry)))) ⌝ }
+{
+    remove_listed(b, near, Listing::NG(d), c);
 }

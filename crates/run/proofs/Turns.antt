@@ -16,7 +16,7 @@ use Rattle.model.specs.CallLists.{CallMade, OneMade}
 use Rattle.model.specs.Stored.{stored}
 use Rattle.model.proofs.Bools.{clash}
 use Rattle.model.proofs.CallLists.{answer-within}
-use Rattle.records.proofs.Words.{capacity-length}
+use Rattle.words.proofs.Words.{capacity-length}
 use Rattle.run.specs.Words.{answerWords, callAt, roomAt, requestAt, callsFrom, kindOf, numberOf, putAnswer}
 use Rattle.run.specs.Runs.{callMade, callsMade, answersAfter, listsAfter, roomsOf, Left, OneRun}
 use Rattle.run.proofs.WordLaws.{calls-start, calls-next, calls-end, answer-length, answer-first, answer-rest}

@@ -67,7 +67,7 @@ fn room_at(calls: &[u32], i: usize) -> usize
     ensures { λ r. ⌜ r ≡ roomAt (now (calls .entry)) i ⌝ }
 {
     let at = 6 * i + 5;
-    records::index_of(calls[at])
+    words::index_of(calls[at])
 }
 
 // Do the answer lists of the first calls fit in so much room.

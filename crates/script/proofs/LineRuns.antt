@@ -28,7 +28,7 @@ use Rattle.lines.specs.Calls.{readLine}
 use Rattle.print.specs.Answers.{answerText, answerLine, mostLine, Put, Printable}
 use Rattle.print.proofs.Lengths.{line-printable}
 use Rattle.script.specs.Scripts.{scriptRecords, scriptPlaces, readingOutcome, lineOutcome}
-use Rattle.records.proofs.Words.{capacity-length}
+use Rattle.words.proofs.Words.{capacity-length}
 use Rattle.script.specs.Runs.{Ready, LineCalled, call, no-call, LineStep, LineRun, lineList, LineDemand1}
 
 -- ---- what was run

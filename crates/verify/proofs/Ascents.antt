@@ -9,8 +9,8 @@ use Rattle.model.specs.Ordered.{isLess, ascendsFrom}
 use Rattle.model.specs.Keys.{keyOf, spaceKey, compareKeys, sameKey}
 use Rattle.model.specs.Tuples.{Tuples}
 use Rattle.model.specs.Buffer.{word, next, keyAt, tupleAt, tuplesOf, ascendsFromUniverse}
-use Rattle.support.specs.Presence.{UsedEnds, tuplesFrom, OnChain}
-use Rattle.support.proofs.Rest.{used-from-head, on-head, on-next, tuples-next, tuples-none}
+use Rattle.presence.specs.Presence.{UsedEnds, tuplesFrom, OnChain}
+use Rattle.presence.proofs.Rest.{used-from-head, on-head, on-next, tuples-next, tuples-none}
 
 pub record AscendsLeft (b : List ℕ) (k : Key) (at : ℕ) : Type 0 where
   pub on : OnChain b at

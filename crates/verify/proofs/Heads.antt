@@ -10,9 +10,9 @@ use borrow.Author.Tests.{eq-eqb, ne-eqb, leb-true, le-leb, lt-leb}
 use Rattle.model.specs.Buffer.{word, fitsLength, capacityOf}
 use Rattle.model.proofs.Bools.{and-left, and-right}
 use Rattle.model.proofs.Store.{fits-least, fits-most, fits-length}
-use Rattle.support.specs.Presence.{Walkable}
+use Rattle.presence.specs.Presence.{Walkable}
 use Rattle.verify.specs.Checks.{headsFit}
-use Rattle.records.proofs.Sizes.{too-short, too-long}
+use Rattle.words.proofs.Sizes.{too-short, too-long}
 
 -- ---- length and heads
 

@@ -8,7 +8,7 @@ use Rattle.model.specs.declared.Key.{Key}
 use Rattle.model.specs.Ordered.{isLess}
 use Rattle.model.specs.Keys.{compareKeys}
 use Rattle.model.specs.Buffer.{smallKey, noEdgeWithoutNode, edgeHasEnd}
-use Rattle.support.specs.Presence.{shapedKey, goodKey}
+use Rattle.presence.specs.Presence.{shapedKey, goodKey}
 use Rattle.verify.specs.Checks.{mayMeet, keyFollows}
 
 module _ (k : Key) where

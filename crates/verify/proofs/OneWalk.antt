@@ -16,14 +16,14 @@ use Rattle.model.specs.Tuples.{Tuples, present}
 use Rattle.model.specs.Buffer.{word, capacityOf, next, usedChain, keyAt, tupleAt, tuplesOf, ascendsFromUniverse, everyRecord, everyKey, smallKey, noEdgeWithoutNode, edgeHasEnd, nodeSupported, edgeSupported}
 use Rattle.model.proofs.Bools.{and-left, and-right, and-both, not-yes, not-no}
 use Rattle.model.proofs.Tuples.{same-key}
-use Rattle.support.specs.Presence.{Walkable, endsWithin, UsedEnds, Held, Marks, MarksFit, withNamed, tuplesFrom, shapedKey, goodKey, supported, settled, endThere, nothingKept, foundWith, listWith, everyEnd, Listed, keptCount}
+use Rattle.presence.specs.Presence.{Walkable, endsWithin, UsedEnds, Held, Marks, MarksFit, withNamed, tuplesFrom, shapedKey, goodKey, supported, settled, endThere, nothingKept, foundWith, listWith, everyEnd, Listed, keptCount}
 use Rattle.verify.specs.Checks.{walkedOn, walkedFrom, stepped, FreeWalk, UsedFound, keysRight, mayMeet, keyFollows, stoppedWalk, startsRight, usedWalk}
 use Rattle.verify.specs.declared.chains.Walk.{Walk}
-use Rattle.support.specs.declared.ends.Found.{Found}
-use Rattle.records.proofs.Sizes.{some-record, few-records}
-use Rattle.support.proofs.Rest.{ascends-empty, EveryLeft, every-start, every-next, every-no, every-end, every-held, tuples-next, tuples-none}
-use Rattle.support.proofs.Hints.{named-marks, named-fit, marks-fit}
-use Rattle.support.proofs.Shows.{good-n, good-node}
+use Rattle.presence.specs.declared.ends.Found.{Found}
+use Rattle.words.proofs.Sizes.{some-record, few-records}
+use Rattle.presence.proofs.Rest.{ascends-empty, EveryLeft, every-start, every-next, every-no, every-end, every-held, tuples-next, tuples-none}
+use Rattle.presence.proofs.Hints.{named-marks, named-fit, marks-fit}
+use Rattle.presence.proofs.Shows.{good-n, good-node}
 use Rattle.verify.proofs.Walks.{walked-on, walked-end, walked-long, walked-far, found-ends, free-first, free-next}
 use Rattle.verify.proofs.Ascents.{AscendsLeft, ascends-not-first, ascends-start, ascends-next, ascends-no, ascends-end}
 use Rattle.verify.proofs.Settled.{Stands, Settled, settled-all, not-kept-there}

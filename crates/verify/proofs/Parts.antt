@@ -9,10 +9,10 @@ use Rattle.model.specs.declared.Key.{Key}
 use Rattle.model.specs.Tuples.{Tuples}
 use Rattle.model.specs.Buffer.{word, fitsLength, capacityOf, sizeWord, ends, usedChain, freeChain, usedOf, tuplesOf, ascendsFromUniverse, smallKey, noEdgeWithoutNode, edgeHasEnd, nodeSupported, edgeSupported, everyKey, sound, isStore}
 use Rattle.model.proofs.Bools.{and-left, and-right, clash}
-use Rattle.support.specs.Presence.{Walkable, endsWithin, shapedKey, goodKey, Sorted, supported}
+use Rattle.presence.specs.Presence.{Walkable, endsWithin, shapedKey, goodKey, Sorted, supported}
 use Rattle.verify.specs.Checks.{headsFit, nextsWithin, metOnce, chainsRight, linksRight, walkedFrom, keysRight, stoppedWalk, usedWalk}
 use Rattle.verify.specs.declared.chains.Walked.{Walked}
-use Rattle.support.proofs.NamedParts.{every-and}
+use Rattle.presence.proofs.NamedParts.{every-and}
 use Rattle.verify.proofs.Heads.{walkable}
 use Rattle.verify.proofs.Walks.{links-no-end, found-ends}
 

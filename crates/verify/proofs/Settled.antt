@@ -11,9 +11,9 @@ use Rattle.model.specs.Keys.{spaceKey, nodeKey, edgeKey, isNode, isEdge}
 use Rattle.model.specs.Tuples.{Tuples, present}
 use Rattle.model.specs.Buffer.{tuplesOf, nodeSupported, edgeSupported}
 use Rattle.model.proofs.Bools.{or-cases, and-left, and-right}
-use Rattle.support.specs.Presence.{Marks, nodeShown, edgeShown, nodeSettled, edgeSettled, settled, endThere, endShown, nothingKept, supported, goodKey}
-use Rattle.support.proofs.Hints.{show-node, show-edge}
-use Rattle.support.proofs.Shows.{good-end, good-nameless, good-second, good-n, good-m, good-node}
+use Rattle.presence.specs.Presence.{Marks, nodeShown, edgeShown, nodeSettled, edgeSettled, settled, endThere, endShown, nothingKept, supported, goodKey}
+use Rattle.presence.proofs.Hints.{show-node, show-edge}
+use Rattle.presence.proofs.Shows.{good-end, good-nameless, good-second, good-n, good-m, good-node}
 
 -- a second end that is not kept is there
 pub not-kept-there : (b ms : List ℕ) (k : Key) → Marks b ms → goodKey k ≡ true → nothingKept ms k ≡ true → endThere (tuplesOf b) k ≡ true

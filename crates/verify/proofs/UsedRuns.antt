@@ -11,9 +11,9 @@ use Rattle.model.specs.declared.Key.{Key}
 use Rattle.model.specs.Buffer.{word, capacityOf, next, keyAt}
 use Rattle.model.proofs.Bools.{and-both}
 use Rattle.verify.specs.declared.chains.Walk.{Walk}
-use Rattle.support.specs.declared.ends.Found.{Found}
+use Rattle.presence.specs.declared.ends.Found.{Found}
 use Rattle.verify.specs.declared.keys.Used.{Used}
-use Rattle.support.specs.Presence.{withNamed, foundWith, listWith}
+use Rattle.presence.specs.Presence.{withNamed, foundWith, listWith}
 use Rattle.verify.specs.Checks.{stepped, mayMeet, keyFollows, stoppedUsed, startsRight, UsedRun, runStopped, runEnded, mayTake, usedRun, usedRunOf}
 
 abbrev left-of : Used → List ℕ → List ℕ → UsedRun

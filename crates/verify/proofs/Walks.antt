@@ -17,10 +17,10 @@ use Rattle.model.proofs.Steps.{every-record}
 use Rattle.model.proofs.Store.{record-every}
 use Rattle.verify.specs.declared.chains.Walk.{Walk}
 use Rattle.verify.specs.declared.chains.Walked.{Walked}
-use Rattle.support.specs.Presence.{Walkable, allWithin, endsWithin}
+use Rattle.presence.specs.Presence.{Walkable, allWithin, endsWithin}
 use Rattle.verify.specs.Checks.{nextsWithin, metOnce, chainsRight, linksRight, steps, lastMet, stoppedWalk, walkedOn, walkedFrom, stepped, inRun, alongRun, FreeWalk}
-use Rattle.records.proofs.Sizes.{some-record}
-use Rattle.support.proofs.ChainEnds.{Met, met-by-walk}
+use Rattle.words.proofs.Sizes.{some-record}
+use Rattle.presence.proofs.ChainEnds.{Met, met-by-walk}
 use Rattle.verify.proofs.Once.{lastOr, once-test}
 
 -- ---- one walk

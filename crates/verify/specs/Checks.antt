@@ -11,8 +11,8 @@ use Rattle.model.specs.Ordered.{isLess}
 use Rattle.model.specs.Keys.{spaceKey, compareKeys, sameKey}
 use Rattle.model.specs.Tuples.{Tuples}
 use Rattle.model.specs.Buffer.{word, fitsLength, capacityOf, sizeWord, next, keyAt, walk, ends, usedChain, freeChain, usedOf, freeOf, tuplesOf, count, everyRecord, ascendsFromUniverse, everyKey}
-use Rattle.support.specs.declared.ends.Found.{Found}
-use Rattle.support.specs.Presence.{endsWithin, goodKey, withNamed, foundWith, listWith, Decided}
+use Rattle.presence.specs.declared.ends.Found.{Found}
+use Rattle.presence.specs.Presence.{endsWithin, goodKey, withNamed, foundWith, listWith, Decided}
 use Rattle.verify.specs.declared.chains.Walk.{Walk}
 use Rattle.verify.specs.declared.chains.Walked.{Walked}
 use Rattle.verify.specs.declared.keys.Used.{Used}

@@ -1,12 +1,12 @@
 // Words 0 to 3 and the two chains: is each record met exactly once.
 // Each function requires what the tests before it have shown.
-use records::capacity;
+use words::capacity;
 ghost use mathlib.Core.Bool.{true};
 ghost use mathlib.Core.Logic.{_≢_};
 ghost use mathlib.Core.Path.{_≡_};
 ghost use Prim.Native.Nat.{_≤_};
 ghost use Rattle.model.specs.Buffer.{word, capacityOf};
-ghost use Rattle.support.specs.Presence.{Walkable};
+ghost use Rattle.presence.specs.Presence.{Walkable};
 ghost use Rattle.verify.specs.Checks.{headsFit, stoppedWalk, walkedOn, walkedFrom, stepped, inRun, alongRun, FreeWalk, linksRight};
 
 // A walk of a chain over at most C records.
@@ -40,13 +40,13 @@ pub fn heads_fit(b: &[u32]) -> bool
         return false;
     }
     let c = capacity(b);
-    if records::head_word(b, 0) != c {
+    if words::head_word(b, 0) != c {
         return false;
     }
-    if records::head_word(b, 1) > c {
+    if words::head_word(b, 1) > c {
         return false;
     }
-    records::head_word(b, 2) <= c
+    words::head_word(b, 2) <= c
 }
 
 // A walk that is given up.
@@ -72,7 +72,7 @@ pub fn step(b: &[u32], c: usize, w: Walk) -> Walk
         return w;
     }
     Walk {
-        at: records::next_of(b, w.at),
+        at: words::next_of(b, w.at),
         left: w.left - 1,
         last: w.at,
     }
@@ -90,7 +90,7 @@ fn in_run(b: &[u32], c: usize, at: usize) -> bool
         return false;
     }
     let after = at + 1;
-    records::next_of(b, at) == after
+    words::next_of(b, at) == after
 }
 
 // Walks on as far as each next is the record after, as in a fresh store: there no read waits for the one before it.
@@ -132,7 +132,7 @@ fn finish(b: &[u32], w: Walk) -> Walked
             b,
             c,
             Walk {
-                at: records::next_of(b, at),
+                at: words::next_of(b, at),
                 left: left - 1,
                 last: at,
             },
@@ -164,5 +164,5 @@ pub fn chains_right(b: &[u32], used: Walked, w: Walk) -> bool
     if used.last == free.last {
         return false;
     }
-    records::head_word(b, 3) == used.count
+    words::head_word(b, 3) == used.count
 }

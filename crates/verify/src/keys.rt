@@ -2,15 +2,15 @@
 use super::chains::Walk;
 use super::chains::step;
 use model::Key;
-use records::capacity;
-use records::node_key;
-use support::ends::Found;
-use support::ends::take;
+use presence::ends::Found;
+use presence::ends::take;
+use words::capacity;
+use words::node_key;
 ghost use mathlib.Core.Bool.{true};
 ghost use mathlib.Core.Path.{_≡_};
 ghost use lib.ListN.{length};
 ghost use Rattle.model.specs.Buffer.{word, smallKey};
-ghost use Rattle.support.specs.Presence.{Walkable, shapedKey, goodKey, Marks, keptCount};
+ghost use Rattle.presence.specs.Presence.{Walkable, shapedKey, goodKey, Marks, keptCount};
 ghost use Rattle.verify.specs.Checks.{mayMeet, keyFollows, startsRight, stoppedUsed, walkedOf, usedWalk, usedRunOf, UsedFound};
 
 // Are the words of a key at most 65,535.
@@ -59,7 +59,7 @@ fn key_follows(key: Key, k: Key) -> bool
     if !key_good(k) {
         return false;
     }
-    records::key_below(key, k)
+    words::key_below(key, k)
 }
 
 // What the walk of the used chain finds.
@@ -114,11 +114,11 @@ fn starts_right(b: &[u32]) -> bool
     requires { ⌜ Walkable (now b) ⌝ }
     ensures { λ r. ⌜ r ≡ startsRight (now (b .entry)) ⌝ }
 {
-    let head = records::head_word(b, 1);
+    let head = words::head_word(b, 1);
     if head == 0 {
         return false;
     }
-    records::key_same(records::key_of(b, head), node_key(0, 0))
+    words::key_same(words::key_of(b, head), node_key(0, 0))
 }
 
 // The walk of the free chain, at its head.
@@ -127,7 +127,7 @@ fn free_start(b: &[u32], c: usize) -> Walk
     ensures { λ r. ⌜ r ≡ record { at = word (now (b .entry)) 2; left = c; last = 0 } ⌝ }
 {
     Walk {
-        at: records::head_word(b, 2),
+        at: words::head_word(b, 2),
         left: c,
         last: 0,
     }
@@ -161,15 +161,15 @@ pub fn walk_used(b: &[u32], marks: &mut [u32], list: &mut [u16]) -> Used
         kept: 0,
     };
     let mut left = c - 1;
-    let mut last = records::head_word(b, 1);
-    let mut at = records::next_of(b, last);
+    let mut last = words::head_word(b, 1);
+    let mut at = words::next_of(b, last);
     while at != 0 {
         if !may_meet(c, left, at) {
             return stopped();
         }
-        let k = records::key_of(b, at);
-        let after = records::next_of(b, at);
-        let key = records::key_of(b, last);
+        let k = words::key_of(b, at);
+        let after = words::next_of(b, at);
+        let key = words::key_of(b, last);
         if !key_follows(key, k) {
             return stopped();
         }

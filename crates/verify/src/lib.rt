@@ -3,11 +3,11 @@ mod chains;
 mod keys;
 
 use chains::Walked;
-use support::named_right;
+use presence::named_right;
 ghost use mathlib.Core.Bool.{_&&_};
 ghost use mathlib.Core.Path.{_≡_};
 ghost use Rattle.model.specs.Buffer.{tuplesOf, sound, isStore};
-ghost use Rattle.support.specs.Presence.{Walkable};
+ghost use Rattle.presence.specs.Presence.{Walkable};
 ghost use Rattle.verify.specs.Checks.{linksRight};
 
 // Are the chains and the tuples of the used chain right; marks and list are local to one check.

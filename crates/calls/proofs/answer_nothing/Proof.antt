@@ -6,9 +6,9 @@ use Rattle.calls.proofs.answer_nothing.Statement.{statement}
 use Rattle.calls.proofs.answer_nothing.Tie as tie
 use Rattle.calls.proofs.answer_nothing.Reads as reads
 use Rattle.calls.proofs.answer_nothing.Lts as lts
-use Rattle.decode.proofs.operator_of.Reads as operator-of-reads
-use Rattle.decode.proofs.row_of.Reads as row-of-reads
-use Rattle.decode.proofs.zero_name.Reads as zero-name-reads
+use Rattle.operators.proofs.operator_of.Reads as operator-of-reads
+use Rattle.operators.proofs.row_of.Reads as row-of-reads
+use Rattle.operators.proofs.zero_name.Reads as zero-name-reads
 use Rattle.perform.proofs.idle.Reads as idle-reads
 
 pub answer-nothing-spec : {M : Type 1} → statement M

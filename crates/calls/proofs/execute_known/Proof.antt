@@ -14,9 +14,9 @@ use Rattle.calls.proofs.list_at_once.Reads as list-at-once-reads
 use Rattle.located.proofs.also_in_universe.Reads as also-in-universe-reads
 use Rattle.located.proofs.locate.Reads as locate-reads
 use Rattle.located.proofs.locate_universe.Reads as locate-universe-reads
-use Rattle.decode.proofs.operator_of.Reads as operator-of-reads
-use Rattle.decode.proofs.row_of.Reads as row-of-reads
-use Rattle.decode.proofs.selects_nothing.Reads as selects-nothing-reads
+use Rattle.operators.proofs.operator_of.Reads as operator-of-reads
+use Rattle.operators.proofs.row_of.Reads as row-of-reads
+use Rattle.operators.proofs.selects_nothing.Reads as selects-nothing-reads
 use Rattle.perform.proofs.perform.Reads as perform-reads
 use Rattle.refusals.proofs.refusal_of.Reads as refusal-of-reads
 

@@ -2,16 +2,16 @@ use Rattle.calls.proofs.AtOnce.{other-operator, name-zero, no-room, roo
 use Rattle.located.proofs.Nearby.{nowhere-near}
 use Rattle.model.proofs.Bools.{not-no, not-yes}
 use Rattle.edit.proofs.Built.{store-linked}
-use Rattle.listing.proofs.Stores.{store-readable}
+use Rattle.listings.proofs.Stores.{store-readable}
 use borrow.Author.Needs.{needs}
 use Rattle.calls.proofs.list_at_once.Statement.{statement}
 use Rattle.calls.proofs.list_at_once.Tie as tie
 use Rattle.calls.proofs.list_at_once.Reads as reads
 use Rattle.calls.proofs.list_at_once.Lts as lts
-use Rattle.decode.proofs.reads_of.Reads as reads-of-reads
-use Rattle.decode.proofs.zero_name.Reads as zero-name-reads
-use Rattle.listing.proofs.surely_fits.Reads as surely-fits-reads
-use Rattle.listing.proofs.write_listed.Reads as write-listed-reads
+use Rattle.operators.proofs.reads_of.Reads as reads-of-reads
+use Rattle.operators.proofs.zero_name.Reads as zero-name-reads
+use Rattle.listings.proofs.surely_fits.Reads as surely-fits-reads
+use Rattle.listings.proofs.write_listed.Reads as write-listed-reads
 
 -- src/lib.rt:23:9
 returns : tie.Need-returns

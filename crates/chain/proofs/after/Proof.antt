@@ -5,8 +5,8 @@ use Rattle.chain.proofs.after.Statement.{statement}
 use Rattle.chain.proofs.after.Tie as tie
 use Rattle.chain.proofs.after.Reads as reads
 use Rattle.chain.proofs.after.Lts as lts
-use Rattle.records.proofs.head_word.Reads as head-word-reads
-use Rattle.records.proofs.next_of.Reads as next-of-reads
+use Rattle.words.proofs.head_word.Reads as head-word-reads
+use Rattle.words.proofs.next_of.Reads as next-of-reads
 
 -- src/lib.rt:36:9
 head-word-requires : tie.Need-head-word-requires

@@ -6,7 +6,7 @@ use Rattle.chain.proofs.find.Reads as reads
 use Rattle.chain.proofs.find.Lts as lts
 use Rattle.chain.proofs.seek.Reads as seek-reads
 use Rattle.chain.proofs.used_key.Reads as used-key-reads
-use Rattle.records.proofs.key_same.Reads as key-same-reads
+use Rattle.words.proofs.key_same.Reads as key-same-reads
 
 -- src/lib.rt:73:9
 seek-requires : tie.Need-seek-requires

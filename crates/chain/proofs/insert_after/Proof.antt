@@ -5,11 +5,11 @@ use Rattle.chain.proofs.insert_after.Statement.{statement}
 use Rattle.chain.proofs.insert_after.Tie as tie
 use Rattle.chain.proofs.insert_after.Reads as reads
 use Rattle.chain.proofs.insert_after.Lts as lts
-use Rattle.records.proofs.head_word.Reads as head-word-reads
-use Rattle.records.proofs.next_of.Reads as next-of-reads
-use Rattle.records.proofs.put_head_word.Reads as put-head-word-reads
-use Rattle.records.proofs.put_next.Reads as put-next-reads
-use Rattle.records.proofs.put_tuple.Reads as put-tuple-reads
+use Rattle.words.proofs.head_word.Reads as head-word-reads
+use Rattle.words.proofs.next_of.Reads as next-of-reads
+use Rattle.words.proofs.put_head_word.Reads as put-head-word-reads
+use Rattle.words.proofs.put_next.Reads as put-next-reads
+use Rattle.words.proofs.put_tuple.Reads as put-tuple-reads
 
 -- src/lib.rt:41:9
 head-word-requires : tie.Need-head-word-requires

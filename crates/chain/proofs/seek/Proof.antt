@@ -8,9 +8,9 @@ use Rattle.chain.proofs.seek.Reads as reads
 use Rattle.chain.proofs.seek.Lts as lts
 use Rattle.chain.proofs.after.Reads as after-reads
 use Rattle.chain.proofs.start_of.Reads as start-of-reads
-use Rattle.records.proofs.key_below.Reads as key-below-reads
+use Rattle.words.proofs.key_below.Reads as key-below-reads
 use Rattle.chain.proofs.used_key.Reads as used-key-reads
-use Rattle.records.proofs.next_of.Reads as next-of-reads
+use Rattle.words.proofs.next_of.Reads as next-of-reads
 
 abbrev Inv-loop : tie.InvT-loop
 Inv-loop b hint k before₀ at₀ before at = Seeking b k before at

@@ -7,7 +7,7 @@ use Rattle.chain.proofs.start_of.Statement.{statement}
 use Rattle.chain.proofs.start_of.Tie as tie
 use Rattle.chain.proofs.start_of.Reads as reads
 use Rattle.chain.proofs.start_of.Lts as lts
-use Rattle.records.proofs.key_below.Reads as key-below-reads
+use Rattle.words.proofs.key_below.Reads as key-below-reads
 use Rattle.chain.proofs.used_key.Reads as used-key-reads
 
 -- src/lib.rt:22:9

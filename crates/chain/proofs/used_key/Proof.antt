@@ -1,6 +1,6 @@
 use mathlib.Core.Path.{sym, ap, _∙_, subst}
 use Rattle.model.specs.Buffer.{keyAt}
-use Rattle.records.specs.Words.{Inside}
+use Rattle.words.specs.Words.{Inside}
 use Rattle.chain.proofs.Places.{same-number}
 use Rattle.chain.proofs.used_key.Statement.{statement}
 use Rattle.chain.proofs.used_key.Tie as tie

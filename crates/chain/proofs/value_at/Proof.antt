@@ -5,7 +5,7 @@ use Rattle.chain.proofs.value_at.Tie as tie
 use Rattle.chain.proofs.value_at.Reads as reads
 use Rattle.chain.proofs.value_at.Lts as lts
 use Rattle.chain.proofs.find.Reads as find-reads
-use Rattle.records.proofs.value_of.Reads as value-of-reads
+use Rattle.words.proofs.value_of.Reads as value-of-reads
 
 -- src/lib.rt:97:9
 find-requires : tie.Need-find-requires

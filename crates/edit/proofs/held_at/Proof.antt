@@ -5,7 +5,7 @@ use Rattle.edit.proofs.held_at.Tie as tie
 use Rattle.edit.proofs.held_at.Reads as reads
 use Rattle.edit.proofs.held_at.Lts as lts
 use Rattle.chain.proofs.used_key.Reads as used-key-reads
-use Rattle.records.proofs.key_same.Reads as key-same-reads
+use Rattle.words.proofs.key_same.Reads as key-same-reads
 
 -- src/lib.rt:17:9
 returns : tie.Need-returns

@@ -5,7 +5,7 @@ use Rattle.edit.proofs.keep_or_remove.Tie as tie
 use Rattle.edit.proofs.keep_or_remove.Reads as reads
 use Rattle.edit.proofs.keep_or_remove.Lts as lts
 use Rattle.chain.proofs.remove_after.Reads as remove-after-reads
-use Rattle.select.proofs.takes.Reads as takes-reads
+use Rattle.taken.proofs.takes.Reads as takes-reads
 
 -- src/lib.rt:58:8
 takes-requires : tie.Need-takes-requires

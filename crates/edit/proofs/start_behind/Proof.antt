@@ -6,7 +6,7 @@ use Rattle.edit.proofs.start_behind.Tie as tie
 use Rattle.edit.proofs.start_behind.Reads as reads
 use Rattle.edit.proofs.start_behind.Lts as lts
 use Rattle.chain.proofs.seek.Reads as seek-reads
-use Rattle.records.proofs.head_word.Reads as head-word-reads
+use Rattle.words.proofs.head_word.Reads as head-word-reads
 
 -- src/lib.rt:76:9
 seek-requires : tie.Need-seek-requires

@@ -8,10 +8,10 @@ use Rattle.edit.proofs.sweep.Reads as reads
 use Rattle.edit.proofs.sweep.Lts as lts
 use Rattle.edit.proofs.keep_or_remove.Reads as keep-or-remove-reads
 use Rattle.edit.proofs.start_behind.Reads as start-behind-reads
-use Rattle.records.proofs.key_of.Reads as key-of-reads
-use Rattle.records.proofs.next_of.Reads as next-of-reads
-use Rattle.select.proofs.is_beyond.Reads as is-beyond-reads
-use Rattle.select.proofs.span_of.Reads as span-of-reads
+use Rattle.words.proofs.key_of.Reads as key-of-reads
+use Rattle.words.proofs.next_of.Reads as next-of-reads
+use Rattle.taken.proofs.is_beyond.Reads as is-beyond-reads
+use Rattle.taken.proofs.span_of.Reads as span-of-reads
 
 abbrev Inv-loop : tie.InvT-loop
 Inv-loop b₀ hint sel span before₀ at₀ b before at = Sweeping b₀ sel b before at

@@ -9,7 +9,7 @@ use Rattle.fresh.proofs.chain_free.Statement.{statement}
 use Rattle.fresh.proofs.chain_free.Tie as tie
 use Rattle.fresh.proofs.chain_free.Reads as reads
 use Rattle.fresh.proofs.chain_free.Lts as lts
-use Rattle.records.proofs.put_next.Reads as put-next-reads
+use Rattle.words.proofs.put_next.Reads as put-next-reads
 use Rattle.fresh.proofs.follower_of.Reads as follower-of-reads
 
 abbrev Inv-loop : tie.InvT-loop

@@ -1,4 +1,4 @@
-use Rattle.records.proofs.Sizes.{few-records, room, too-short, too-long}
+use Rattle.words.proofs.Sizes.{few-records, room, too-short, too-long}
 use Rattle.fresh.proofs.Preparing.{prepares, after-prepared, refused, after-refused}
 use native.Mathlib.Omega.{arith}
 use borrow.Author.Needs.{needs}
@@ -6,7 +6,7 @@ use Rattle.fresh.proofs.prepare.Statement.{statement}
 use Rattle.fresh.proofs.prepare.Tie as tie
 use Rattle.fresh.proofs.prepare.Reads as reads
 use Rattle.fresh.proofs.prepare.Lts as lts
-use Rattle.records.proofs.capacity.Reads as capacity-reads
+use Rattle.words.proofs.capacity.Reads as capacity-reads
 use Rattle.fresh.proofs.chain_free.Reads as chain-free-reads
 use Rattle.fresh.proofs.put_heads.Reads as put-heads-reads
 use Rattle.fresh.proofs.put_universe.Reads as put-universe-reads

@@ -6,7 +6,7 @@ use Rattle.fresh.proofs.put_heads.Statement.{statement}
 use Rattle.fresh.proofs.put_heads.Tie as tie
 use Rattle.fresh.proofs.put_heads.Reads as reads
 use Rattle.fresh.proofs.put_heads.Lts as lts
-use Rattle.records.proofs.put_head_word.Reads as put-head-word-reads
+use Rattle.words.proofs.put_head_word.Reads as put-head-word-reads
 use Rattle.fresh.proofs.follower_of.Reads as follower-of-reads
 
 follower-of-requires : tie.Need-follower-of-requires

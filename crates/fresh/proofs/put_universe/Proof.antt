@@ -4,9 +4,9 @@ use Rattle.fresh.proofs.put_universe.Statement.{statement}
 use Rattle.fresh.proofs.put_universe.Tie as tie
 use Rattle.fresh.proofs.put_universe.Reads as reads
 use Rattle.fresh.proofs.put_universe.Lts as lts
-use Rattle.records.proofs.put_next.Reads as put-next-reads
-use Rattle.records.proofs.put_tuple.Reads as put-tuple-reads
-use Rattle.records.proofs.node_key.Reads as node-key-reads
+use Rattle.words.proofs.put_next.Reads as put-next-reads
+use Rattle.words.proofs.put_tuple.Reads as put-tuple-reads
+use Rattle.words.proofs.node_key.Reads as node-key-reads
 
 node-key-requires : tie.Need-node-key-requires
 node-key-requires c κs = search needs

@@ -8,10 +8,10 @@ use Rattle.lines.proofs.in_order.Statement.{statement}
 use Rattle.lines.proofs.in_order.Tie as tie
 use Rattle.lines.proofs.in_order.Reads as reads
 use Rattle.lines.proofs.in_order.Lts as lts
-use Rattle.decode.proofs.reads_of.Reads as reads-of-reads
+use Rattle.operators.proofs.reads_of.Reads as reads-of-reads
 use Rattle.lines.proofs.arguments.field_at.Reads as field-at-reads
 use Rattle.lines.proofs.arguments.space_at.Reads as space-at-reads
-use Rattle.decode.proofs.space_optional.Reads as space-optional-reads
+use Rattle.operators.proofs.space_optional.Reads as space-optional-reads
 use Rattle.lines.proofs.completed.Reads as completed-reads
 
 reads-of-requires : tie.Need-reads-of-requires

@@ -4,7 +4,7 @@ use Rattle.located.proofs.also_in_universe.Statement.{statement}
 use Rattle.located.proofs.also_in_universe.Tie as tie
 use Rattle.located.proofs.also_in_universe.Reads as reads
 use Rattle.located.proofs.also_in_universe.Lts as lts
-use Rattle.operate.proofs.fields_of.Reads as fields-of-reads
+use Rattle.steps.proofs.fields_of.Reads as fields-of-reads
 
 -- src/lib.rt:104:9
 fields-of-requires : tie.Need-fields-of-requires

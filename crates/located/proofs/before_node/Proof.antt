@@ -5,7 +5,7 @@ use Rattle.located.proofs.before_node.Tie as tie
 use Rattle.located.proofs.before_node.Reads as reads
 use Rattle.located.proofs.before_node.Lts as lts
 use Rattle.chain.proofs.seek.Reads as seek-reads
-use Rattle.records.proofs.node_key.Reads as node-key-reads
+use Rattle.words.proofs.node_key.Reads as node-key-reads
 
 -- src/lib.rt:34:38
 node-key-requires : tie.Need-node-key-requires

@@ -10,7 +10,7 @@ use Rattle.located.proofs.locate_nodes.Reads as locate-nodes-reads
 use Rattle.located.proofs.seek_node.Reads as seek-node-reads
 use Rattle.located.proofs.space_alone.Reads as space-alone-reads
 use Rattle.located.proofs.with_node.Reads as with-node-reads
-use Rattle.operate.proofs.fields_of.Reads as fields-of-reads
+use Rattle.steps.proofs.fields_of.Reads as fields-of-reads
 
 pub locate-spec : {M : Type 1} → statement M
 locate-spec =

@@ -7,7 +7,7 @@ use Rattle.located.proofs.locate_universe.Reads as reads
 use Rattle.located.proofs.locate_universe.Lts as lts
 use Rattle.located.proofs.near_nodes.Reads as near-nodes-reads
 use Rattle.located.proofs.nowhere.Reads as nowhere-reads
-use Rattle.operate.proofs.fields_of.Reads as fields-of-reads
+use Rattle.steps.proofs.fields_of.Reads as fields-of-reads
 
 pub locate-universe-spec : {M : Type 1} → statement M
 locate-universe-spec =

@@ -7,7 +7,7 @@ use Rattle.located.proofs.seek_node.Tie as tie
 use Rattle.located.proofs.seek_node.Reads as reads
 use Rattle.located.proofs.seek_node.Lts as lts
 use Rattle.chain.proofs.seek.Reads as seek-reads
-use Rattle.records.proofs.node_key.Reads as node-key-reads
+use Rattle.words.proofs.node_key.Reads as node-key-reads
 use Rattle.edit.proofs.held_at.Reads as held-at-reads
 
 -- src/lib.rt:142:9

@@ -5,8 +5,8 @@ use Rattle.perform.proofs.destroy.Statement.{statement}
 use Rattle.perform.proofs.destroy.Tie as tie
 use Rattle.perform.proofs.destroy.Reads as reads
 use Rattle.perform.proofs.destroy.Lts as lts
-use Rattle.collect.proofs.destroy_nodes.Reads as destroy-nodes-reads
-use Rattle.collect.proofs.destroy_nodes_by_edge.Reads as destroy-nodes-by-edge-reads
+use Rattle.removals.proofs.destroy_nodes.Reads as destroy-nodes-reads
+use Rattle.removals.proofs.destroy_nodes_by_edge.Reads as destroy-nodes-by-edge-reads
 use Rattle.removals.proofs.destroy_edges.Reads as destroy-edges-reads
 use Rattle.removals.proofs.destroy_edges_between.Reads as destroy-edges-between-reads
 use Rattle.removals.proofs.destroy_edges_named.Reads as destroy-edges-named-reads

@@ -5,7 +5,7 @@ use Rattle.perform.proofs.first_argument.Tie as tie
 use Rattle.perform.proofs.first_argument.Reads as reads
 use Rattle.perform.proofs.first_argument.Lts as lts
 use Rattle.perform.proofs.space_name.Reads as space-name-reads
-use Rattle.decode.proofs.row_of.Reads as row-of-reads
+use Rattle.operators.proofs.row_of.Reads as row-of-reads
 
 pub first-argument-spec : {M : Type 1} → statement M
 first-argument-spec =

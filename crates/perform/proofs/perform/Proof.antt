@@ -1,16 +1,16 @@
 use Rattle.perform.proofs.Performs.{ready-as, create-performed, bind-performed, value-performed, exists-performed, destroy-performed, list-performed}
 use Rattle.edit.proofs.Built.{store-linked}
-use Rattle.listing.proofs.Stores.{store-readable}
+use Rattle.listings.proofs.Stores.{store-readable}
 use borrow.Author.Needs.{needs}
 use Rattle.perform.proofs.perform.Statement.{statement}
 use Rattle.perform.proofs.perform.Tie as tie
 use Rattle.perform.proofs.perform.Reads as reads
 use Rattle.perform.proofs.perform.Lts as lts
-use Rattle.listing.proofs.write_listed.Reads as write-listed-reads
-use Rattle.operate.proofs.bind.Reads as bind-reads
-use Rattle.operate.proofs.create.Reads as create-reads
-use Rattle.operate.proofs.exists.Reads as exists-reads
-use Rattle.operate.proofs.value_of.Reads as value-of-reads
+use Rattle.listings.proofs.write_listed.Reads as write-listed-reads
+use Rattle.steps.proofs.bind.Reads as bind-reads
+use Rattle.steps.proofs.create.Reads as create-reads
+use Rattle.steps.proofs.exists.Reads as exists-reads
+use Rattle.steps.proofs.value_of.Reads as value-of-reads
 use Rattle.perform.proofs.destroy.Reads as destroy-reads
 use Rattle.perform.proofs.first_argument.Reads as first-argument-reads
 

@@ -7,7 +7,7 @@ use Rattle.refusals.proofs.count_added.Statement.{statement}
 use Rattle.refusals.proofs.count_added.Tie as tie
 use Rattle.refusals.proofs.count_added.Reads as reads
 use Rattle.refusals.proofs.count_added.Lts as lts
-use Rattle.operate.proofs.count_created.Reads as count-created-reads
+use Rattle.steps.proofs.count_created.Reads as count-created-reads
 
 -- src/lib.rt:55:26
 enum-known-op : tie.Need-enum-known-op

@@ -4,7 +4,7 @@ use Rattle.refusals.proofs.free_records.Statement.{statement}
 use Rattle.refusals.proofs.free_records.Tie as tie
 use Rattle.refusals.proofs.free_records.Reads as reads
 use Rattle.refusals.proofs.free_records.Lts as lts
-use Rattle.records.proofs.head_word.Reads as head-word-reads
+use Rattle.words.proofs.head_word.Reads as head-word-reads
 
 -- src/lib.rt:61:5
 head-word-requires : tie.Need-head-word-requires

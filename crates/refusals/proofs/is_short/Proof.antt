@@ -1,4 +1,4 @@
-use Rattle.listing.proofs.Stores.{names-asked}
+use Rattle.listings.proofs.Stores.{names-asked}
 use Rattle.refusals.proofs.Stops.{short-as, never-short}
 use Rattle.model.specs.Steps.{wouldList}
 use mathlib.Core.Path.{refl, sym, _∙_}

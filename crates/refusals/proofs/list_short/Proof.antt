@@ -1,14 +1,14 @@
 use Rattle.edit.proofs.Built.{store-linked}
-use Rattle.listing.proofs.Stores.{store-readable}
-use Rattle.listing.proofs.Asked.{surely-not-short}
+use Rattle.listings.proofs.Stores.{store-readable}
+use Rattle.listings.proofs.Asked.{surely-not-short}
 use mathlib.Core.Path.{ap}
 use lib.Dec.{ltb}
 use Rattle.refusals.proofs.list_short.Statement.{statement}
 use Rattle.refusals.proofs.list_short.Tie as tie
 use Rattle.refusals.proofs.list_short.Reads as reads
 use Rattle.refusals.proofs.list_short.Lts as lts
-use Rattle.listing.proofs.count_listed.Reads as count-listed-reads
-use Rattle.listing.proofs.surely_fits.Reads as surely-fits-reads
+use Rattle.listings.proofs.count_listed.Reads as count-listed-reads
+use Rattle.listings.proofs.surely_fits.Reads as surely-fits-reads
 
 -- src/lib.rt:26:8
 surely-fits-requires : tie.Need-surely-fits-requires

@@ -6,8 +6,8 @@ use Rattle.refusals.proofs.node_absent.Tie as tie
 use Rattle.refusals.proofs.node_absent.Reads as reads
 use Rattle.refusals.proofs.node_absent.Lts as lts
 use Rattle.refusals.proofs.key_absent.Reads as key-absent-reads
-use Rattle.records.proofs.node_key.Reads as node-key-reads
-use Rattle.operate.proofs.fields_of.Reads as fields-of-reads
+use Rattle.words.proofs.node_key.Reads as node-key-reads
+use Rattle.steps.proofs.fields_of.Reads as fields-of-reads
 
 pub node-absent-spec : {M : Type 1} → statement M
 node-absent-spec =

@@ -6,7 +6,7 @@ use Rattle.refusals.proofs.object_absent.Statement.{statement}
 use Rattle.refusals.proofs.object_absent.Tie as tie
 use Rattle.refusals.proofs.object_absent.Reads as reads
 use Rattle.refusals.proofs.object_absent.Lts as lts
-use Rattle.operate.proofs.exists.Reads as exists-reads
+use Rattle.steps.proofs.exists.Reads as exists-reads
 
 enum-known-op : tie.Need-enum-known-op
 enum-known-op c = search needs

@@ -13,9 +13,9 @@ use Rattle.refusals.proofs.is_short.Reads as is-short-reads
 use Rattle.refusals.proofs.node_absent.Reads as node-absent-reads
 use Rattle.refusals.proofs.second_absent.Reads as second-absent-reads
 use Rattle.refusals.proofs.space_absent.Reads as space-absent-reads
-use Rattle.decode.proofs.destroys_universe.Reads as destroys-universe-reads
-use Rattle.decode.proofs.operator_of.Reads as operator-of-reads
-use Rattle.decode.proofs.zero_name.Reads as zero-name-reads
+use Rattle.operators.proofs.destroys_universe.Reads as destroys-universe-reads
+use Rattle.operators.proofs.operator_of.Reads as operator-of-reads
+use Rattle.operators.proofs.zero_name.Reads as zero-name-reads
 
 at-start : tie.Else6 → tie.Start
 at-start c = c .before .before .before .before .before .before .before .before .before .before .before .before .before .before .before .before .before

@@ -1,4 +1,4 @@
-use Rattle.select.specs.Selections.{takenBy}
+use Rattle.taken.specs.Selections.{takenBy}
 use Rattle.model.proofs.Taken.{node-fair}
 use borrow.Author.Needs.{needs}
 use Rattle.removals.proofs.remove_node.Statement.{statement}

@@ -1,9 +1,9 @@
 use borrow.Author.Tests.{not-true, not-false}
 use Prim.Native.Nat.{ℕ}
 use lib.ListN.{length-replicate}
-use Rattle.support.specs.Presence.{keptCount}
+use Rattle.presence.specs.Presence.{keptCount}
 use Rattle.verify.specs.Checks.{walkedOf}
-use Rattle.support.proofs.Hints.{no-marks}
+use Rattle.presence.proofs.Hints.{no-marks}
 use Rattle.verify.proofs.Parts.{right-no-walk, right-walk, right-sorted, right-no-chains, right-named}
 use borrow.Author.Needs.{needs}
 use Rattle.verify.proofs.records_right.Statement.{statement}
@@ -12,7 +12,7 @@ use Rattle.verify.proofs.records_right.Reads as reads
 use Rattle.verify.proofs.records_right.Lts as lts
 use Rattle.verify.proofs.chains.chains_right.Reads as chains-right-reads
 use Rattle.verify.proofs.keys.walk_used.Reads as walk-used-reads
-use Rattle.support.proofs.named_right.Reads as named-right-reads
+use Rattle.presence.proofs.named_right.Reads as named-right-reads
 
 slice-aggregate-walk-used : tie.Need-slice-aggregate-walk-used
 slice-aggregate-walk-used c = search needs

@@ -1,16 +1,16 @@
 use borrow.Author.Tests.{not-true, not-false}
 use native.Mathlib.Omega.{arith}
 use mathlib.Core.Path.{_∙_}
-use Rattle.records.proofs.Sizes.{few-records}
+use Rattle.words.proofs.Sizes.{few-records}
 use Rattle.verify.proofs.Walks.{found-most, no-free, no-count, no-last, all-right}
 use borrow.Author.Needs.{needs}
 use Rattle.verify.proofs.chains.chains_right.Statement.{statement}
 use Rattle.verify.proofs.chains.chains_right.Tie as tie
 use Rattle.verify.proofs.chains.chains_right.Reads as reads
 use Rattle.verify.proofs.chains.chains_right.Lts as lts
-use Rattle.records.proofs.head_word.Reads as head-word-reads
+use Rattle.words.proofs.head_word.Reads as head-word-reads
 use Rattle.verify.proofs.chains.finish.Reads as finish-reads
-use Rattle.records.proofs.capacity.Reads as capacity-reads
+use Rattle.words.proofs.capacity.Reads as capacity-reads
 
 finish-requires : tie.Need-finish-requires
 finish-requires c κs = (c .before .pre .0, c .before .pre .3 .few)

@@ -4,16 +4,16 @@ use Prim.Native.Nat.{ℕ, _≤_, _-_}
 use native.Mathlib.Omega.{arith}
 use Rattle.model.specs.Buffer.{capacityOf}
 use Rattle.verify.specs.Checks.{walkedOn}
-use Rattle.support.proofs.Rest.{record-inside}
+use Rattle.presence.proofs.Rest.{record-inside}
 use Rattle.verify.proofs.Walks.{walked-run, walked-end, walked-long, walked-far}
 use Rattle.verify.proofs.chains.finish.Statement.{statement}
 use Rattle.verify.proofs.chains.finish.Tie as tie
 use Rattle.verify.proofs.chains.finish.Reads as reads
 use Rattle.verify.proofs.chains.finish.Lts as lts
-use Rattle.records.proofs.next_of.Reads as next-of-reads
+use Rattle.words.proofs.next_of.Reads as next-of-reads
 use Rattle.verify.proofs.chains.along_run.Reads as along-run-reads
 use Rattle.verify.proofs.chains.given_up.Reads as given-up-reads
-use Rattle.records.proofs.capacity.Reads as capacity-reads
+use Rattle.words.proofs.capacity.Reads as capacity-reads
 
 abbrev Inv-loop : tie.InvT-loop
 Inv-loop b c left₀ at₀ last₀ left at last = (c ≡ capacityOf b) × (left ≤ capacityOf b) × (walkedOn b (record { at = at; left = left; last = last }) ≡ walkedOn b (record { at = at₀; left = left₀; last = last₀ }))

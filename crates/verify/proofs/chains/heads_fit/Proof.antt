@@ -4,8 +4,8 @@ use Rattle.verify.proofs.chains.heads_fit.Statement.{statement}
 use Rattle.verify.proofs.chains.heads_fit.Tie as tie
 use Rattle.verify.proofs.chains.heads_fit.Reads as reads
 use Rattle.verify.proofs.chains.heads_fit.Lts as lts
-use Rattle.records.proofs.head_word.Reads as head-word-reads
-use Rattle.records.proofs.capacity.Reads as capacity-reads
+use Rattle.words.proofs.head_word.Reads as head-word-reads
+use Rattle.words.proofs.capacity.Reads as capacity-reads
 
 returns : tie.Need-returns
 returns c = heads-short _ (c .if1 .taken)

@@ -1,13 +1,13 @@
 use mathlib.Core.Path.{sym}
 use native.Mathlib.Omega.{arith}
 use Rattle.model.specs.Buffer.{capacityOf}
-use Rattle.support.proofs.Rest.{record-inside}
+use Rattle.presence.proofs.Rest.{record-inside}
 use Rattle.verify.proofs.Walks.{run-none, run-far, run-here}
 use Rattle.verify.proofs.chains.in_run.Statement.{statement}
 use Rattle.verify.proofs.chains.in_run.Tie as tie
 use Rattle.verify.proofs.chains.in_run.Reads as reads
 use Rattle.verify.proofs.chains.in_run.Lts as lts
-use Rattle.records.proofs.next_of.Reads as next-of-reads
+use Rattle.words.proofs.next_of.Reads as next-of-reads
 
 -- src/chains.rt:86:9
 returns : tie.Need-returns

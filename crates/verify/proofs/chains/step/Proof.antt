@@ -1,5 +1,5 @@
-use Rattle.records.proofs.Sizes.{room}
-use Rattle.support.proofs.Rest.{record-inside}
+use Rattle.words.proofs.Sizes.{room}
+use Rattle.presence.proofs.Rest.{record-inside}
 use Rattle.verify.proofs.Walks.{step-ended, step-far, step-on}
 use native.Mathlib.Omega.{arith}
 use borrow.Author.Needs.{needs}
@@ -7,7 +7,7 @@ use Rattle.verify.proofs.chains.step.Statement.{statement}
 use Rattle.verify.proofs.chains.step.Tie as tie
 use Rattle.verify.proofs.chains.step.Reads as reads
 use Rattle.verify.proofs.chains.step.Lts as lts
-use Rattle.records.proofs.next_of.Reads as next-of-reads
+use Rattle.words.proofs.next_of.Reads as next-of-reads
 
 returns : tie.Need-returns
 returns c = step-ended (c .before .before .before .args .b .now) (c .before .before .before .args .w) (c .if1 .taken)

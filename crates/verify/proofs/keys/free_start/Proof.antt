@@ -6,7 +6,7 @@ use Rattle.verify.proofs.keys.free_start.Statement.{statement}
 use Rattle.verify.proofs.keys.free_start.Tie as tie
 use Rattle.verify.proofs.keys.free_start.Reads as reads
 use Rattle.verify.proofs.keys.free_start.Lts as lts
-use Rattle.records.proofs.head_word.Reads as head-word-reads
+use Rattle.words.proofs.head_word.Reads as head-word-reads
 
 head-word-requires : tie.Need-head-word-requires
 head-word-requires c κs = search needs

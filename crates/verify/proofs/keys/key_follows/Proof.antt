@@ -5,7 +5,7 @@ use Rattle.verify.proofs.keys.key_follows.Statement.{statement}
 use Rattle.verify.proofs.keys.key_follows.Tie as tie
 use Rattle.verify.proofs.keys.key_follows.Reads as reads
 use Rattle.verify.proofs.keys.key_follows.Lts as lts
-use Rattle.records.proofs.key_below.Reads as key-below-reads
+use Rattle.words.proofs.key_below.Reads as key-below-reads
 use Rattle.verify.proofs.keys.key_good.Reads as key-good-reads
 
 key-good-requires : tie.Need-key-good-requires

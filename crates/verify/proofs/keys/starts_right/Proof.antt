@@ -1,15 +1,15 @@
 use native.Mathlib.Omega.{arith}
-use Rattle.support.proofs.Rest.{record-inside}
+use Rattle.presence.proofs.Rest.{record-inside}
 use Rattle.verify.proofs.OneWalk.{starts-none, starts-some}
 use borrow.Author.Needs.{needs}
 use Rattle.verify.proofs.keys.starts_right.Statement.{statement}
 use Rattle.verify.proofs.keys.starts_right.Tie as tie
 use Rattle.verify.proofs.keys.starts_right.Reads as reads
 use Rattle.verify.proofs.keys.starts_right.Lts as lts
-use Rattle.records.proofs.head_word.Reads as head-word-reads
-use Rattle.records.proofs.key_of.Reads as key-of-reads
-use Rattle.records.proofs.key_same.Reads as key-same-reads
-use Rattle.records.proofs.node_key.Reads as node-key-reads
+use Rattle.words.proofs.head_word.Reads as head-word-reads
+use Rattle.words.proofs.key_of.Reads as key-of-reads
+use Rattle.words.proofs.key_same.Reads as key-same-reads
+use Rattle.words.proofs.node_key.Reads as node-key-reads
 
 head-word-requires : tie.Need-head-word-requires
 head-word-requires c κs = omega (arith, c .before .pre .least)

@@ -7,26 +7,26 @@ use mathlib.Core.Path.{_≡_, sym, ap, _∙_, subst}
 use Rattle.model.specs.Buffer.{capacityOf}
 use Rattle.verify.specs.Checks.{walkedOf, UsedFound, usedRun, usedRunOf}
 use Rattle.verify.specs.declared.keys.Used.{Used}
-use Rattle.records.proofs.Sizes.{some-record}
-use Rattle.support.proofs.Rest.{record-inside}
+use Rattle.words.proofs.Sizes.{some-record}
+use Rattle.presence.proofs.Rest.{record-inside}
 use Rattle.verify.proofs.OneWalk.{Using, head-some, not-started, using-start, using-far, using-high, using-left, using-low, using-room, using-enough, using-no, using-good, using-next, using-end, using-found}
 use Rattle.verify.proofs.UsedRuns.{run-unstarted, run-started, run-end, run-far, run-no, run-on}
 use Rattle.verify.proofs.keys.walk_used.Statement.{statement}
 use Rattle.verify.proofs.keys.walk_used.Tie as tie
 use Rattle.verify.proofs.keys.walk_used.Reads as reads
 use Rattle.verify.proofs.keys.walk_used.Lts as lts
-use Rattle.records.proofs.head_word.Reads as head-word-reads
-use Rattle.records.proofs.key_of.Reads as key-of-reads
-use Rattle.records.proofs.next_of.Reads as next-of-reads
+use Rattle.words.proofs.head_word.Reads as head-word-reads
+use Rattle.words.proofs.key_of.Reads as key-of-reads
+use Rattle.words.proofs.next_of.Reads as next-of-reads
 use Rattle.verify.proofs.chains.step.Reads as step-reads
-use Rattle.support.proofs.ends.take.Reads as take-reads
+use Rattle.presence.proofs.ends.take.Reads as take-reads
 use Rattle.verify.proofs.keys.ended.Reads as ended-reads
 use Rattle.verify.proofs.keys.free_start.Reads as free-start-reads
 use Rattle.verify.proofs.keys.key_follows.Reads as key-follows-reads
 use Rattle.verify.proofs.keys.may_meet.Reads as may-meet-reads
 use Rattle.verify.proofs.keys.starts_right.Reads as starts-right-reads
 use Rattle.verify.proofs.keys.stopped.Reads as stopped-reads
-use Rattle.records.proofs.capacity.Reads as capacity-reads
+use Rattle.words.proofs.capacity.Reads as capacity-reads
 
 abbrev Inv-loop : tie.InvT-loop
 Inv-loop b marks₀ list₀ c free₀ found₀ left₀ last₀ at₀ marks list free found left last at = (c ≡ capacityOf b) × Using b marks list found left last at free × (usedRun b left at last found free marks list ≡ usedRunOf b marks₀ list₀)

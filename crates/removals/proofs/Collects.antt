@@ -1,0 +1,136 @@
+-- Nodes removed one after the other (specs/Collected.antt).
+use mathlib.Core.List.{List, [], _∷_, _++_, map}
+use mathlib.Core.Logic.{_≢_}
+use mathlib.Core.Path.{_≡_, refl, sym, ap, _∙_, subst}
+use Prim.Native.Nat.{ℕ, zero, suc, _+_, _*_, _≤_, _<_}
+use native.Mathlib.Omega.{arith}
+use lib.ListN.{length, take, drop, getD, length-append, length-map}
+use Rattle.model.specs.declared.Call.{Call}
+use Rattle.model.specs.declared.Direction.{Direction}
+use Rattle.model.specs.declared.Listing.{Listing}
+use Rattle.model.specs.declared.Pair.{Pair}
+use Rattle.model.specs.Pairs.{edgeOf, nodeOf, pairsOf, nodeNames, withEdge}
+use Rattle.model.specs.OneCall.{nameCount, pack}
+use Rattle.model.specs.Tuples.{Tuples, remove}
+use Rattle.model.specs.Buffer.{tuplesOf}
+use Rattle.model.specs.Rules.{TupleRules}
+use Rattle.model.specs.Steps.{nOf, gOf, sOf, nodeTaken, removeNodes, listed}
+use Rattle.model.proofs.Entries.{Member, pairs-sound, nodes-sound, only-sound}
+use Rattle.model.proofs.Steps.{every-member, pair-named}
+use Rattle.chain.specs.Links.{Linked, Edited}
+use Rattle.edit.proofs.Built.{unedited}
+use Rattle.entries.specs.Queries.{Readable, written}
+use Rattle.entries.proofs.Counted.{entries-most}
+use Rattle.steps.specs.declared.Fields.{Fields}
+use Rattle.steps.specs.Operate.{fieldsOf}
+use Rattle.steps.proofs.Named.{edited-twice}
+use Rattle.listings.specs.Lists.{queryOf, NamesAsked}
+use Rattle.listings.proofs.Asked.{asked-listed}
+use Rattle.removals.specs.Collected.{removeEach, NamedBelow, NodeEntry, NodesListed}
+
+-- one more word of a list
+take-next : (i : ℕ) (ns : List ℕ) → i < length ns → take (suc i) ns ≡ take i ns ++ (getD ns i 0 ∷ [])
+take-next zero [] h = absurd (omega (arith, h))
+take-next zero (n ∷ ns) h = refl
+take-next (suc i) [] h = absurd (omega (arith, h))
+take-next (suc i) (n ∷ ns) h = ap (λ (xs : List ℕ). n ∷ xs) (take-next i ns (omega (arith, h)))
+
+removeEach-last : (s : ℕ) (ns : List ℕ) (n : ℕ) (ts : Tuples) → removeEach s (ns ++ (n ∷ [])) ts ≡ remove (nodeTaken s n) (removeEach s ns ts)
+unfolding removeEach
+removeEach-last s [] n ts = refl
+removeEach-last s (x ∷ ns) n ts = removeEach-last s ns n (remove (nodeTaken s x) ts)
+
+-- the first i nodes are removed
+pub record Removing (b₀ : List ℕ) (s : ℕ) (ns : List ℕ) (count : ℕ) (b : List ℕ) (i : ℕ) : Type 0 where
+  pub low : i ≤ count
+  pub done : Edited b₀ b (removeEach s (take i ns) (tuplesOf b₀))
+
+pub removing-none : (b : List ℕ) (s : ℕ) (ns : List ℕ) (count : ℕ) → Linked b → Removing b s ns count b 0
+unfolding removeEach
+removing-none b s ns count L = record { low = omega arith; done = unedited b (tuplesOf b) L refl }
+
+pub removing-next : (b₀ : List ℕ) (s : ℕ) (ns : List ℕ) (count : ℕ) (b b′ : List ℕ) (i : ℕ)
+    → Removing b₀ s ns count b i → i < count → count ≤ length ns → Edited b b′ (remove (nodeTaken s (getD ns i 0)) (tuplesOf b))
+    → Removing b₀ s ns count b′ (i + 1)
+removing-next b₀ s ns count b b′ i R h room E =
+    record {
+      low = omega (arith, h);
+      done =
+          subst (Edited b₀ b′)
+          (sym (ap (λ (xs : List ℕ). removeEach s xs (tuplesOf b₀)) (ap (λ (n : ℕ). take n ns) next ∙ take-next i ns (omega (arith, h, room)))
+          ∙ removeEach-last s (take i ns) (getD ns i 0) (tuplesOf b₀)))
+          (edited-twice (remove (nodeTaken s (getD ns i 0))) (R .done) E);
+    }
+  where
+    next : i + 1 ≡ suc i
+    next = omega arith
+
+pub removing-all : (b₀ : List ℕ) (s : ℕ) (ns : List ℕ) (count : ℕ) (b : List ℕ) (i : ℕ)
+    → Removing b₀ s ns count b i → count ≤ i → Edited b₀ b (removeEach s (take count ns) (tuplesOf b₀))
+removing-all b₀ s ns count b i R h =
+    let same : i ≡ count = omega (arith, R .low, h) in
+    subst (λ (n : ℕ). Edited b₀ b (removeEach s (take n ns) (tuplesOf b₀))) same (R .done)
+
+-- ---- the nodes of a list
+
+-- a node's entry is packed as its name
+pack-node : (p : Pair) → edgeOf p ≡ 0 → pack p ≡ nodeOf p
+unfolding pack
+pack-node p e = ap (λ (g : ℕ). g * nameCount + nodeOf p) e ∙ none-before (nodeOf p)
+  where
+    none-before : (x : ℕ) → 0 * nameCount + x ≡ x
+    none-before x = omega arith
+
+named-written : (ps : List Pair) (rest : List ℕ) → NodesListed ps → (i : ℕ) → i < length ps → getD (map pack ps ++ rest) i 0 ≢ 0
+named-written [] rest h i low = absurd (omega (arith, low))
+named-written (p ∷ ps) rest h zero low = λ e. h .0 .1 (sym (pack-node p (h .0 .0)) ∙ e)
+named-written (p ∷ ps) rest h (suc i) low = named-written ps rest (h .1) i (omega (arith, low))
+
+each-node : (s : ℕ) (ps : List Pair) (rest : List ℕ) (ts : Tuples) → NodesListed ps
+    → removeEach s (take (length ps) (map pack ps ++ rest)) ts ≡ removeNodes s ps ts
+unfolding removeEach removeNodes
+each-node s [] rest ts h = refl
+each-node s (p ∷ ps) rest ts h =
+    each-node s ps rest (remove (nodeTaken s (pack p)) ts) (h .1)
+    ∙ ap (λ (n : ℕ). removeNodes s ps (remove (nodeTaken s n) ts)) (pack-node p (h .0 .0))
+
+pub collected-fits : (ps : List Pair) (l₀ l : List ℕ) (count : ℕ) → l ≡ written ps l₀ → count ≡ length ps → count ≤ length l
+unfolding written
+collected-fits ps l₀ l count e f =
+    let long : length l ≡ length (map pack ps) + length (drop (length ps) l₀) = ap length e ∙ length-append (map pack ps) (drop (length ps) l₀) in
+    omega (arith, long, length-map ps pack, f)
+
+pub collected-named : (ps : List Pair) (l₀ l : List ℕ) (count : ℕ) → l ≡ written ps l₀ → count ≡ length ps → NodesListed ps → NamedBelow l count
+unfolding written
+collected-named ps l₀ l count e f h i low z =
+    named-written ps (drop (length ps) l₀) h i (omega (arith, low, f)) (ap (λ (xs : List ℕ). getD xs i 0) (sym e) ∙ z)
+
+pub collected-removed : {b b′ : List ℕ} (ps : List Pair) (l₀ l : List ℕ) (count : ℕ) (c : Call) (f : Fields)
+    → l ≡ written ps l₀ → count ≡ length ps → NodesListed ps → f ≡ fieldsOf c
+    → Edited b b′ (removeEach (f .s) (take count l) (tuplesOf b)) → Edited b b′ (removeNodes (sOf c) ps (tuplesOf b))
+unfolding written
+collected-removed {b} {b′} ps l₀ l count c f e n h F E =
+    subst (Edited b b′)
+    ((λ i. removeEach (F i .s) (take (n i) (e i)) (tuplesOf b)) ∙ each-node (sOf c) ps (drop (length ps) l₀) (tuplesOf b) h) E
+
+pub listed-most : {b : List ℕ} (l : Listing) (c : Call) → Readable b → NamesAsked l c → length (listed l c (tuplesOf b)) ≤ 4096
+listed-most {b} l c R asked = subst (λ (ps : List Pair). length ps ≤ 4096) (asked-listed l c (tuplesOf b) asked) (entries-most b (queryOf l c) R)
+
+-- ---- the nodes of pairs
+
+names-listed : (ps : List Pair) → ((p : Pair) → Member p ps → nodeOf p ≢ 0) → NodesListed (nodeNames ps)
+names-listed ps h =
+    every-member NodeEntry (nodeNames ps)
+    (λ q e.
+    let r = nodes-sound ps q e in (ap edgeOf (r .2), subst (λ (p : Pair). nodeOf p ≢ 0) (sym (r .2)) (h (r .0) (r .1))))
+
+pub neighbours-listed : (d : Direction) (c : Call) (ts : Tuples) → TupleRules ts → NodesListed (listed (Listing.N d) c ts)
+unfolding listed
+neighbours-listed d c ts R =
+    names-listed (pairsOf d (sOf c) (nOf c) ts) (λ p e. pair-named d (sOf c) (nOf c) ts R p (pairs-sound d (sOf c) (nOf c) ts p e))
+
+pub neighbours-by-edge : (d : Direction) (c : Call) (ts : Tuples) → TupleRules ts → NodesListed (listed (Listing.NG d) c ts)
+unfolding listed
+neighbours-by-edge d c ts R =
+    names-listed (withEdge (gOf c) (pairsOf d (sOf c) (nOf c) ts))
+    (λ p e. pair-named d (sOf c) (nOf c) ts R p (pairs-sound d (sOf c) (nOf c) ts p (only-sound _ (pairsOf d (sOf c) (nOf c) ts) p e .0)))

@@ -1,0 +1,98 @@
+-- The fields of a call as words, and the keys of what it names.
+use mathlib.Core.Bool.{Bool, true, false, cond}
+use mathlib.Core.List.{List, [], _∷_}
+use mathlib.Core.Path.{_≡_}
+use Prim.Native.Nat.{ℕ, _+_, _≤_}
+use lib.ListN.{length}
+use Rattle.model.specs.declared.Call.{Call}
+use Rattle.model.specs.declared.Direction.{Direction}
+use Rattle.model.specs.declared.Direction.the-variants.{Outpointing, Inpointing, Adjacent}
+use Rattle.model.specs.declared.Key.{Key}
+use Rattle.model.specs.declared.Object.{Object}
+use Rattle.model.specs.Keys.{Value, spaceKey, nodeKey, edgeKey}
+use Rattle.model.specs.Tuples.{missing, assignAll}
+use Rattle.model.specs.Buffer.{capacityOf, tuplesOf}
+use Rattle.model.specs.Steps.{nOf, gOf, mOf, vOf, sOf}
+use Rattle.steps.specs.declared.Fields.{Fields}
+use Rattle.steps.specs.declared.Near.{Near}
+use Rattle.taken.specs.declared.EdgesOf.{EdgesOf}
+use Rattle.chain.specs.Links.{Hint, Edited}
+use Rattle.edit.specs.Edits.{assignIn}
+
+-- the fields of a call, UNIVERSE written 0
+abbrev pub fieldsOf : Call → Fields
+fieldsOf c = record { n = nOf c; g = gOf c; m = mOf c; v = vOf c; s = sOf c }
+
+-- ---- hints
+
+pub record NearIn (b : List ℕ) (near : Near) : Type 0 where
+  pub space : Hint b (near .space)
+  pub node : Hint b (near .node)
+  pub second : Hint b (near .second)
+
+-- the hint for the first of a pair's keys
+unfoldable pub pairHint : Direction → Near → ℕ
+pairHint Outpointing near = near .node
+pairHint Inpointing near = near .second
+pairHint Adjacent near = near .node
+
+-- the hint for the first of an object's keys
+unfoldable pub mainHint : Object → Near → ℕ
+mainHint (Object.P d) near = pairHint d near
+mainHint Object.UN near = near .node
+mainHint Object.US near = near .space
+
+-- ---- keys
+
+-- the first of a pair's keys in space s (`pairKeys`)
+unfoldable pub pairKey : Direction → ℕ → Fields → Key
+pairKey Outpointing s f = edgeKey s (f .n) (f .g) (f .m)
+pairKey Inpointing s f = edgeKey s (f .m) (f .g) (f .n)
+pairKey Adjacent s f = edgeKey s (f .n) (f .g) (f .m)
+
+-- the first of an object's keys in space s (`objectKeys`)
+unfoldable pub mainKey : Object → ℕ → Fields → Key
+mainKey (Object.P d) s f = pairKey d s f
+mainKey Object.UN s f = nodeKey s (f .n)
+mainKey Object.US s f = spaceKey s
+
+-- "for A, each of the two": has a pair a second key, that of the edge from m to n
+unfoldable pub bothWays : Direction → Bool
+bothWays Outpointing = false
+bothWays Inpointing = false
+bothWays Adjacent = true
+
+unfoldable pub isAdjacent : Object → Bool
+isAdjacent (Object.P d) = bothWays d
+isAdjacent Object.UN = false
+isAdjacent Object.US = false
+
+-- an object's keys in space s, from the fields as words (`objectKeys`)
+unfoldable pub keysIn : Object → ℕ → Fields → List Key
+keysIn o s f = mainKey o s f ∷ cond (isAdjacent o) (edgeKey s (f .m) (f .g) (f .n) ∷ []) []
+
+-- C 51 adds s alone; all other C add to s and to 0 (`created`)
+unfoldable pub isSpace : Object → Bool
+isSpace (Object.P d) = false
+isSpace Object.UN = false
+isSpace Object.US = true
+
+-- the edges that a D operator means: those of the pairs of node n with edge g and node m (0: any)
+abbrev pub edgesOf : Direction → Fields → ℕ → ℕ → EdgesOf
+edgesOf d f g m = record { d = d; s = f .s; n = f .n; g = g; m = m }
+
+-- the records suffice for the tuples with these keys added: not "tuples present + tuples to add > C"
+abbrev pub Room : List ℕ → List Key → Type 0
+Room b ks = length (tuplesOf b) + length (missing ks (tuplesOf b)) ≤ capacityOf b
+
+-- ---- B
+
+-- the buffer with the value words of the records that hold these keys written, and no other word
+unfoldable pub assignAllIn : List Key → Value → List ℕ → List ℕ
+assignAllIn [] v b = b
+assignAllIn (k ∷ ks) v b = assignAllIn ks v (assignIn b k v)
+
+-- the values of these keys are set, where they are present: every word of the buffer, and the tuples
+pub record Bound (b : List ℕ) (ks : List Key) (v : Value) (b′ : List ℕ) : Type 0 where
+  pub words : b′ ≡ assignAllIn ks v b
+  pub edited : Edited b b′ (assignAll ks v (tuplesOf b))
