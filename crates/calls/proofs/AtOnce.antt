@@ -23,16 +23,16 @@ use Rattle.model.specs.Pairs.{edgeOf, nodeOf}
 use Rattle.model.specs.Tuples.{Tuples, present, anyPresent, missing}
 use Rattle.model.specs.Rules.{Has, TupleRules}
 use Rattle.model.specs.Entries.{PointsIn}
-use Rattle.model.specs.Buffer.{capacityOf, tuplesOf, isStore}
+use Rattle.layouts.specs.Buffer.{capacityOf, tuplesOf, isStore}
 use Rattle.model.specs.Steps.{Reply, pairs, nOf, mOf, sOf, listed, wouldList, wouldAdd, reply}
 use Rattle.model.specs.Refusals.{isUniverse, workedOn, noOperator, zeroName, destroysUniverse, spaceAbsent, nodeAbsent, secondAbsent, edgeAbsent, listShort, full, selectsNothing, refusalOf}
 use Rattle.model.specs.Machine.{step, idle, outcomeOf, machine}
 use Rattle.model.specs.OneCall.{answerOf, listAfter, writes, OnStore}
-use Rattle.model.specs.Stored.{stored}
+use Rattle.layouts.specs.Stored.{stored}
 use Rattle.model.proofs.Bools.{or-left, and-left, and-right, and-both, not-yes, no-not, neither, failed, clash}
 use Rattle.model.proofs.Entries.{Member, samePair, own-pair, listed-sound}
 use Rattle.model.proofs.Refusals.{reading}
-use Rattle.model.proofs.Store.{tuples-fit}
+use Rattle.layouts.proofs.Store.{tuples-fit}
 use Rattle.edit.proofs.Built.{store-linked, store-tuples}
 use Rattle.entries.specs.Queries.{written, mostOf}
 use Rattle.listings.specs.Lists.{queryOf}

@@ -17,12 +17,12 @@ use Rattle.model.specs.declared.Operator.the-variants.{Create, Bind, Value as V
 use Rattle.model.specs.declared.Removal.{Removal}
 use Rattle.model.specs.Operators.{operatorOf, readsOf}
 use Rattle.model.specs.Tuples.{Tuples, missing}
-use Rattle.model.specs.Buffer.{capacityOf, tuplesOf, isStore}
+use Rattle.layouts.specs.Buffer.{capacityOf, tuplesOf, isStore}
 use Rattle.model.specs.Steps.{wouldList, wouldAdd}
 use Rattle.model.specs.Refusals.{selectsNothing, zeroName, destroysUniverse, listShort, full, refusalOf}
 use Rattle.model.specs.Machine.{FieldsFit, step, idle, outcomeOf, machine}
 use Rattle.model.specs.OneCall.{answerOf, listAfter, OnStore, OneCall}
-use Rattle.model.specs.Stored.{stored}
+use Rattle.layouts.specs.Stored.{stored}
 use Rattle.model.proofs.Bools.{and-left, and-right}
 use Rattle.model.proofs.Steps.{Passed, passed, agrees, agree, n-named, g-named, m-named, s-named, after-rules}
 use Rattle.model.proofs.Refusals.{stopped, none≢some}

@@ -5,23 +5,22 @@ use mathlib.Core.List.{List, _∷_, _++_, map, map-append}
 use mathlib.Core.Path.{_≡_, refl, ap, _∙_, subst}
 use Prim.Native.Nat.{ℕ, _+_, _*_, _≤_}
 use native.Mathlib.Omega.{arith}
-use lib.Dec.{leb}
 use lib.ListN.{length, replicate, length-replicate}
-use borrow.Author.Tests.{leb-true, le-leb}
 use contract.Lifetimes.{Lfts}
 use borrow.Fn.Kinds.{Dens, resT, endedOf}
 use denote.Triple.Clauses.{AtExit}
 use Rattle.model.specs.declared.Preparation.{Preparation}
 use Rattle.model.specs.declared.Preparation.the-variants.{Capacity}
 use Rattle.model.specs.Tuples.{fresh}
-use Rattle.model.specs.Buffer.{fitsLength, capacityOf, Preparing}
+use Rattle.layouts.specs.Buffer.{headWords, recordWords, fitsLength, capacityOf, Preparing}
 use Rattle.model.specs.Refusals.{selectsNothing}
 use Rattle.model.specs.NoSelection.{WithoutEffect}
 use Rattle.model.specs.Traces.{Trace}
 use Rattle.model.specs.CallLists.{CallMade, OneMade, MeetsDemand1, Exchange, exchangeOf, requests, WholeList}
-use Rattle.model.specs.Stored.{stored}
-use Rattle.model.proofs.Stored.{stored-lawful}
-use Rattle.model.proofs.Bools.{and-left, and-right, and-both, clash}
+use Rattle.layouts.proofs.Sizes.{fits-least, fits-most, some-record, few-records, length-fits, length-records}
+use Rattle.layouts.specs.Stored.{stored}
+use Rattle.layouts.proofs.Stored.{stored-lawful}
+use Rattle.model.proofs.Bools.{clash}
 use Rattle.model.proofs.Traces.{trace-each, trace-map}
 use Rattle.model.proofs.CallLists.{MachineStep, whole-list, one-call-machine, demand-3}
 use Rattle.model.proofs.Demand1.{one-call-demand-1}
@@ -72,13 +71,6 @@ capacity-prepared raw b C P = go (fitsLength raw) refl
     go false e = let z = P .outside e .0 in let f : _≡_ {A = ℕ} 0 1 = cc in absurd (omega (arith, f))
     go true e = let z = P .inside e in let y = z .0 in (cc, z .1)
 
-bounds : (raw : List ℕ) → fitsLength raw ≡ true → (1 ≤ stored .capacityOf raw) × (stored .capacityOf raw ≤ 2048)
-unfolding fitsLength capacityOf
-bounds raw e =
-    let low : 10 ≤ length raw = leb-true 10 (length raw) (and-left (leb 10 (length raw)) (leb (length raw) 12297) e) in
-    let high : length raw ≤ 12297 = leb-true (length raw) 12297 (and-right (leb 10 (length raw)) (leb (length raw) 12297) e) in
-    (omega (arith, low), omega (arith, high))
-
 -- where `prepare` answers C, the buffer has that C and is prepared
 pub prepared-by : (raw b : List ℕ) (C : ℕ) → PreparedBy raw (Capacity C) b → (stored .capacityOf raw ≡ C) × stored .Prepared raw b
 prepared-by raw b C P = capacity-prepared raw b C (prepared-preparing P)
@@ -87,18 +79,17 @@ prepared-by raw b C P = capacity-prepared raw b C (prepared-preparing P)
 pub capacity-bounds : (raw b : List ℕ) (C : ℕ) → PreparedBy raw (Capacity C) b → (1 ≤ C) × (C ≤ 2048)
 capacity-bounds raw b C P =
     let Q = prepared-by raw b C P in
-    let C′ = bounds raw (Q .1 .fits) in
-    (omega (arith, Q .0, C′ .0), omega (arith, Q .0, C′ .1))
+    let low = fits-least raw (Q .1 .fits) in
+    let high = fits-most raw (Q .1 .fits) in
+    (omega (arith, Q .0, some-record raw low high), omega (arith, Q .0, few-records raw low high))
 
--- .. and `prepare` answers each of these for a buffer of 4 + 6 × C words
+-- .. and `prepare` answers each of these for a buffer with room for C records and no more
 pub every-capacity : (C : ℕ) → 1 ≤ C → C ≤ 2048 → (raw : List ℕ) × ((b : List ℕ) (r : Preparation) → PreparedBy raw r b → r ≡ Capacity C)
-unfolding fitsLength capacityOf
 every-capacity C least most =
-    let raw : List ℕ = replicate (4 + 6 * C) 0 in
-    let size : length raw ≡ 4 + 6 * C = length-replicate (4 + 6 * C) 0 in
-    let fits : fitsLength raw ≡ true = and-both _ _ (le-leb 10 (length raw) (omega (arith, size))) (le-leb (length raw) 12297 (omega (arith, size))) in
-    let records : stored .capacityOf raw ≡ C = omega (arith, size) in
-    (raw, λ b r P. prepared-preparing P .inside fits .0 ∙ ap Capacity records)
+    let words : ℕ = headWords + recordWords * C in
+    let raw : List ℕ = replicate words 0 in
+    let size : length raw ≡ words = length-replicate words 0 in
+    (raw, λ b r P. prepared-preparing P .inside (length-fits raw C least most size) .0 ∙ ap Capacity (length-records raw C least most size))
 
 -- ---- demands 1 and 3
 

@@ -14,13 +14,13 @@ use Rattle.model.specs.declared.Row.{Row}
 use Rattle.model.specs.declared.Space.{Space}
 use Rattle.model.specs.declared.Space.the-variants.{Universe, Numbered, Nothing}
 use Rattle.model.specs.Operators.{operatorOf, readsOf, rowOf}
-use Rattle.model.specs.Buffer.{capacityOf, tuplesOf, isStore}
+use Rattle.layouts.specs.Buffer.{capacityOf, tuplesOf, isStore}
 use Rattle.model.specs.Steps.{idleReply}
 use Rattle.model.specs.Refusals.{first, isUniverse, isNothing, selectsNothing, noOperator, zeroName, lacksSpace, destroysUniverse, ofCall}
 use Rattle.model.specs.Machine.{Outcome}
 use Rattle.model.specs.OneCall.{answerOf, listAfter, OnStore}
 use Rattle.model.specs.NoSelection.{refusalOr, nothingReply}
-use Rattle.model.specs.Stored.{stored}
+use Rattle.layouts.specs.Stored.{stored}
 use Rattle.model.proofs.Bools.{and-left, and-right}
 use Rattle.model.proofs.Demand1.{nothing-unwritten}
 use Rattle.model.proofs.NoSelection.{nothing-idle}

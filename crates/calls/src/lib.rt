@@ -10,7 +10,7 @@ ghost use lib.ListN.{length};
 ghost use Rattle.model.specs.Refusals.{selectsNothing};
 ghost use Rattle.model.specs.OneCall.{answerOf, OnStore, OneCall};
 ghost use Rattle.model.specs.NoSelection.{nothingReply};
-ghost use Rattle.model.specs.Stored.{stored};
+ghost use Rattle.layouts.specs.Stored.{stored};
 ghost use Rattle.entries.specs.Queries.{written};
 ghost use Rattle.calls.specs.AtOnce.{listedAtOnce};
 

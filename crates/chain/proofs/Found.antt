@@ -2,27 +2,25 @@
 use mathlib.Core.Bool.{Bool, true, false, cond, not, _||_, false≢true}
 use mathlib.Core.List.{List, [], _∷_, _++_, map}
 use mathlib.Core.Logic.{_≢_}
-use mathlib.Core.Path.{_≡_, refl, sym, ap, ap₂, _∙_, subst}
-use Prim.Native.Nat.{ℕ, _+_, _≤_, Ordering, Ordering·lt, Ordering·eq, Ordering·gt}
+use mathlib.Core.Path.{_≡_, refl, sym, ap, _∙_, subst}
+use Prim.Native.Nat.{ℕ, _+_, Ordering, Ordering·lt, Ordering·eq, Ordering·gt}
 use native.Mathlib.Omega.{arith}
 use lib.Dec.{eqb, isEq}
-use borrow.Author.Tests.{eq-eqb, ne-eqb, eqb-true}
+use borrow.Author.Tests.{eq-eqb, ne-eqb}
 use Rattle.model.specs.declared.Key.{Key}
 use Rattle.model.specs.Ordered.{isLess, holds, Above, Ascending}
-use Rattle.model.specs.Keys.{Tuple, keyOf, compareKeys, sameKey}
+use Rattle.model.specs.Keys.{keyOf, compareKeys, sameKey}
 use Rattle.model.specs.Tuples.{Tuples, present, valueAt}
-use Rattle.model.specs.Buffer.{word, capacityOf, recordStart, next, keyAt, tupleAt, usedOf, freeOf, tuplesOf}
-use Rattle.model.specs.Rules.{ChainRules}
-use Rattle.model.proofs.Order.{keys, opposite, lt≢gt}
-use Rattle.model.proofs.Ordered.{Below, holds-append, below-not-held, above-not-held, ascending-tail, above-less}
-use Rattle.model.proofs.Tuples.{same-key, own-key}
-use Rattle.model.proofs.Chains.{Within}
+use Rattle.layouts.specs.Buffer.{capacityOf, keyAt, tupleAt, usedOf, tuplesOf}
+use Rattle.model.proofs.Order.{keys, opposite}
+use Rattle.model.proofs.Ordered.{Below, below-not-held, above-not-held, ascending-tail, above-less}
+use Rattle.layouts.proofs.Chains.{Within}
 use Rattle.words.specs.Words.{Inside}
 use Rattle.words.proofs.Words.{inside}
 use Rattle.chain.specs.declared.Place.{Place}
 use Rattle.chain.specs.Links.{Linked, place, placeIn, findIn}
-use Rattle.chain.proofs.Walks.{Rest, used-rest}
-use Rattle.chain.proofs.Paths.{within-right, map-append}
+use Rattle.chain.proofs.Walks.{used-rest}
+use Rattle.chain.proofs.Paths.{within-right}
 
 -- the last of some records, or `last` where there are none
 abbrev pub lastOf : ℕ → List ℕ → ℕ
@@ -273,7 +271,7 @@ module _ (b : List ℕ) (k : Key) where
         ∙ ap (λ (i : ℕ). cond (eqb i 0) 0 (tupleAt b i .value)) (sym e)
         ∙ ap (λ (t : Bool). cond t 0 (tupleAt b at .value)) (eq-eqb at 0 z))
 
-    pub value-some : at ≢ 0 → (v : ℕ) → v ≡ word b (recordStart at + 5) → v ≡ valueAt k (tuplesOf b)
+    pub value-some : at ≢ 0 → (v : ℕ) → v ≡ tupleAt b at .value → v ≡ valueAt k (tuplesOf b)
     unfolding tupleAt
     value-some h v ev =
         ev

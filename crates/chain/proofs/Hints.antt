@@ -11,10 +11,10 @@ use borrow.Author.Tests.{eq-eqb, ne-eqb, eqb-false}
 use Rattle.model.specs.declared.Key.{Key}
 use Rattle.model.specs.Ordered.{isLess, Above, Ascending}
 use Rattle.model.specs.Keys.{keyOf, compareKeys}
-use Rattle.model.specs.Buffer.{word, capacityOf, next, keyAt, tupleAt, usedOf, tuplesOf}
-use Rattle.model.specs.Rules.{Chain}
+use Rattle.layouts.specs.Buffer.{word, capacityOf, next, keyAt, tupleAt, usedOf, tuplesOf}
+use Rattle.layouts.specs.Chains.{Chain}
 use Rattle.model.proofs.Order.{keys}
-use Rattle.model.proofs.Chains.{Within}
+use Rattle.layouts.proofs.Chains.{Within}
 use Rattle.words.specs.Words.{Inside}
 use Rattle.words.proofs.Words.{inside}
 use Rattle.chain.specs.declared.Place.{Place}

@@ -7,9 +7,9 @@ use Prim.Native.Nat.{ℕ, _+_, _≤_}
 use native.Mathlib.Omega.{arith}
 use lib.Dec.{eqb}
 use borrow.Author.Tests.{eqb-true, eqb-false}
-use Rattle.model.specs.Buffer.{oneIf, count}
-use Rattle.model.specs.Rules.{Chain}
-use Rattle.model.proofs.Chains.{Within, hit, miss}
+use Rattle.layouts.specs.Buffer.{oneIf, count}
+use Rattle.layouts.specs.Chains.{Chain}
+use Rattle.layouts.proofs.Chains.{Within, hit, miss}
 
 -- from record i through the records of a list to record j
 abbrev pub Path : (ℕ → ℕ) → ℕ → List ℕ → ℕ → Type 0

@@ -8,10 +8,10 @@ use native.Mathlib.Omega.{arith}
 use Rattle.model.specs.declared.Key.{Key}
 use Rattle.model.specs.Ordered.{isLess}
 use Rattle.model.specs.Keys.{compareKeys}
-use Rattle.model.specs.Buffer.{word, next, keyAt, usedOf, freeOf}
+use Rattle.layouts.specs.Buffer.{word, next, keyAt, usedOf, freeOf}
 use Rattle.chain.specs.declared.Place.{Place}
 use Rattle.chain.specs.Links.{Linked, place, placeIn}
-use Rattle.model.proofs.Store.{capacity-most}
+use Rattle.layouts.proofs.Store.{capacity-most}
 use Rattle.words.specs.Words.{Inside}
 use Rattle.words.proofs.Words.{inside-most}
 use Rattle.chain.proofs.Walks.{Rest, remaining, Step, step, falls, at-end, used-rest}

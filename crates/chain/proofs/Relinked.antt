@@ -12,11 +12,12 @@ use lib.Seq.{getD-set-same}
 use borrow.Author.Tests.{eqb-true, eqb-false}
 use Rattle.model.specs.declared.Key.{Key}
 use Rattle.model.specs.Keys.{Value, Tuple}
-use Rattle.model.specs.Buffer.{word, capacityOf, next, tupleAt, pastRecords, oneIf, count}
-use Rattle.model.specs.Rules.{Chain, ChainRules}
-use Rattle.model.proofs.Chains.{Within, chain-agree, chain-within, count-append, hit}
+use Rattle.layouts.specs.Buffer.{word, capacityOf, next, tupleAt, pastRecords, oneIf, count}
+use Rattle.layouts.specs.Chains.{Chain, ChainRules}
+use Rattle.layouts.proofs.Chains.{Within, chain-agree, chain-within, count-append, hit}
 use Rattle.words.specs.Words.{Inside, putNext, putTuple}
-use Rattle.words.proofs.Words.{capacity-length, inside, next-head, tuple-head, word-head, past-head, length-putNext, word-putNext, next-putNext, next-putNext-other, tuple-putNext, past-putNext, length-putTuple, word-putTuple, next-putTuple, tuple-putTuple, tuple-putTuple-other, past-putTuple}
+use Rattle.words.proofs.Words.{inside, next-head, tuple-head, word-head, past-head, length-putNext, word-putNext, next-putNext, next-putNext-other, tuple-putNext, past-putNext, length-putTuple, word-putTuple, next-putTuple, tuple-putTuple, tuple-putTuple-other, past-putTuple}
+use Rattle.layouts.proofs.Sizes.{capacity-length}
 use Rattle.chain.specs.Links.{Linking, insertAfter, Unlinking, removeAfter}
 use Rattle.chain.proofs.Paths.{Path, chain-split, path-chain, here, later, path-agree, map-agree, counted-within, within-left, within-right, map-append}
 

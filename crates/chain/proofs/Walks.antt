@@ -6,10 +6,10 @@ use mathlib.Core.Path.{_≡_, refl, sym, ap, _∙_, subst}
 use Prim.Native.Nat.{ℕ, suc, _+_, _≤_, _<_}
 use native.Mathlib.Omega.{arith}
 use lib.ListN.{length}
-use Rattle.model.specs.Buffer.{word, capacityOf, next, walk, orNothing, usedOf, freeOf}
-use Rattle.model.specs.Rules.{Chain, ChainRules}
-use Rattle.model.proofs.Chains.{Within, chain-walk, chain-within}
-use Rattle.model.proofs.Store.{chains-count}
+use Rattle.layouts.specs.Buffer.{word, capacityOf, next, walk, orNothing, usedOf, freeOf}
+use Rattle.layouts.specs.Chains.{Chain, ChainRules}
+use Rattle.layouts.proofs.Chains.{Within, chain-walk, chain-within}
+use Rattle.layouts.proofs.Store.{chains-count}
 use Rattle.words.specs.Words.{Inside}
 use Rattle.words.proofs.Words.{inside}
 

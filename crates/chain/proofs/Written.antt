@@ -5,7 +5,7 @@ use Prim.Native.Nat.{ℕ, _+_, _-_, _≤_}
 use native.Mathlib.Omega.{arith}
 use lib.ListN.{set}
 use Rattle.model.specs.declared.Key.{Key}
-use Rattle.model.specs.Buffer.{word, next}
+use Rattle.layouts.specs.Buffer.{word, next}
 use Rattle.words.specs.Words.{putNext, putTuple}
 use Rattle.words.proofs.Words.{inside-most}
 use Rattle.chain.specs.Links.{Linking, insertAfter, Unlinking, removeAfter}

@@ -11,8 +11,9 @@ use Rattle.model.specs.declared.Key.{Key}
 use Rattle.model.specs.Ordered.{isLess, Ascending}
 use Rattle.model.specs.Keys.{Value, keyOf, spaceKey, compareKeys, sameKey}
 use Rattle.model.specs.Tuples.{Tuples}
-use Rattle.model.specs.Buffer.{word, capacityOf, next, pastRecords, usedOf, freeOf, tuplesOf}
-use Rattle.model.specs.Rules.{firstKey, ChainRules}
+use Rattle.layouts.specs.Buffer.{word, capacityOf, next, pastRecords, usedOf, freeOf, tuplesOf}
+use Rattle.model.specs.Rules.{firstKey}
+use Rattle.layouts.specs.Chains.{ChainRules}
 use Rattle.chain.specs.declared.Place.{Place}
 use Rattle.words.specs.Words.{Inside, putNext, putTuple}
 

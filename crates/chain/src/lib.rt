@@ -4,7 +4,7 @@ use model::Key;
 ghost use mathlib.Core.Path.{_≡_};
 ghost use Prim.Native.Nat.{_+_, _≤_, _<_};
 ghost use Rattle.model.specs.Tuples.{present, valueAt};
-ghost use Rattle.model.specs.Buffer.{usedOf, tuplesOf, keyAt};
+ghost use Rattle.layouts.specs.Buffer.{usedOf, tuplesOf, keyAt};
 ghost use Rattle.words.specs.Words.{Inside};
 ghost use Rattle.chain.specs.Links.{Linked, Hint, startOf, afterIn, placeIn, findIn, Linking, insertAfter, Unlinking, removeAfter};
 

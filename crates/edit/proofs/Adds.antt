@@ -13,14 +13,15 @@ use Rattle.model.specs.declared.Key.{Key}
 use Rattle.model.specs.Ordered.{isLess, holds, put, Ascending}
 use Rattle.model.specs.Keys.{NIL, Tuple, keyOf, spaceKey, compareKeys, sameKey}
 use Rattle.model.specs.Tuples.{present, add}
-use Rattle.model.specs.Buffer.{word, capacityOf, next, keyAt, tupleAt, usedOf, freeOf, tuplesOf}
-use Rattle.model.specs.Rules.{firstKey, Chain, ChainRules}
+use Rattle.layouts.specs.Buffer.{word, capacityOf, next, keyAt, tupleAt, usedOf, freeOf, tuplesOf}
+use Rattle.model.specs.Rules.{firstKey}
+use Rattle.layouts.specs.Chains.{Chain, ChainRules}
 use Rattle.model.proofs.Bools.{clash, or-right, or-no-left, or-no-right}
 use Rattle.model.proofs.Order.{keys, opposite}
 use Rattle.model.proofs.Ordered.{put-below, put-before, put-held, holds-append}
 use Rattle.model.proofs.Tuples.{present-add, add-ascending}
 use Rattle.model.proofs.Rules.{never-below-universe, universe-first, first-universe}
-use Rattle.model.proofs.Store.{chains-count, capacity-most, used-of}
+use Rattle.layouts.proofs.Store.{chains-count, capacity-most, used-of}
 use Rattle.words.specs.Words.{Inside}
 use Rattle.words.proofs.Words.{inside}
 use Rattle.chain.specs.declared.Place.{Place}

@@ -13,18 +13,19 @@ use Rattle.model.specs.declared.Key.{Key}
 use Rattle.model.specs.Ordered.{holds, Ascending}
 use Rattle.model.specs.Keys.{Value, Tuple, keyOf, spaceKey, compareKeys, sameKey}
 use Rattle.model.specs.Tuples.{Tuples, present, assign}
-use Rattle.model.specs.Buffer.{word, recordStart, capacityOf, next, keyAt, tupleAt, usedOf, freeOf, tuplesOf, count}
-use Rattle.model.specs.Rules.{Chain, ChainRules}
+use Rattle.layouts.specs.Buffer.{word, recordStart, valuePlace, capacityOf, next, keyAt, tupleAt, usedOf, freeOf, tuplesOf, count}
+use Rattle.layouts.specs.Chains.{Chain, ChainRules}
 use Rattle.model.proofs.Bools.{clash, or-no-left, or-no-right}
 use Rattle.model.proofs.Order.{keys}
 use Rattle.model.proofs.Ordered.{above-not-held, ascending-tail}
 use Rattle.model.proofs.Tuples.{same-key, own-key, present-assign, assign-ascending}
 use Rattle.model.proofs.Rules.{universe-first, first-universe}
-use Rattle.model.proofs.Chains.{Within, chain-within, chain-agree}
-use Rattle.words.specs.Words.{Inside, putValue}
-use Rattle.words.proofs.Words.{capacity-length, length-putValue, word-putValue, next-putValue, key-putValue, value-putValue, value-putValue-other, past-putValue}
+use Rattle.layouts.proofs.Chains.{Within, chain-within, chain-agree}
+use Rattle.words.specs.Words.{Inside, putWord, putValue}
+use Rattle.words.proofs.Words.{length-putValue, word-putValue, next-putValue, key-putValue, value-putValue, value-putValue-other, past-putValue}
+use Rattle.layouts.proofs.Sizes.{capacity-length}
 use Rattle.chain.specs.Links.{Linked, KeepsHints, findIn, Edited}
-use Rattle.model.proofs.Store.{used-of}
+use Rattle.layouts.proofs.Store.{used-of}
 use Rattle.chain.proofs.Found.{present-found, found-inside}
 use Rattle.chain.proofs.Paths.{counted-within}
 use Rattle.edit.specs.Edits.{assignIn, Assigned}
@@ -172,11 +173,11 @@ value-unset b k v at L e z =
     }
 
 -- no word but the value word of the record found is another afterwards
-pub assigned-other : (b : List ℕ) (k : Key) (v : Value) (b′ : List ℕ) (i : ℕ) → Assigned b k v b′ → i ≢ recordStart (findIn (keyAt b) k (usedOf b)) + 5
-    → word b′ i ≡ word b i
-unfolding assignIn putValue
+pub assigned-other : (b : List ℕ) (k : Key) (v : Value) (b′ : List ℕ) (i : ℕ) → Assigned b k v b′
+    → i ≢ recordStart (findIn (keyAt b) k (usedOf b)) + valuePlace → word b′ i ≡ word b i
+unfolding assignIn putWord
 assigned-other b k v b′ i A d = ap (λ (x : List ℕ). word x i) (A .words) ∙ go (eqb (findIn (keyAt b) k (usedOf b)) 0)
   where
-    go : (t : Bool) → word (cond t b (set b (recordStart (findIn (keyAt b) k (usedOf b)) + 5) v)) i ≡ word b i
+    go : (t : Bool) → word (cond t b (set b (recordStart (findIn (keyAt b) k (usedOf b)) + valuePlace) v)) i ≡ word b i
     go true = refl
-    go false = getD-set-other b (recordStart (findIn (keyAt b) k (usedOf b)) + 5) i v 0 d
+    go false = getD-set-other b (recordStart (findIn (keyAt b) k (usedOf b)) + valuePlace) i v 0 d

@@ -8,9 +8,10 @@ use lib.ListN.{length, length-map}
 use Rattle.model.specs.Ordered.{Ascending}
 use Rattle.model.specs.Keys.{keyOf, spaceKey, compareKeys}
 use Rattle.model.specs.Tuples.{Tuples}
-use Rattle.model.specs.Buffer.{tupleAt, pastRecords, usedOf, freeOf, tuplesOf, isStore}
-use Rattle.model.specs.Rules.{firstKey, TupleRules, ChainRules}
-use Rattle.model.proofs.Store.{store-rules, rules-store, used-of, free-of, tuples-of}
+use Rattle.layouts.specs.Buffer.{tupleAt, pastRecords, usedOf, freeOf, tuplesOf, isStore}
+use Rattle.model.specs.Rules.{firstKey, TupleRules}
+use Rattle.layouts.specs.Chains.{ChainRules}
+use Rattle.layouts.proofs.Store.{store-rules, rules-store, used-of, free-of, tuples-of}
 use Rattle.chain.specs.Links.{Linked, Edited}
 
 pub edited : (b b′ used free : List ℕ) (ts : Tuples) → ChainRules b′ used free → map (tupleAt b′) used ≡ ts

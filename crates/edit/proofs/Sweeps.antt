@@ -13,15 +13,16 @@ use Rattle.model.specs.declared.Key.{Key}
 use Rattle.model.specs.Ordered.{Above, Ascending}
 use Rattle.model.specs.Keys.{Tuple, keyOf, spaceKey, compareKeys}
 use Rattle.model.specs.Tuples.{Tuples, present, remove}
-use Rattle.model.specs.Buffer.{word, capacityOf, next, keyAt, tupleAt, pastRecords, usedOf, freeOf, tuplesOf}
-use Rattle.model.specs.Rules.{firstKey, Chain, ChainRules}
+use Rattle.layouts.specs.Buffer.{word, capacityOf, next, keyAt, tupleAt, pastRecords, usedOf, freeOf, tuplesOf}
+use Rattle.model.specs.Rules.{firstKey}
+use Rattle.layouts.specs.Chains.{Chain, ChainRules}
 use Rattle.model.proofs.Bools.{and-both, no-not}
 use Rattle.model.proofs.Order.{keys}
 use Rattle.model.proofs.Ordered.{Below, above-less, ascending-tail}
 use Rattle.model.proofs.Tuples.{present-remove, remove-ascending}
 use Rattle.model.proofs.Rules.{universe-first, first-universe}
-use Rattle.model.proofs.Chains.{Within, within-append, chain-within}
-use Rattle.model.proofs.Store.{chains-count, capacity-most}
+use Rattle.layouts.proofs.Chains.{Within, within-append, chain-within}
+use Rattle.layouts.proofs.Store.{chains-count, capacity-most}
 use Rattle.words.specs.Words.{Inside}
 use Rattle.words.proofs.Words.{inside}
 use Rattle.chain.specs.declared.Place.{Place}

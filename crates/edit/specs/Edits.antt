@@ -8,7 +8,7 @@ use lib.ListN.{length}
 use Rattle.model.specs.declared.Key.{Key}
 use Rattle.model.specs.Keys.{Value}
 use Rattle.model.specs.Tuples.{present, assign}
-use Rattle.model.specs.Buffer.{word, capacityOf, keyAt, usedOf, tuplesOf}
+use Rattle.layouts.specs.Buffer.{word, capacityOf, keyAt, usedOf, tuplesOf}
 use Rattle.words.specs.Words.{putValue}
 use Rattle.chain.specs.Links.{Linked, KeepsHints, placeIn, findIn, Edited, removeAfter}
 use Rattle.taken.specs.declared.Selection.{Selection}

@@ -8,7 +8,7 @@ ghost use mathlib.Core.Path.{_≡_};
 ghost use mathlib.Core.Bool.{false};
 ghost use Rattle.model.specs.Keys.{spaceKey};
 ghost use Rattle.model.specs.Tuples.{present, add, remove};
-ghost use Rattle.model.specs.Buffer.{next, keyAt, usedOf, tuplesOf};
+ghost use Rattle.layouts.specs.Buffer.{next, keyAt, usedOf, tuplesOf};
 ghost use Rattle.chain.specs.Links.{Linked, Hint, KeepsHints, placeIn, Edited, Unlinking};
 ghost use Rattle.taken.specs.Selections.{takenBy};
 ghost use Rattle.edit.specs.Edits.{Adding, Assigned, Turned, sweepStart};

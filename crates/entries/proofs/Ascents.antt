@@ -12,7 +12,7 @@ use lib.Seq.{drop-cons, set-at}
 use borrow.Author.Tests.{lt-ltb, le-ltb}
 use Rattle.model.specs.declared.Key.{Key}
 use Rattle.model.specs.Ordered.{holds}
-use Rattle.model.specs.Buffer.{next, keyAt, tupleAt, tuplesOf}
+use Rattle.layouts.specs.Buffer.{next, keyAt, tupleAt, tuplesOf}
 use Rattle.model.specs.OneCall.{pack}
 use Rattle.model.proofs.Bools.{or-left, or-right}
 use Rattle.model.specs.Tuples.{Tuples}

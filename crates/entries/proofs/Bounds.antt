@@ -15,8 +15,8 @@ use Rattle.model.specs.Ordered.{isLess, thenBy, Ascending}
 use Rattle.model.specs.Keys.{keyOf, spaceKey, nodeKey, isNode, isEdge, compareKeys}
 use Rattle.model.specs.Tuples.{Tuples}
 use Rattle.model.specs.Pairs.{pair, onlyIf, outPair, inPair}
-use Rattle.model.specs.Buffer.{word, next, keyAt, tupleAt, usedOf, tuplesOf}
-use Rattle.model.specs.Rules.{Chain}
+use Rattle.layouts.specs.Buffer.{word, next, keyAt, tupleAt, usedOf, tuplesOf}
+use Rattle.layouts.specs.Chains.{Chain}
 use Rattle.model.proofs.Bools.{not-yes, and-never, or-cases, or-left, or-right, or-no-left, or-no-right}
 use Rattle.model.proofs.Order.{keys, compare-eq, compare-lt, compare-gt}
 use Rattle.model.proofs.Ordered.{Below}

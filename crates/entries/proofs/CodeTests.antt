@@ -13,7 +13,7 @@ use Rattle.model.specs.declared.Key.{Key}
 use Rattle.model.specs.declared.Pair.{Pair}
 use Rattle.model.specs.Keys.{isNode, isEdge}
 use Rattle.model.specs.OneCall.{pack}
-use Rattle.model.specs.Buffer.{tuplesOf}
+use Rattle.layouts.specs.Buffer.{tuplesOf}
 use Rattle.model.specs.Pairs.{pair, onlyIf, outPair, inPair, spaceEntry}
 use Rattle.taken.specs.Selections.{passes}
 use Rattle.entries.specs.declared.Part.{Part}

@@ -13,8 +13,8 @@ use Rattle.model.specs.declared.Pair.{Pair}
 use Rattle.model.specs.Pairs.{gather}
 use Rattle.model.specs.OneCall.{pack}
 use Rattle.model.specs.Tuples.{Tuples}
-use Rattle.model.specs.Buffer.{tupleAt, usedOf, freeOf, tuplesOf}
-use Rattle.model.proofs.Store.{chains-count, capacity-most}
+use Rattle.layouts.specs.Buffer.{tupleAt, usedOf, freeOf, tuplesOf}
+use Rattle.layouts.proofs.Store.{chains-count, capacity-most}
 use Rattle.model.proofs.Counts.{length-ascending}
 use Rattle.entries.specs.declared.Query.{Query}
 use Rattle.entries.specs.Queries.{firstAt, secondAt, queried, code, codes, leastFrom, Readable, written}

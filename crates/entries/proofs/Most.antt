@@ -14,8 +14,8 @@ use Rattle.model.specs.declared.Key.{Key}
 use Rattle.model.specs.declared.Pair.{Pair}
 use Rattle.model.specs.Pairs.{gather}
 use Rattle.model.specs.Tuples.{Tuples}
-use Rattle.model.specs.Buffer.{word, tupleAt, usedOf, freeOf, tuplesOf}
-use Rattle.model.proofs.Store.{chains-count, capacity-most}
+use Rattle.layouts.specs.Buffer.{word, tupleAt, usedOf, freeOf, tuplesOf}
+use Rattle.layouts.proofs.Store.{chains-count, capacity-most}
 use Rattle.model.proofs.Counts.{length-ascending}
 use Rattle.chain.specs.Links.{Linked}
 use lib.ListN.{length-map}

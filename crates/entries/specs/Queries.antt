@@ -13,7 +13,7 @@ use Rattle.model.specs.Keys.{isNode, spaceKey, nodeKey}
 use Rattle.model.specs.Tuples.{Tuples}
 use Rattle.model.specs.Pairs.{pair, edgeOf, nodeOf, ascending, gather, onlyIf, outPair, inPair, spaceEntry}
 use Rattle.model.specs.OneCall.{pack}
-use Rattle.model.specs.Buffer.{keyAt, usedOf, tuplesOf}
+use Rattle.layouts.specs.Buffer.{keyAt, usedOf, tuplesOf}
 use Rattle.model.specs.Rules.{Has, Small}
 use Rattle.chain.specs.Links.{Linked, placeIn}
 use Rattle.taken.specs.Selections.{passes}

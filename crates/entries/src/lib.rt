@@ -9,7 +9,7 @@ ghost use Rattle.model.specs.Keys.{isNode, nodeKey};
 ghost use Rattle.model.specs.Pairs.{pair, outPair, inPair};
 ghost use lib.ListN.{length};
 ghost use Prim.Native.Nat.{_≤_};
-ghost use Rattle.model.specs.Buffer.{tuplesOf};
+ghost use Rattle.layouts.specs.Buffer.{tuplesOf};
 ghost use Rattle.chain.specs.Links.{Linked, Hint};
 ghost use Rattle.entries.specs.Queries.{chosen, firstAt, secondAt, queried, code, headCode, codes, nearer, leastFrom, Readable, pairsStart, startKey, startIn, outside, ends, pairsInOrder, inOrder, written, hasSecond, givesTwo, mostOf};
 ghost use lib.Dec.{leb};

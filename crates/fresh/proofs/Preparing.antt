@@ -1,30 +1,28 @@
 -- The buffer that preparing leaves (specs/Prepare.antt) is what document 01 says of it.
-use mathlib.Core.Bool.{Bool, true, false, cond}
+use mathlib.Core.Bool.{Bool, true, false, cond, not}
 use mathlib.Core.List.{List, [], _∷_}
-use mathlib.Core.Logic.{_≢_}
 use mathlib.Core.Path.{_≡_, refl, sym, ap, ap₂, _∙_, subst}
-use Prim.Native.Nat.{ℕ, zero, suc, _+_, _-_, _*_, _/_, _≤_, _<_}
+use Prim.Native.Nat.{ℕ, zero, suc, _+_, _-_, _*_, _≤_, _<_}
 use native.Mathlib.Omega.{arith}
 use lib.Dec.{eqb}
-use lib.ListN.{length, set, drop, length-set}
-use lib.Seq.{getD-set-same, getD-set-other, drop-set-lt}
-use borrow.Author.Tests.{eqb-true, eqb-false, le-leb, lt-leb}
+use lib.ListN.{length, set, length-set}
+use borrow.Author.Tests.{eqb-true, eqb-false}
 use Rattle.model.specs.declared.Preparation.the-variants.{Refused, Capacity}
 use Rattle.model.specs.declared.Key.{Key}
 use Rattle.model.specs.Keys.{NIL, spaceKey}
-use Rattle.model.specs.Buffer.{word, recordStart, fitsLength, capacityOf, next, keyAt, tupleAt, pastRecords, follower, Prepared, Preparing}
-use Rattle.model.proofs.Bools.{clash}
-use Rattle.model.proofs.Store.{fits-length}
-use Rattle.words.specs.Words.{putNext, putTuple}
-use Rattle.words.proofs.Sizes.{some-record, room}
+use Rattle.layouts.specs.Buffer.{word, headWords, recordWords, nextPlace, fitsLength, capacityOf, next, tupleAt, pastRecords, follower, Prepared, Preparing}
+use Rattle.model.proofs.Bools.{clash, not-yes, not-no}
+use Rattle.layouts.proofs.Sizes.{fits-least, fits-most, some-record, few-records, records-fit}
+use Rattle.words.specs.Words.{Inside, putNext, putTuple}
+use Rattle.words.proofs.Words.{inside, inside-length, past-head, length-putWord, word-putWord, next-putNext, next-putNext-other, tuple-putNext, past-putNext, length-putTuple, word-putTuple, next-putTuple, tuple-putTuple, past-putTuple}
 use Rattle.fresh.specs.Prepare.{headed, universeIn, chained, preparedBuffer, afterPreparing}
 
 -- ---- the chain of free records
 
 pub chained-length : (C : ℕ) (b : List ℕ) (n : ℕ) → length (chained C b n) ≡ length b
-unfolding chained putNext
+unfolding chained
 chained-length C b zero = refl
-chained-length C b (suc n) = length-set (chained C b n) _ _ ∙ chained-length C b n
+chained-length C b (suc n) = length-putWord (chained C b n) (n + 2) nextPlace _ ∙ chained-length C b n
 
 -- one more record
 pub chained-more : (C : ℕ) (b : List ℕ) (n : ℕ) (b₁ b₂ : List ℕ) (j : ℕ) → b₁ ≡ chained C b n → j ≡ follower C (n + 2) → b₂ ≡ putNext b₁ (n + 2) j
@@ -34,80 +32,105 @@ chained-more C b n b₁ b₂ j e f g =
     let s : suc n ≡ n + 1 = omega arith in
     g ∙ ap₂ (λ (l : List ℕ) (k : ℕ). putNext l (n + 2) k) e f ∙ ap (chained C b) s
 
--- words outside the nexts of records 2 on are as before
-chained-other : (C : ℕ) (b : List ℕ) (n j : ℕ) → ((i : ℕ) → 2 ≤ i → j ≢ recordStart i) → word (chained C b n) j ≡ word b j
-unfolding chained putNext
-chained-other C b zero j h = refl
-chained-other C b (suc n) j h = getD-set-other (chained C b n) (recordStart (n + 2)) j _ 0 (h (n + 2) (omega arith)) ∙ chained-other C b n j h
+-- the record whose next is written is there
+pub chained-inside : (C : ℕ) (b b₁ : List ℕ) (n : ℕ) → headWords + recordWords * C ≤ length b → b₁ ≡ chained C b n → n + 1 < C → Inside b₁ (n + 2)
+chained-inside C b b₁ n fits e l = record { low = omega arith; high = omega (arith, fits, ap length e, chained-length C b n) }
 
-chained-next : (C : ℕ) (b : List ℕ) (n i : ℕ) → 4 + 6 * (n + 1) ≤ length b → 2 ≤ i → i ≤ n + 1 → word (chained C b n) (recordStart i) ≡ follower C i
-unfolding chained putNext
-chained-next C b zero i fits low high = absurd (omega arith)
-chained-next C b (suc n) i fits low high = go (eqb i (n + 2)) refl (chained-next C b n i (omega arith) low)
-  where
-    go : (t : Bool) → eqb i (n + 2) ≡ t → (i ≤ n + 1 → word (chained C b n) (recordStart i) ≡ follower C i)
-        → word (set (chained C b n) (recordStart (n + 2)) (follower C (n + 2))) (recordStart i) ≡ follower C i
-    go true e rest =
-        let same : i ≡ n + 2 = eqb-true i (n + 2) e in
-        ap (λ (k : ℕ). word (set (chained C b n) (recordStart (n + 2)) (follower C (n + 2))) (recordStart k)) same
-        ∙ getD-set-same (chained C b n) (recordStart (n + 2)) (follower C (n + 2)) 0 (omega (arith, chained-length C b n))
-        ∙ ap (follower C) (sym same)
-    go false e rest =
-        let other : i ≡ n + 2 → ⊥ = eqb-false i (n + 2) e in
-        getD-set-other (chained C b n) (recordStart (n + 2)) (recordStart i) (follower C (n + 2)) 0 (λ z. omega arith) ∙ rest (omega arith)
+module _ (C : ℕ) (b : List ℕ) (fits : headWords + recordWords * C ≤ length b) where
+  there : (n : ℕ) → n + 1 < C → Inside (chained C b n) (n + 2)
+  there n l = chained-inside C b (chained C b n) n fits refl l
 
-chained-past : (C : ℕ) (b : List ℕ) (n m : ℕ) → 4 + 6 * (n + 1) ≤ m → drop m (chained C b n) ≡ drop m b
-unfolding chained putNext
-chained-past C b zero m h = refl
-chained-past C b (suc n) m h = drop-set-lt m (chained C b n) (recordStart (n + 2)) _ (omega arith) ∙ chained-past C b n m (omega arith)
+  chained-head : (n j : ℕ) → j < headWords → word (chained C b n) j ≡ word b j
+  unfolding chained
+  chained-head zero j h = refl
+  chained-head (suc n) j h = word-putWord (chained C b n) (n + 2) nextPlace _ j h ∙ chained-head n j h
 
--- ---- words 0 to 9
+  -- record 1 is not written
+  chained-first : (n : ℕ) → n + 1 ≤ C → next (chained C b n) 1 ≡ next b 1
+  unfolding chained
+  chained-first zero h = refl
+  chained-first (suc n) h =
+      next-putNext-other (chained C b n) (n + 2) _ (there n (omega arith)) 1 (omega arith) (λ z. omega arith) ∙ chained-first n (omega arith)
 
-record Started (C : ℕ) (b′ : List ℕ) : Type 0 where
-  w0 : word b′ 0 ≡ C
-  w1 : word b′ 1 ≡ 1
-  w2 : word b′ 2 ≡ follower C 1
-  w3 : word b′ 3 ≡ 1
-  w4 : word b′ 4 ≡ 0
-  w5 : word b′ 5 ≡ 0
-  w6 : word b′ 6 ≡ 0
-  w7 : word b′ 7 ≡ 0
-  w8 : word b′ 8 ≡ 0
-  w9 : word b′ 9 ≡ 0
+  chained-tuple : (n : ℕ) → n + 1 ≤ C → tupleAt (chained C b n) 1 ≡ tupleAt b 1
+  unfolding chained
+  chained-tuple zero h = refl
+  chained-tuple (suc n) h = tuple-putNext (chained C b n) (n + 2) _ (there n (omega arith)) 1 (omega arith) ∙ chained-tuple n (omega arith)
 
-started : (C : ℕ) (b : List ℕ) → 10 ≤ length b → Started C (universeIn (headed C b))
-unfolding universeIn headed putNext putTuple
-started C [] h = absurd (omega arith)
-started C (a ∷ []) h = absurd (omega arith)
-started C (a ∷ b ∷ []) h = absurd (omega arith)
-started C (a ∷ b ∷ c ∷ []) h = absurd (omega arith)
-started C (a ∷ b ∷ c ∷ d ∷ []) h = absurd (omega arith)
-started C (a ∷ b ∷ c ∷ d ∷ e ∷ []) h = absurd (omega arith)
-started C (a ∷ b ∷ c ∷ d ∷ e ∷ f ∷ []) h = absurd (omega arith)
-started C (a ∷ b ∷ c ∷ d ∷ e ∷ f ∷ g ∷ []) h = absurd (omega arith)
-started C (a ∷ b ∷ c ∷ d ∷ e ∷ f ∷ g ∷ i ∷ []) h = absurd (omega arith)
-started C (a ∷ b ∷ c ∷ d ∷ e ∷ f ∷ g ∷ i ∷ j ∷ []) h = absurd (omega arith)
-started C (a ∷ b ∷ c ∷ d ∷ e ∷ f ∷ g ∷ i ∷ j ∷ k ∷ ks) h =
-    record { w0 = refl; w1 = refl; w2 = refl; w3 = refl; w4 = refl; w5 = refl; w6 = refl; w7 = refl; w8 = refl; w9 = refl }
+  chained-next : (n i : ℕ) → n + 1 ≤ C → 2 ≤ i → i ≤ n + 1 → next (chained C b n) i ≡ follower C i
+  unfolding chained
+  chained-next zero i h low high = absurd (omega arith)
+  chained-next (suc n) i h low high = go (eqb i (n + 2)) refl (chained-next n i (omega arith) low)
+    where
+      go : (t : Bool) → eqb i (n + 2) ≡ t → (i ≤ n + 1 → next (chained C b n) i ≡ follower C i)
+          → next (putNext (chained C b n) (n + 2) (follower C (n + 2))) i ≡ follower C i
+      go true e rest =
+          let same : i ≡ n + 2 = eqb-true i (n + 2) e in
+          ap (next (putNext (chained C b n) (n + 2) (follower C (n + 2)))) same
+          ∙ next-putNext (chained C b n) (n + 2) _ (there n (omega arith))
+          ∙ ap (follower C) (sym same)
+      go false e rest =
+          let other : i ≡ n + 2 → ⊥ = eqb-false i (n + 2) e in
+          next-putNext-other (chained C b n) (n + 2) _ (there n (omega arith)) i (omega arith) other ∙ rest (omega arith)
 
-started-length : (C : ℕ) (b : List ℕ) → length (universeIn (headed C b)) ≡ length b
-unfolding universeIn headed putNext putTuple
-started-length C b = simp length-set
+  chained-past : (n : ℕ) → n + 1 ≤ C → pastRecords (chained C b n) ≡ pastRecords b
+  unfolding chained
+  chained-past zero h = refl
+  chained-past (suc n) h = past-putNext (chained C b n) (n + 2) _ (there n (omega arith)) ∙ chained-past n (omega arith)
 
-started-past : (C : ℕ) (b : List ℕ) (m : ℕ) → 10 ≤ m → drop m (universeIn (headed C b)) ≡ drop m b
-unfolding universeIn headed putNext putTuple
-started-past C b m h =
-    let h₀ : 0 < m = omega arith in
-    let h₁ : 1 < m = omega arith in
-    let h₂ : 2 < m = omega arith in
-    let h₃ : 3 < m = omega arith in
-    let h₄ : 4 < m = omega arith in
-    let h₅ : 5 < m = omega arith in
-    let h₆ : 6 < m = omega arith in
-    let h₇ : 7 < m = omega arith in
-    let h₈ : 8 < m = omega arith in
-    let h₉ : 9 < m = omega arith in
-    simp drop-set-lt
+-- ---- words 0 to 3
+
+record Headed (C : ℕ) (b′ : List ℕ) : Type 0 where
+  capacity : word b′ 0 ≡ C
+  used : word b′ 1 ≡ 1
+  free : word b′ 2 ≡ follower C 1
+  count : word b′ 3 ≡ 1
+
+head-words : (C : ℕ) (b : List ℕ) → headWords ≤ length b → Headed C (headed C b)
+unfolding headed
+head-words C [] h = absurd (omega arith)
+head-words C (a ∷ []) h = absurd (omega arith)
+head-words C (a ∷ b ∷ []) h = absurd (omega arith)
+head-words C (a ∷ b ∷ c ∷ []) h = absurd (omega arith)
+head-words C (a ∷ b ∷ c ∷ d ∷ ks) h = record { capacity = refl; used = refl; free = refl; count = refl }
+
+headed-length : (C : ℕ) (b : List ℕ) → length (headed C b) ≡ length b
+unfolding headed
+headed-length C b = simp length-set
+
+headed-past : (C : ℕ) (b : List ℕ) → pastRecords (headed C b) ≡ pastRecords b
+unfolding headed
+headed-past C b =
+    past-head _ 3 1 (omega arith) ∙ past-head _ 2 (follower C 1) (omega arith) ∙ past-head _ 1 1 (omega arith) ∙ past-head b 0 C (omega arith)
+
+-- ---- record 1
+
+module _ (b : List ℕ) (I : Inside b 1) where
+  abbrev ended : List ℕ
+  ended = putNext b 1 0
+
+  inside-ended : Inside ended 1
+  inside-ended = inside-length b ended 1 (length-putWord b 1 nextPlace 0) I
+
+  universe-length : length (universeIn b) ≡ length b
+  unfolding universeIn
+  universe-length = length-putTuple ended 1 (spaceKey 0) NIL inside-ended ∙ length-putWord b 1 nextPlace 0
+
+  universe-head : (j : ℕ) → j < headWords → word (universeIn b) j ≡ word b j
+  unfolding universeIn
+  universe-head j h = word-putTuple ended 1 (spaceKey 0) NIL inside-ended j h ∙ word-putWord b 1 nextPlace 0 j h
+
+  universe-ends : next (universeIn b) 1 ≡ 0
+  unfolding universeIn
+  universe-ends = next-putTuple ended 1 (spaceKey 0) NIL inside-ended 1 (omega arith) ∙ next-putNext b 1 0 I
+
+  universe-held : tupleAt (universeIn b) 1 ≡ record { key = spaceKey 0; value = NIL }
+  unfolding universeIn
+  universe-held = tuple-putTuple ended 1 (spaceKey 0) NIL inside-ended
+
+  universe-past : pastRecords (universeIn b) ≡ pastRecords b
+  unfolding universeIn
+  universe-past = past-putTuple ended 1 (spaceKey 0) NIL inside-ended ∙ past-putNext b 1 0 I
 
 -- the words written one after another
 pub heads-put : (b b₁ b₂ b₃ b₄ : List ℕ) (C f : ℕ) → f ≡ follower C 1 → b₁ ≡ set b 0 C → b₂ ≡ set b₁ 1 1 → b₃ ≡ set b₂ 2 f → b₄ ≡ set b₃ 3 1
@@ -122,94 +145,94 @@ universe-put b b₁ b₂ k e p q = q ∙ ap₂ (λ (l : List ℕ) (j : Key). put
 
 -- ---- preparing
 
-module _ (b : List ℕ) (low : 10 ≤ length b) (high : length b ≤ 12297) where
-  fits : fitsLength b ≡ true
-  fits = fits-length b low high
+module _ (b : List ℕ) (fits : fitsLength b ≡ true) where
+  abbrev C : ℕ
+  C = capacityOf b
 
-  unchained : (j : ℕ) → j < 10 → word (preparedBuffer b) j ≡ word (universeIn (headed (capacityOf b) b)) j
+  abbrev begun : List ℕ
+  begun = universeIn (headed C b)
+
+  some : 1 ≤ C
+  some = some-record b (fits-least b fits) (fits-most b fits)
+
+  inside-headed : Inside (headed C b) 1
+  inside-headed = inside-length b (headed C b) 1 (headed-length C b) (inside b 1 (omega arith) some)
+
+  begun-length : length begun ≡ length b
+  begun-length = universe-length (headed C b) inside-headed ∙ headed-length C b
+
+  room : headWords + recordWords * C ≤ length begun
+  room = omega (arith, records-fit b (fits-least b fits) (fits-most b fits), begun-length)
+
+  heads : Headed C (headed C b)
+  heads = head-words C b (omega (arith, fits-least b fits))
+
+  head-kept : (j : ℕ) → j < headWords → word (preparedBuffer b) j ≡ word (headed C b) j
   unfolding preparedBuffer
-  unchained j h = chained-other (capacityOf b) (universeIn (headed (capacityOf b) b)) (capacityOf b - 1) j (λ i l e. omega arith)
-
-  prepared-length : length (preparedBuffer b) ≡ length b
-  unfolding preparedBuffer
-  prepared-length =
-      chained-length (capacityOf b) (universeIn (headed (capacityOf b) b)) (capacityOf b - 1) ∙ started-length (capacityOf b) b
-
-  first : Started (capacityOf b) (universeIn (headed (capacityOf b) b))
-  first = started (capacityOf b) b low
-
-  universe-last : next (preparedBuffer b) 1 ≡ 0
-  unfolding next
-  universe-last = unchained 4 (omega arith) ∙ first .w4
-
-  universe-tuple : tupleAt (preparedBuffer b) 1 ≡ record { key = spaceKey 0; value = NIL }
-  unfolding tupleAt keyAt
-  universe-tuple i =
-      record {
-        key =
-            record {
-              s = (unchained 5 (omega arith) ∙ first .w5) i;
-              n = (unchained 6 (omega arith) ∙ first .w6) i;
-              g = (unchained 7 (omega arith) ∙ first .w7) i;
-              m = (unchained 8 (omega arith) ∙ first .w8) i;
-            };
-        value = (unchained 9 (omega arith) ∙ first .w9) i;
-      }
-
-  free-next : (i : ℕ) → 2 ≤ i → i ≤ capacityOf b → next (preparedBuffer b) i ≡ follower (capacityOf b) i
-  unfolding next preparedBuffer
-  free-next i h k =
-      chained-next (capacityOf b) (universeIn (headed (capacityOf b) b)) (capacityOf b - 1) i
-      (omega (arith, started-length (capacityOf b) b, room b low high, some-record b low high)) h (omega (arith, some-record b low high))
-
-  past : pastRecords (preparedBuffer b) ≡ pastRecords b
-  unfolding pastRecords preparedBuffer
-  past =
-      ap (λ (C : ℕ). drop (4 + 6 * C) (preparedBuffer b)) same-capacity
-      ∙ chained-past (capacityOf b) (universeIn (headed (capacityOf b) b)) (capacityOf b - 1) (4 + 6 * capacityOf b) (omega (arith, some-record b low high))
-      ∙ started-past (capacityOf b) b (4 + 6 * capacityOf b) (omega (arith, some-record b low high))
-    where
-      same-capacity : capacityOf (preparedBuffer b) ≡ capacityOf b
-      same-capacity = unfold capacityOf in ap (λ (l : ℕ). (l - 4) / 6) prepared-length
+  head-kept j h = chained-head C begun room (C - 1) j h ∙ universe-head (headed C b) inside-headed j h
 
   pub prepared : Prepared b (preparedBuffer b)
+  unfolding preparedBuffer
   prepared =
+      let all : (C - 1) + 1 ≤ C = omega (arith, some) in
       record {
         fits = fits;
-        size = prepared-length;
-        capacity = unchained 0 (omega arith) ∙ first .w0;
-        usedHead = unchained 1 (omega arith) ∙ first .w1;
-        freeHead = unchained 2 (omega arith) ∙ first .w2;
-        used = unchained 3 (omega arith) ∙ first .w3;
-        universeLast = universe-last;
-        universe = universe-tuple;
-        free = free-next;
-        past = past;
+        size = chained-length C begun (C - 1) ∙ begun-length;
+        capacity = head-kept 0 (omega arith) ∙ heads .capacity;
+        usedHead = head-kept 1 (omega arith) ∙ heads .used;
+        freeHead = head-kept 2 (omega arith) ∙ heads .free;
+        used = head-kept 3 (omega arith) ∙ heads .count;
+        universeLast = chained-first C begun room (C - 1) all ∙ universe-ends (headed C b) inside-headed;
+        universe = chained-tuple C begun room (C - 1) all ∙ universe-held (headed C b) inside-headed;
+        free = λ i h k. chained-next C begun room (C - 1) i all h (omega (arith, some));
+        past = chained-past C begun room (C - 1) all ∙ universe-past (headed C b) inside-headed ∙ headed-past C b;
       }
 
-  -- the steps of preparing, one after another
-  module _ (b₁ b₂ b₃ : List ℕ) (C : ℕ) (size : C ≡ capacityOf b) (heads : b₁ ≡ headed C b) (one : b₂ ≡ universeIn b₁) (free : b₃ ≡ chained C b₂ (C - 1)) where
-    whole : b₃ ≡ preparedBuffer b
-    unfolding preparedBuffer
-    whole =
-        free ∙ ap (λ (l : List ℕ). chained C l (C - 1)) (one ∙ ap universeIn heads)
-        ∙ ap (λ (k : ℕ). chained k (universeIn (headed k b)) (k - 1)) size
+-- ---- the functions that write
 
-    pub prepares : Preparing b (Capacity C) b₃
-    prepares =
-        record {
-          outside = λ f. absurd (clash fits f);
-          inside = λ f. (ap Capacity size, subst (Prepared b) (sym whole) prepared);
-        }
+-- what they require follows from a length that fits
+pub long-enough : (b : List ℕ) → fitsLength b ≡ true → headWords ≤ length b
+long-enough b fits = omega (arith, fits-least b fits)
 
-    pub after-prepared : b₃ ≡ afterPreparing b
-    unfolding afterPreparing
-    after-prepared = whole ∙ sym (ap (λ (t : Bool). cond t (preparedBuffer b) b) fits)
+pub records-few : (b : List ℕ) (c : ℕ) → fitsLength b ≡ true → c ≡ capacityOf b → c ≤ 2048
+records-few b c fits e = omega (arith, e, few-records b (fits-least b fits) (fits-most b fits))
 
--- a length outside
-pub refused : (b : List ℕ) → fitsLength b ≡ false → Preparing b (Refused 1) b
-refused b e = record { outside = λ f. (refl, refl); inside = λ f. absurd (clash f e) }
+pub universe-ready : (b b₁ : List ℕ) → fitsLength b ≡ true → length b₁ ≡ length b → Inside b₁ 1
+universe-ready b b₁ fits e = inside-length b b₁ 1 e (inside b 1 (omega arith) (some-record b (fits-least b fits) (fits-most b fits)))
 
-pub after-refused : (b : List ℕ) → fitsLength b ≡ false → b ≡ afterPreparing b
-unfolding afterPreparing
-after-refused b e = sym (ap (λ (t : Bool). cond t (preparedBuffer b) b) e)
+pub records-room : (b : List ℕ) (c : ℕ) → fitsLength b ≡ true → c ≡ capacityOf b → headWords + recordWords * c ≤ length b
+records-room b c fits e = omega (arith, e, records-fit b (fits-least b fits) (fits-most b fits))
+
+-- what they write one after another
+pub filled : (b b₁ b₂ b₃ : List ℕ) (c : ℕ) → c ≡ capacityOf b → b₁ ≡ headed c b → b₂ ≡ universeIn b₁ → b₃ ≡ chained c b₂ (c - 1) → b₃ ≡ preparedBuffer b
+unfolding preparedBuffer
+filled b b₁ b₂ b₃ c size head one free =
+    free ∙ ap (λ (l : List ℕ). chained c l (c - 1)) (one ∙ ap universeIn head) ∙ ap (λ (k : ℕ). chained k (universeIn (headed k b)) (k - 1)) size
+
+-- ---- preparing
+
+module _ (b : List ℕ) (t : Bool) (tested : t ≡ fitsLength b) where
+  pub tested-fits : not t ≡ false → fitsLength b ≡ true
+  tested-fits n = sym tested ∙ not-no t n
+
+  pub prepared-records : (c : ℕ) → not t ≡ false → c ≡ capacityOf b → c ≤ 2048
+  prepared-records c n e = records-few b c (tested-fits n) e
+
+  pub prepares : (b′ : List ℕ) (c : ℕ) → not t ≡ false → c ≡ capacityOf b → b′ ≡ preparedBuffer b → Preparing b (Capacity c) b′
+  prepares b′ c n size whole =
+      let fits = tested-fits n in
+      record {
+        outside = λ f. absurd (clash fits f);
+        inside = λ f. (ap Capacity size, subst (Prepared b) (sym whole) (prepared b fits));
+      }
+
+  pub after-prepared : (b′ : List ℕ) → not t ≡ false → b′ ≡ preparedBuffer b → b′ ≡ afterPreparing b
+  unfolding afterPreparing
+  after-prepared b′ n whole = whole ∙ sym (ap (λ (x : Bool). cond x (preparedBuffer b) b) (tested-fits n))
+
+  pub refuses : not t ≡ true → Preparing b (Refused 1) b
+  refuses n = record { outside = λ f. (refl, refl); inside = λ f. absurd (clash f (sym tested ∙ not-yes t n)) }
+
+  pub after-refused : not t ≡ true → b ≡ afterPreparing b
+  unfolding afterPreparing
+  after-refused n = sym (ap (λ (x : Bool). cond x (preparedBuffer b) b) (sym tested ∙ not-yes t n))

@@ -4,7 +4,7 @@ use mathlib.Core.List.{List}
 use Prim.Native.Nat.{ℕ, zero, suc, _+_, _-_}
 use lib.ListN.{set}
 use Rattle.model.specs.Keys.{NIL, spaceKey}
-use Rattle.model.specs.Buffer.{fitsLength, capacityOf, follower}
+use Rattle.layouts.specs.Buffer.{fitsLength, capacityOf, follower}
 use Rattle.words.specs.Words.{putNext, putTuple}
 
 -- the buffer with words 0 to 3 of a store of C records that holds UNIVERSE alone

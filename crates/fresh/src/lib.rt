@@ -1,10 +1,12 @@
 // Preparing a buffer: a fresh store, which holds UNIVERSE alone.
 use model::Preparation;
+ghost use mathlib.Core.Bool.{true};
 ghost use mathlib.Core.Path.{_≡_};
 ghost use Prim.Native.Nat.{_+_, _-_, _*_, _≤_};
 ghost use lib.ListN.{length};
-ghost use Rattle.model.specs.Buffer.{follower, Preparing};
-ghost use Rattle.fresh.specs.Prepare.{headed, universeIn, chained, afterPreparing};
+ghost use Rattle.layouts.specs.Buffer.{headWords, recordWords, fitsLength, capacityOf, follower, Preparing};
+ghost use Rattle.words.specs.Words.{Inside};
+ghost use Rattle.fresh.specs.Prepare.{headed, universeIn, chained, preparedBuffer, afterPreparing};
 
 // The free record after record i in ascending order; 0 after the last.
 fn follower_of(c: usize, i: usize) -> usize
@@ -19,7 +21,7 @@ fn follower_of(c: usize, i: usize) -> usize
 
 // Words 0 to 3 of a store that holds UNIVERSE alone.
 fn put_heads(b: &mut [u32], c: usize)
-    requires { ⌜ (4 ≤ length (now b)) × (c ≤ 2048) ⌝ }
+    requires { ⌜ (headWords ≤ length (now b)) × (c ≤ 2048) ⌝ }
     ensures { λ _. ⌜ now (b .exit) ≡ headed c (now (b .entry)) ⌝ }
 {
     let free = follower_of(c, 1);
@@ -31,7 +33,7 @@ fn put_heads(b: &mut [u32], c: usize)
 
 // UNIVERSE with NIL in record 1, which ends its chain.
 fn put_universe(b: &mut [u32])
-    requires { ⌜ 10 ≤ length (now b) ⌝ }
+    requires { ⌜ Inside (now b) 1 ⌝ }
     ensures { λ _. ⌜ now (b .exit) ≡ universeIn (now (b .entry)) ⌝ }
 {
     let universe = words::node_key(0, 0);
@@ -41,7 +43,7 @@ fn put_universe(b: &mut [u32])
 
 // Records 2 to C chained as free in ascending order.
 fn chain_free(b: &mut [u32], c: usize)
-    requires { ⌜ (4 + 6 * c ≤ length (now b)) × (c ≤ 2048) ⌝ }
+    requires { ⌜ (headWords + recordWords * c ≤ length (now b)) × (c ≤ 2048) ⌝ }
     ensures { λ _. ⌜ now (b .exit) ≡ chained c (now (b .entry)) (c - 1) ⌝ }
 {
     let mut n = 0;
@@ -52,20 +54,27 @@ fn chain_free(b: &mut [u32], c: usize)
     }
 }
 
-// Prepares the buffer as a store that holds UNIVERSE alone, and gives C; a length outside 10 to 12,297 words is refused (1).
-pub fn prepare(buffer: &mut [u32]) -> Preparation
-    ensures rules { λ r. ⌜ Preparing (now (buffer .entry)) r (now (buffer .exit)) ⌝ }
-    ensures words { λ _. ⌜ now (buffer .exit) ≡ afterPreparing (now (buffer .entry)) ⌝ }
+// A buffer whose length fits becomes a store that holds UNIVERSE alone; the answer is C.
+fn fill(buffer: &mut [u32]) -> usize
+    requires { ⌜ fitsLength (now buffer) ≡ true ⌝ }
+    ensures { λ r. ⌜ r ≡ capacityOf (now (buffer .entry)) ⌝ }
+    ensures words { λ _. ⌜ now (buffer .exit) ≡ preparedBuffer (now (buffer .entry)) ⌝ }
 {
-    if buffer.len() < 10 {
-        return Preparation::Refused(1);
-    }
-    if buffer.len() > 12297 {
-        return Preparation::Refused(1);
-    }
     let c = words::capacity(buffer);
     put_heads(buffer, c);
     put_universe(buffer);
     chain_free(buffer, c);
+    c
+}
+
+// Prepares the buffer as a store that holds UNIVERSE alone, and gives C; a length that does not fit is refused (1).
+pub fn prepare(buffer: &mut [u32]) -> Preparation
+    ensures rules { λ r. ⌜ Preparing (now (buffer .entry)) r (now (buffer .exit)) ⌝ }
+    ensures words { λ _. ⌜ now (buffer .exit) ≡ afterPreparing (now (buffer .entry)) ⌝ }
+{
+    if !words::fits_length(buffer) {
+        return Preparation::Refused(1);
+    }
+    let c = fill(buffer);
     Preparation::Capacity(c as u32)
 }

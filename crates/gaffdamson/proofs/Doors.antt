@@ -10,8 +10,8 @@ use Rattle.model.specs.declared.Preparation.the-variants.{Capacity}
 use Rattle.model.specs.Tuples.{fresh}
 use Rattle.model.specs.Traces.{Trace, end, then}
 use Rattle.model.specs.CallLists.{CallMade, Exchange, exchangeOf, WholeList}
-use Rattle.model.specs.Stored.{stored}
-use Rattle.model.proofs.Stored.{stored-lawful}
+use Rattle.layouts.specs.Stored.{stored}
+use Rattle.layouts.proofs.Stored.{stored-lawful}
 use Rattle.model.proofs.Bools.{clash}
 use Rattle.model.proofs.Traces.{trace-append}
 use Rattle.model.proofs.CallLists.{MachineStep, one-call-machine, machine-trace, whole-list, whole-prepared}

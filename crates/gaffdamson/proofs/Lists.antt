@@ -12,12 +12,12 @@ use Rattle.model.specs.declared.Answer.{Answer}
 use Rattle.model.specs.declared.Call.{Call}
 use Rattle.model.specs.declared.Preparation.the-variants.{Refused, Capacity}
 use Rattle.model.specs.Tuples.{fresh}
-use Rattle.model.specs.Buffer.{fitsLength}
+use Rattle.layouts.specs.Buffer.{fitsLength}
 use Rattle.model.specs.OneCall.{OneCall}
 use Rattle.model.specs.Traces.{Trace}
 use Rattle.model.specs.CallLists.{CallMade, OneMade, MeetsDemand1, exchangeOf, WholeList}
-use Rattle.model.specs.Stored.{stored}
-use Rattle.model.proofs.Stored.{stored-lawful}
+use Rattle.layouts.specs.Stored.{stored}
+use Rattle.layouts.proofs.Stored.{stored-lawful}
 use Rattle.model.proofs.Traces.{trace-map}
 use Rattle.model.proofs.CallLists.{MachineStep, one-call-machine, whole-prepared}
 use Rattle.model.proofs.Demand1.{one-call-demand-1}

@@ -12,10 +12,11 @@ use Rattle.model.specs.declared.Pair.{Pair}
 use Rattle.model.specs.declared.Preparation.{Preparation}
 use Rattle.model.specs.declared.Preparation.the-variants.{Refused, Capacity}
 use Rattle.model.specs.Machine.{machine}
-use Rattle.model.specs.Buffer.{fitsLength, capacityOf, tuplesOf, isStore, Preparing}
+use Rattle.layouts.specs.Buffer.{fitsLength, capacityOf, tuplesOf, isStore, Preparing}
 use Rattle.model.specs.OneCall.{answerOf, listCount, pack, OneCall}
-use Rattle.model.specs.Stored.{stored}
+use Rattle.layouts.specs.Stored.{stored}
 use Rattle.model.proofs.Counts.{answer-most}
+use Rattle.layouts.proofs.Stored.{stored-lawful}
 use Rattle.fresh.specs.Prepare.{afterPreparing}
 use Rattle.pairs.specs.InPairs.{CallInPairs}
 use Rattle.gaffdamson.specs.Numbers.{PackedAs, packedPreparation}
@@ -28,7 +29,7 @@ module _ (b l b′ l′ : List ℕ) (c : Call) (a : Answer) (O : OneCall stored 
   answer-counted = go (isStore b) refl
     where
       go : (s : Bool) → isStore b ≡ s → listCount a ≤ 4294967295
-      go true e = omega (arith, answer-most b l b′ l′ c a e (O .onStore e))
+      go true e = omega (arith, answer-most stored stored-lawful b l b′ l′ c a e (O .onStore e))
       go false e = omega (arith, ap listCount (O .noStore e .answer))
 
   answer-on : a ≡ answerOn b c (length l)

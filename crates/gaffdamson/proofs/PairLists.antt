@@ -16,8 +16,8 @@ use Rattle.model.specs.declared.Preparation.the-variants.{Capacity}
 use Rattle.model.specs.Tuples.{fresh}
 use Rattle.model.specs.Traces.{Trace}
 use Rattle.model.specs.CallLists.{MeetsDemand1, WholeList}
-use Rattle.model.specs.Stored.{stored}
-use Rattle.model.proofs.Stored.{stored-lawful}
+use Rattle.layouts.specs.Stored.{stored}
+use Rattle.layouts.proofs.Stored.{stored-lawful}
 use Rattle.model.proofs.Traces.{trace-map}
 use Rattle.model.proofs.CallLists.{MachineStep, whole-prepared}
 use Rattle.pairs.specs.InPairs.{CallInPairs, PairsMade, OneInPairs, exchangeInPairs}

@@ -11,9 +11,9 @@ use Rattle.model.specs.declared.Pair.{Pair}
 use Rattle.model.specs.declared.Preparation.{Preparation}
 use Rattle.model.specs.declared.Preparation.the-variants.{Refused, Capacity}
 use Rattle.model.specs.Machine.{machine}
-use Rattle.model.specs.Buffer.{fitsLength, Preparing}
+use Rattle.layouts.specs.Buffer.{fitsLength, Preparing}
 use Rattle.model.specs.OneCall.{answerOf, OneCall}
-use Rattle.model.specs.Stored.{stored}
+use Rattle.layouts.specs.Stored.{stored}
 use Rattle.fresh.specs.Prepare.{afterPreparing}
 use Rattle.pairs.specs.InPairs.{CallInPairs}
 use Rattle.run.specs.Words.{spaceOf}

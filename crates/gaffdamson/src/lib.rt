@@ -8,7 +8,7 @@ use model::Preparation;
 ghost use mathlib.Core.Path.{_≡_};
 ghost use Prim.Native.Nat.{_≤_};
 ghost use Rattle.model.specs.OneCall.{listCount};
-ghost use Rattle.model.specs.Stored.{stored};
+ghost use Rattle.layouts.specs.Stored.{stored};
 ghost use Rattle.run.specs.Words.{bitOf};
 ghost use Rattle.run.specs.Runs.{Ran};
 ghost use Rattle.gaffdamson.specs.Numbers.{packed, PackedAs, packedPreparation};

@@ -10,11 +10,11 @@ use Rattle.model.specs.declared.Call.{Call}
 use Rattle.model.specs.declared.Space.{Space}
 use Rattle.model.specs.declared.SpaceName.{SpaceName}
 use Rattle.model.specs.declared.Space.the-variants.{Universe, Numbered, Nothing}
-use Rattle.model.specs.Buffer.{everyRecord}
+use Rattle.model.specs.Numbers.{everyUpTo}
 use Rattle.model.specs.Keys.{mostName}
 use Rattle.model.specs.Operators.{readsOf, within}
 use Rattle.model.proofs.Bools.{and-left, and-right, and-both, no-not, failed}
-use Rattle.model.proofs.Steps.{every-record}
+use Rattle.model.proofs.Numbers.{every-up-to}
 use Rattle.text.specs.Bytes.{Text, sameText, blank, U, hyphen}
 use Rattle.text.specs.Numerals.{isDigit, allDigits, printedNumber}
 use Rattle.text.proofs.Reading.{same-text}
@@ -88,8 +88,8 @@ read-plain true w ws e f = and-both (plain w) (allPlain ws) e f
 read-plain false w ws e f = f
 
 letters-plain : (o : ℕ) → 1 ≤ o → o ≤ 57 → plain (lettersOf o) ≡ true
-unfolding everyRecord lettersOf operatorWords
-letters-plain o h k = every-record (λ (i : ℕ). plain (lettersOf i)) 57 refl o h k
+unfolding everyUpTo lettersOf operatorWords
+letters-plain o h k = every-up-to (λ (i : ℕ). plain (lettersOf i)) 57 refl o h k
 
 fields-plain : (c : Call) → Fitting c → (ws : List Text) → allPlain ws ≡ true → allPlain (fieldsThen c ws) ≡ true
 unfolding fieldsThen
@@ -188,12 +188,12 @@ reads-52 n g m v s h k =
 -- the others
 
 number-back : (o : ℕ) → 1 ≤ o → o ≤ 56 → operatorNumber (lettersOf o) ≡ o
-unfolding everyRecord lettersOf operatorWords operatorNumber numberFrom sameText
-number-back o h k = eqb-true (operatorNumber (lettersOf o)) o (every-record (λ (i : ℕ). eqb (operatorNumber (lettersOf i)) i) 56 refl o h k)
+unfolding everyUpTo lettersOf operatorWords operatorNumber numberFrom sameText
+number-back o h k = eqb-true (operatorNumber (lettersOf o)) o (every-up-to (λ (i : ℕ). eqb (operatorNumber (lettersOf i)) i) 56 refl o h k)
 
 space-asked : (o : ℕ) → 1 ≤ o → o ≤ 55 → readsOf o .s ≡ true
-unfolding everyRecord readsOf
-space-asked o h k = every-record (λ (i : ℕ). readsOf i .s) 55 refl o h k
+unfolding everyUpTo readsOf
+space-asked o h k = every-up-to (λ (i : ℕ). readsOf i .s) 55 refl o h k
 
 space-last : (read optional : Bool) (s : Space) (then : Space → List Text → Reading) → read ≡ true → SpaceFits s → takeSpace optional (ifRead read (spaceText s) []) then ≡ then (cond read s Universe) []
 unfolding ifRead

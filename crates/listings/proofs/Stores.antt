@@ -8,7 +8,7 @@ use Rattle.model.specs.declared.Listing.{Listing}
 use Rattle.model.specs.declared.Operator.{Operator}
 use Rattle.model.specs.declared.Operator.the-variants.{List as Lists}
 use Rattle.model.specs.Operators.{operatorOf}
-use Rattle.model.specs.Buffer.{isStore}
+use Rattle.layouts.specs.Buffer.{isStore}
 use Rattle.model.specs.Refusals.{noOperator, zeroName}
 use Rattle.model.proofs.Steps.{agrees, agree, g-named, m-named}
 use Rattle.edit.proofs.Built.{store-linked, store-tuples}

@@ -11,7 +11,7 @@ use steps::Near;
 ghost use mathlib.Core.Path.{_≡_};
 ghost use lib.ListN.{length};
 ghost use Prim.Native.Nat.{_≤_};
-ghost use Rattle.model.specs.Buffer.{tuplesOf};
+ghost use Rattle.layouts.specs.Buffer.{tuplesOf};
 ghost use Rattle.model.specs.Steps.{listed};
 ghost use Rattle.entries.specs.Queries.{Readable, written, mostOf};
 ghost use Rattle.chain.specs.Links.{Linked};

@@ -13,7 +13,7 @@ use Rattle.model.specs.Keys.{nodeKey}
 use Rattle.model.specs.Operators.{rowOf}
 use Rattle.model.specs.Steps.{nOf, mOf, sOf}
 use Rattle.model.specs.Tuples.{present}
-use Rattle.model.specs.Buffer.{keyAt, usedOf, tuplesOf}
+use Rattle.layouts.specs.Buffer.{keyAt, usedOf, tuplesOf}
 use Rattle.model.proofs.Bools.{clash, not-yes, not-no}
 use Rattle.chain.specs.declared.Place.{Place}
 use Rattle.chain.specs.Links.{Linked, Hint, placeIn}

@@ -10,7 +10,7 @@ use Rattle.model.specs.declared.Row.{Row}
 use Rattle.model.specs.Keys.{spaceKey, nodeKey}
 use Rattle.model.specs.Tuples.{present}
 use Rattle.model.specs.Operators.{rowOf}
-use Rattle.model.specs.Buffer.{keyAt, usedOf, tuplesOf}
+use Rattle.layouts.specs.Buffer.{keyAt, usedOf, tuplesOf}
 use Rattle.model.specs.Steps.{nOf, mOf, sOf}
 use Rattle.chain.specs.Links.{placeIn}
 use Rattle.steps.specs.declared.Fields.{Fields}

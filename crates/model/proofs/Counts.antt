@@ -5,7 +5,7 @@ use mathlib.Core.Option.{some}
 use mathlib.Core.Path.{_≡_, refl, sym, ap, _∙_, subst}
 use Prim.Native.Nat.{ℕ, suc, _≤_, Ordering, Ordering·lt, Ordering·eq, Ordering·gt}
 use native.Mathlib.Omega.{arith}
-use lib.Dec.{eqb, ltb}
+use lib.Dec.{eqb}
 use lib.ListN.{length, length-map}
 use borrow.Author.Tests.{eqb-true, eq-eqb, ltb-true}
 use Rattle.model.specs.declared.Answer.{Answer}
@@ -25,13 +25,11 @@ use Rattle.model.specs.Pairs.{pair, edgeOf, nodeOf, comparePairs, itself
 use Rattle.model.specs.Steps.{Reply, nOf, gOf, mOf, sOf, listed, wouldList}
 use Rattle.model.specs.Refusals.{Stop, stop, first, selectsNothing, listShort, full, ofCall, ofTuples, ifLookedUp, earlier, refusalOf}
 use Rattle.model.specs.Machine.{machine}
-use Rattle.model.specs.Buffer.{capacityOf, tuplesOf, isStore}
-use Rattle.model.specs.Stored.{stored}
+use Rattle.model.specs.Layouts.{Layout, Lawful}
 use Rattle.model.specs.OneCall.{answerOf, listCount, OnStore}
 use Rattle.model.proofs.Order.{pairs}
 use Rattle.model.proofs.Bools.{or-left, or-right, and-right, and-both}
 use Rattle.model.proofs.Refusals.{none≢some, answer-form}
-use Rattle.model.proofs.Store.{store-rules, tuples-fit, capacity-most}
 
 -- ---- ascending lists
 
@@ -173,23 +171,24 @@ module _ (ts : Tuples) where
 
 -- ---- on a store
 
--- a store holds at most 2,048 tuples
-store-most : (b : List ℕ) → isStore b ≡ true → length (tuplesOf b) ≤ 2048
-store-most b e = let R = store-rules b e .chains in omega (arith, tuples-fit b R, capacity-most b _ _ R)
+module _ (Y : Layout) (L : Lawful Y) where
+  -- a store holds at most 2,048 tuples
+  store-most : (b : List ℕ) → Y .isStore b ≡ true → length (Y .stateOf b) ≤ 2048
+  store-most b e = omega (arith, L .counted b e, L .most b e)
 
-pub would-most : (b : List ℕ) → isStore b ≡ true → (op : Operator) (c : Call) → length (wouldList op c (tuplesOf b)) ≤ 2048
-would-most b e op c = omega (arith, would-list-within (tuplesOf b) op c, store-most b e)
+  pub would-most : (b : List ℕ) → Y .isStore b ≡ true → (op : Operator) (c : Call) → length (wouldList op c (Y .stateOf b)) ≤ 2048
+  would-most b e op c = omega (arith, would-list-within (Y .stateOf b) op c, store-most b e)
 
--- an answer of the machine lists no more ..
-machine-most : (b : List ℕ) (c : Call) (room : ℕ) → isStore b ≡ true → listCount (answerOf (machine (capacityOf b) (tuplesOf b) c room .answer)) ≤ 2048
-unfolding answerOf listCount
-machine-most b c room store =
-    answer-form (λ (r : Reply). listCount (answerOf r) ≤ 2048) (capacityOf b) (tuplesOf b) c room (λ number. omega arith) (λ x. omega arith) (λ v. omega arith)
-    (λ t. omega arith) (omega arith) (λ l. omega (arith, listed-within (tuplesOf b) l c, store-most b store))
+  -- an answer of the machine lists no more ..
+  machine-most : (b : List ℕ) (c : Call) (room : ℕ) → Y .isStore b ≡ true → listCount (answerOf (machine (Y .capacityOf b) (Y .stateOf b) c room .answer)) ≤ 2048
+  unfolding answerOf listCount
+  machine-most b c room store =
+      answer-form (λ (r : Reply). listCount (answerOf r) ≤ 2048) (Y .capacityOf b) (Y .stateOf b) c room (λ number. omega arith) (λ x. omega arith)
+      (λ v. omega arith) (λ t. omega arith) (omega arith) (λ l. omega (arith, listed-within (Y .stateOf b) l c, store-most b store))
 
--- .. nor does a call
-pub answer-most : (b l b′ l′ : List ℕ) (c : Call) (a : Answer) → isStore b ≡ true → OnStore stored b l c a b′ l′ → listCount a ≤ 2048
-answer-most b l b′ l′ c a store O = subst (λ (x : Answer). listCount x ≤ 2048) (sym (O .answer)) (machine-most b c _ store)
+  -- .. nor does a call
+  pub answer-most : (b l b′ l′ : List ℕ) (c : Call) (a : Answer) → Y .isStore b ≡ true → OnStore Y b l c a b′ l′ → listCount a ≤ 2048
+  answer-most b l b′ l′ c a store O = subst (λ (x : Answer). listCount x ≤ 2048) (sym (O .answer)) (machine-most b c _ store)
 
 -- ---- 2,048 places are enough for any call
 
@@ -218,8 +217,9 @@ short-applies C ts c room e = go (selectsNothing c) (winner-applies 9 _ e)
     go false h = sym (or-false _) ∙ h
 
 -- on a store no call with 2,048 places or more is refused 9
-pub places-enough : (b : List ℕ) (c : Call) (room : ℕ) → isStore b ≡ true → 2048 ≤ room → refusalOf (capacityOf b) (tuplesOf b) c room ≡ some 9 → ⊥
+pub places-enough : (Y : Layout) → Lawful Y → (b : List ℕ) (c : Call) (room : ℕ) → Y .isStore b ≡ true → 2048 ≤ room
+    → refusalOf (Y .capacityOf b) (Y .stateOf b) c room ≡ some 9 → ⊥
 unfolding listShort
-places-enough b c room store enough e =
-    let short = ltb-true room _ (short-applies (capacityOf b) (tuplesOf b) c room e) in
-    omega (arith, short, would-most b store (operatorOf (c .operator)) c)
+places-enough Y L b c room store enough e =
+    let short = ltb-true room _ (short-applies (Y .capacityOf b) (Y .stateOf b) c room e) in
+    omega (arith, short, would-most Y L b store (operatorOf (c .operator)) c)

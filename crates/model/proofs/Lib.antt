@@ -1,4 +1,5 @@
 pub mod Bools
+pub mod Numbers
 pub mod Order
 pub mod Ordered
 pub mod Tuples
@@ -8,10 +9,7 @@ pub mod Entries
 pub mod Steps
 pub mod Refusals
 pub mod Answers
-pub mod Chains
-pub mod Store
-pub mod Prepared
-pub mod Stored
+pub mod Sound
 pub mod Traces
 pub mod CallLists
 pub mod Counts

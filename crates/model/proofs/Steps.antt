@@ -3,12 +3,12 @@ use mathlib.Core.Bool.{Bool, true, false, cond, not, _&&_, _||_, false≢true, t
 use mathlib.Core.List.{List, [], _∷_}
 use mathlib.Core.Logic.{⊎-elim, _≢_}
 use mathlib.Core.Option.{Option, none, some}
-use mathlib.Core.Path.{_≡_, refl, sym, ap, _∙_, subst}
-use Prim.Native.Nat.{ℕ, zero, suc, _+_, _≤_}
+use mathlib.Core.Path.{_≡_, refl, sym, _∙_, subst}
+use Prim.Native.Nat.{ℕ, _+_, _≤_}
 use native.Mathlib.Omega.{arith}
 use lib.Dec.{eqb, ltb, leb}
 use lib.ListN.{length}
-use borrow.Author.Tests.{eqb-true, eqb-false, ltb-false, leb-true}
+use borrow.Author.Tests.{eqb-false, ltb-false, leb-true}
 use Rattle.model.specs.declared.Call.{Call}
 use Rattle.model.specs.declared.Space.{Space}
 use Rattle.model.specs.declared.Space.the-variants.{Universe, Numbered, Nothing}
@@ -25,14 +25,15 @@ use Rattle.model.specs.declared.Operator.{Operator}
 use Rattle.model.specs.declared.Operator.the-variants.{Create, Bind, Value as Values, Exists, Destroy, List as Lists}
 use Rattle.model.specs.declared.Removal.{Removal}
 use Rattle.model.specs.Operators.{table, operatorOf, within, readsOf}
-use Rattle.model.specs.Pairs.{pair, nodeOf, member, pairsOf, nodeNames, withEdge}
+use Rattle.model.specs.Pairs.{nodeOf, member, pairsOf, nodeNames, withEdge}
 use Rattle.model.specs.Steps.{spaceNumber, nOf, gOf, mOf, vOf, sOf, objectKeys, created, nodeTaken, removeNodes, destroyed, wouldAdd, after}
-use Rattle.model.specs.Refusals.{Stop, first, zeroSpace, isUniverse, isNothing, selectsNothing, noOperator, zeroName, destroysUniverse, spaceAbsent, nodeAbsent, secondAbsent, edgeAbsent, listShort, full, ofCall, ofTuples, earlier, refusalOf}
+use Rattle.model.specs.Refusals.{Stop, first, zeroSpace, isUniverse, isNothing, selectsNothing, noOperator, zeroName, destroysUniverse, spaceAbsent, nodeAbsent, secondAbsent, edgeAbsent, listShort, full, refusalOf}
 use Rattle.model.specs.Machine.{FieldsFit, Outcome, step, idle, outcomeOf, machine}
-use Rattle.model.specs.Buffer.{everyRecord}
+use Rattle.model.specs.Numbers.{everyUpTo}
 use Rattle.model.specs.Rules.{Has, Small, TupleRules}
 use Rattle.model.specs.Entries.{PointsOut, PointsIn, IsPair}
 use Rattle.model.proofs.Bools.{or-cases, or-left, or-right, or-no-left, or-no-right, and-left, and-right, and-both, and-no, not-no}
+use Rattle.model.proofs.Numbers.{every-up-to}
 use Rattle.model.proofs.Tuples.{same-key, own-key, among, present-addAll, length-addAll, length-remove, length-assign}
 use Rattle.model.proofs.Rules.{has-universe, assignAll-rules, Fitting, addAll-rules, remove-rules}
 use Rattle.model.proofs.Taken.{edges-fair, node-fair, EveryPair, NodeNamed, removeNodes-rules, space-fair}
@@ -117,18 +118,9 @@ agrees (Lists Listing.UN) o = true
 agrees (Lists Listing.US) o = true
 agrees (Lists Listing.USn) o = true
 
-agree-all : everyRecord (λ (o : ℕ). agrees (operatorOf o) o) 57 ≡ true
-unfolding everyRecord operatorOf table readsOf
+agree-all : everyUpTo (λ (o : ℕ). agrees (operatorOf o) o) 57 ≡ true
+unfolding everyUpTo operatorOf table readsOf
 agree-all = refl
-
-pub every-record : (p : ℕ → Bool) (C : ℕ) → everyRecord p C ≡ true → (i : ℕ) → 1 ≤ i → i ≤ C → p i ≡ true
-unfolding everyRecord
-every-record p zero e i h k = absurd (omega arith)
-every-record p (suc C) e i h k = go (eqb i (suc C)) refl (every-record p C (and-right (p (suc C)) (everyRecord p C) e) i h)
-  where
-    go : (b : Bool) → eqb i (suc C) ≡ b → (i ≤ C → p i ≡ true) → p i ≡ true
-    go true f rest = ap p (eqb-true i (suc C) f) ∙ and-left (p (suc C)) (everyRecord p C) e
-    go false f rest = let d : i ≡ suc C → ⊥ = eqb-false i (suc C) f in rest (omega arith)
 
 -- the number of a call that is not stopped by condition 2
 pub agree : (c : Call) → noOperator c ≡ false → agrees (operatorOf (c .operator)) (c .operator) ≡ true
@@ -136,7 +128,7 @@ unfolding noOperator
 agree c e =
     let o : ℕ = c .operator in
     let w = not-no (within 1 57 o) e in
-    every-record (λ (o : ℕ). agrees (operatorOf o) o) 57 agree-all o
+    every-up-to (λ (o : ℕ). agrees (operatorOf o) o) 57 agree-all o
     (leb-true 1 o (and-left (leb 1 o) (leb o 57) w)) (leb-true o 57 (and-right (leb 1 o) (leb o 57) w))
 
 -- ---- names that are read are not 0

@@ -3,7 +3,7 @@ use mathlib.Core.Bool.{Bool, true}
 use mathlib.Core.List.{List}
 use mathlib.Core.Logic.{_↔_}
 use mathlib.Core.Path.{_≡_}
-use Prim.Native.Nat.{ℕ, _+_}
+use Prim.Native.Nat.{ℕ, _+_, _≤_}
 use lib.ListN.{length}
 use Rattle.model.specs.Tuples.{fresh}
 use Rattle.model.specs.Machine.{State}
@@ -27,6 +27,8 @@ pub record Layout : Type 1 where
 pub record Lawful (Y : Layout) : Type 0 where
   -- the length alone decides C
   pub sized : (b b′ : List ℕ) → length b′ ≡ length b → Y .capacityOf b′ ≡ Y .capacityOf b
+  -- a store has at most 2,048 records
+  pub most : (b : List ℕ) → Y .isStore b ≡ true → Y .capacityOf b ≤ 2048
   -- the test says yes exactly when the rules hold
   pub exactly : (b : List ℕ) → (Y .isStore b ≡ true) ↔ Y .IsStore b
   pub rules : (b : List ℕ) → Y .isStore b ≡ true → TupleRules (Y .stateOf b)

@@ -1,3 +1,4 @@
+pub mod Numbers
 pub mod Ordered
 pub mod Keys
 pub mod Tuples
@@ -7,11 +8,9 @@ pub mod Steps
 pub mod Refusals
 pub mod Machine
 pub mod Unread
-pub mod Buffer
 pub mod Rules
 pub mod Entries
 pub mod Layouts
-pub mod Stored
 pub mod Traces
 pub mod OneCall
 pub mod Demand1

@@ -1,19 +1,58 @@
--- Document 01, "A store is a buffer of 10 to 12,297 words where: ..": its rules as statements.
--- proofs/Store.antt proves that the test `isStore` (Buffer.antt) says yes exactly when they hold.
-use mathlib.Core.Bool.{true}
-use mathlib.Core.List.{List, [], _∷_, _++_, map}
+-- Document 01, the rules of a store that are about its tuples: as tests that compute, and as statements.
+-- proofs/Sound.antt proves that the tests say yes exactly when the statements hold.
+use mathlib.Core.Bool.{Bool, true, false, cond, not, _&&_, _||_}
+use mathlib.Core.List.{List, [], _∷_}
 use mathlib.Core.Logic.{_↔_, _≢_}
 use mathlib.Core.Option.{Option, none, some}
 use mathlib.Core.Path.{_≡_}
 use Prim.Native.Nat.{ℕ, _≤_}
-use lib.ListN.{length}
-use Rattle.model.specs.Ordered.{Ascending}
+use lib.Dec.{eqb, leb}
+use Rattle.model.specs.Ordered.{ascendsFrom, Ascending}
 use Rattle.model.specs.declared.Key.{Key}
-use Rattle.model.specs.Keys.{mostName, keyOf, spaceKey, nodeKey, edgeKey, compareKeys}
+use Rattle.model.specs.Keys.{mostName, keyOf, spaceKey, nodeKey, edgeKey, isNode, isEdge, compareKeys, sameKey}
 use Rattle.model.specs.Tuples.{Tuples, present}
-use Rattle.model.specs.Buffer.{word, leastLength, mostLength, capacityOf, sizeWord, next, tupleAt, count}
 
--- ---- the tuples
+-- ---- tests
+
+-- "used keys strictly ascend, s first; the first is (0,0,0,0)"
+unfoldable pub ascendsFromUniverse : Tuples → Bool
+ascendsFromUniverse [] = false
+ascendsFromUniverse (t ∷ ts) = sameKey (t .key) (spaceKey 0) && ascendsFrom keyOf compareKeys (t .key) ts
+
+-- "key words are at most 65,535"
+unfoldable pub smallKey : Key → Bool
+smallKey k = leb (k .s) mostName && (leb (k .n) mostName && (leb (k .g) mostName && leb (k .m) mostName))
+
+-- "n = 0 makes g and m 0"
+unfoldable pub noEdgeWithoutNode : Key → Bool
+noEdgeWithoutNode k = not (eqb (k .n) 0) || (eqb (k .g) 0 && eqb (k .m) 0)
+
+-- "g is 0 exactly when m is"
+unfoldable pub edgeHasEnd : Key → Bool
+edgeHasEnd k = cond (eqb (k .g) 0) (eqb (k .m) 0) (not (eqb (k .m) 0))
+
+-- "each node tuple has its space and its tuple in 0"
+unfoldable pub nodeSupported : Tuples → Key → Bool
+nodeSupported ts k = not (isNode k) || (present (spaceKey (k .s)) ts && present (nodeKey 0 (k .n)) ts)
+
+-- "each edge tuple has its two node tuples in s and its tuple in 0"
+unfoldable pub edgeSupported : Tuples → Key → Bool
+edgeSupported ts k =
+    not (isEdge k)
+    || (present (nodeKey (k .s) (k .n)) ts && (present (nodeKey (k .s) (k .m)) ts && present (edgeKey 0 (k .n) (k .g) (k .m)) ts))
+
+unfoldable pub everyKey : (Key → Bool) → Tuples → Bool
+everyKey p [] = true
+everyKey p (t ∷ ts) = p (t .key) && everyKey p ts
+
+-- the rules on the tuples together
+unfoldable pub sound : Tuples → Bool
+sound ts =
+    ascendsFromUniverse ts
+    && (everyKey smallKey ts
+    && (everyKey noEdgeWithoutNode ts && (everyKey edgeHasEnd ts && (everyKey (nodeSupported ts) ts && everyKey (edgeSupported ts) ts))))
+
+-- ---- statements
 
 abbrev pub Has : Key → Tuples → Type 0
 Has k ts = present k ts ≡ true
@@ -51,38 +90,3 @@ pub record TupleRules (ts : Tuples) : Type 0 where
   pub small : (k : Key) → Has k ts → Small k
   pub shaped : (k : Key) → Has k ts → Shaped k
   pub nothingMissing : NothingMissing ts
-
--- ---- the chains
-
--- the records that a chain meets, from its start; "a next of 0 ends a chain"
-abbrev pub Chain : (ℕ → ℕ) → ℕ → List ℕ → Type 0
-Chain link i [] = i ≡ 0
-Chain link i (j ∷ js) = (i ≢ 0) × (j ≡ i) × Chain link (link i) js
-
--- the rules on words 0 to 3 and the chains of a buffer whose used and free chains meet these records
-pub record ChainRules (b used free : List ℕ) : Type 0 where
-  -- "a buffer of 10 to 12,297 words"
-  pub least : leastLength ≤ length b
-  pub most : length b ≤ mostLength
-  -- "word 0 fits"
-  pub capacity : word b 0 ≡ sizeWord b
-  -- "both heads and every next are at most C"
-  pub usedHead : word b 1 ≤ capacityOf b
-  pub freeHead : word b 2 ≤ capacityOf b
-  pub nexts : (i : ℕ) → 1 ≤ i → i ≤ capacityOf b → next b i ≤ capacityOf b
-  -- "the two chains together meet each record exactly once"
-  pub usedChain : Chain (next b) (word b 1) used
-  pub freeChain : Chain (next b) (word b 2) free
-  pub once : (i : ℕ) → 1 ≤ i → i ≤ capacityOf b → count i (used ++ free) ≡ 1
-  -- "word 3 is right"
-  pub counted : word b 3 ≡ length used
-
--- ---- a store
-
-pub record StoreRules (b used free : List ℕ) : Type 0 where
-  pub chains : ChainRules b used free
-  pub tuples : TupleRules (map (tupleAt b) used)
-
--- the rules of a store
-abbrev pub IsStore : List ℕ → Type 0
-IsStore b = (used : List ℕ) × (free : List ℕ) × StoreRules b used free

@@ -13,9 +13,9 @@ use Rattle.model.specs.declared.Pair.{Pair}
 use Rattle.model.specs.Steps.{Reply, refusal, name, valued, yesNo, pairs}
 use Rattle.model.specs.Refusals.{refusalOf}
 use Rattle.model.specs.Machine.{State, Outcome, machine}
-use Rattle.model.specs.Buffer.{capacityOf, tuplesOf, isStore}
+use Rattle.layouts.specs.Buffer.{capacityOf, tuplesOf, isStore}
 use Rattle.model.specs.OneCall.{answerOf, listCount, pack, unpack, listAfter, observed, OnStore, OneCall}
-use Rattle.model.specs.Stored.{stored}
+use Rattle.layouts.specs.Stored.{stored}
 use Rattle.model.proofs.CallLists.{observed-machine, answer-within}
 use Rattle.edit.proofs.Built.{store-tuples}
 use Rattle.pairs.specs.InWords.{mostListed, lentWords, CallInWords}

@@ -21,8 +21,8 @@ use Rattle.model.specs.Machine.{State, Outcome, machine}
 use Rattle.model.specs.Traces.{Trace}
 use Rattle.model.specs.OneCall.{answerOf, pack}
 use Rattle.model.specs.CallLists.{MeetsDemand1, WholeList}
-use Rattle.model.specs.Stored.{stored}
-use Rattle.model.proofs.Stored.{stored-lawful}
+use Rattle.layouts.specs.Stored.{stored}
+use Rattle.layouts.proofs.Stored.{stored-lawful}
 use Rattle.model.proofs.Refusals.{answer-form}
 use Rattle.model.proofs.Traces.{trace-map}
 use Rattle.model.proofs.CallLists.{MachineStep, whole-prepared}

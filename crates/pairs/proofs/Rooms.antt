@@ -13,8 +13,10 @@ use Rattle.model.specs.Operators.{operatorOf}
 use Rattle.model.specs.Steps.{wouldList}
 use Rattle.model.specs.Refusals.{stop, first, spaceAbsent, nodeAbsent, secondAbsent, edgeAbsent, listShort, full, ofCall, ofTuples, ifLookedUp, earlier, refusalOf}
 use Rattle.model.specs.Machine.{outcomeOf, machine}
-use Rattle.model.specs.Buffer.{tuplesOf, isStore}
+use Rattle.layouts.specs.Buffer.{tuplesOf, isStore}
 use Rattle.model.proofs.Counts.{would-most}
+use Rattle.layouts.specs.Stored.{stored}
+use Rattle.layouts.proofs.Stored.{stored-lawful}
 use Rattle.pairs.specs.InWords.{mostListed, lentWords}
 
 -- ---- how many words are lent
@@ -48,7 +50,7 @@ module _ (b : List ℕ) (e : isStore b ≡ true) (c : Call) (room : ℕ) where
       k = length (wouldList (operatorOf (c .operator)) c (tuplesOf b))
 
       most : k ≤ mostListed
-      most = omega (arith, would-most b e (operatorOf (c .operator)) c)
+      most = omega (arith, would-most stored stored-lawful b e (operatorOf (c .operator)) c)
 
       go : (t : Bool) → ltb room mostListed ≡ t → ltb (lentWords room) k ≡ ltb room k
       go true h = ap (λ (n : ℕ). ltb n k) (sym (lent-least room h))

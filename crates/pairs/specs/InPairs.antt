@@ -12,7 +12,7 @@ use Rattle.model.specs.Steps.{Reply, refusal, name, valued, yesNo, pairs}
 use Rattle.model.specs.Machine.{machine}
 use Rattle.model.specs.OneCall.{pack, unpack, OneCall}
 use Rattle.model.specs.CallLists.{Made, Exchange}
-use Rattle.model.specs.Stored.{stored}
+use Rattle.layouts.specs.Stored.{stored}
 
 -- the pairs that the first k words hold in the first k places, the rest what they held
 unfoldable pub unpackedOnto : ℕ → List ℕ → List Pair → List Pair

@@ -8,7 +8,7 @@ use lib.ListN.{length, take, drop}
 use Rattle.model.specs.declared.Call.{Call}
 use Rattle.model.specs.declared.Answer.{Answer}
 use Rattle.model.specs.OneCall.{listCount, OneCall}
-use Rattle.model.specs.Stored.{stored}
+use Rattle.layouts.specs.Stored.{stored}
 
 -- no call lists more: two words for each tuple that a store can hold (docs/DECISIONS.md: B-12)
 abbrev pub mostListed : ℕ

@@ -15,7 +15,7 @@ use Rattle.model.specs.declared.Removal.{Removal}
 use Rattle.model.specs.declared.Row.{Row}
 use Rattle.model.specs.Operators.{rowOf}
 use Rattle.model.specs.Tuples.{anyPresent, addAll, assignAll}
-use Rattle.model.specs.Buffer.{tuplesOf}
+use Rattle.layouts.specs.Buffer.{tuplesOf}
 use Rattle.model.specs.Steps.{nOf, sOf, vOf, objectKeys, created, firstValue, destroyed, listed, firstArgument, reply, idleReply, after}
 use Rattle.model.specs.OneCall.{answerOf, listAfter, writes}
 use Rattle.chain.specs.Links.{Linked, Edited}

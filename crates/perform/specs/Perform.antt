@@ -10,7 +10,7 @@ use Rattle.model.specs.declared.Call.{Call}
 use Rattle.model.specs.declared.Operator.{Operator}
 use Rattle.model.specs.declared.Operator.the-variants.{Create, Bind, Value as Values, Exists, Destroy, List as Lists}
 use Rattle.model.specs.declared.Removal.{Removal}
-use Rattle.model.specs.Buffer.{tuplesOf}
+use Rattle.layouts.specs.Buffer.{tuplesOf}
 use Rattle.model.specs.Steps.{nOf, gOf, mOf, sOf, created, listed, reply, after}
 use Rattle.model.specs.OneCall.{answerOf, listAfter, writes}
 use Rattle.chain.specs.Links.{Edited}

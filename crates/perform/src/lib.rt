@@ -9,7 +9,7 @@ use steps::Near;
 ghost use mathlib.Core.Bool.{true};
 ghost use mathlib.Core.Path.{_≡_};
 ghost use lib.ListN.{length};
-ghost use Rattle.model.specs.Buffer.{tuplesOf, isStore};
+ghost use Rattle.layouts.specs.Buffer.{tuplesOf, isStore};
 ghost use Rattle.model.specs.Steps.{spaceNumber, firstArgument, destroyed, idleReply};
 ghost use Rattle.model.specs.OneCall.{answerOf};
 ghost use Rattle.chain.specs.Links.{Edited};

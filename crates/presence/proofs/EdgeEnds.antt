@@ -11,7 +11,8 @@ use Rattle.model.specs.declared.Key.{Key}
 use Rattle.model.specs.Ordered.{isLess, thenBy, Above, Ascending}
 use Rattle.model.specs.Keys.{keyOf, spaceKey, nodeKey, compareKeys, sameKey}
 use Rattle.model.specs.Tuples.{Tuples, present}
-use Rattle.model.specs.Buffer.{word, next, keyAt, tupleAt, tuplesOf, ascendsFromUniverse, everyKey}
+use Rattle.layouts.specs.Buffer.{word, next, keyAt, tupleAt, tuplesOf}
+use Rattle.model.specs.Rules.{ascendsFromUniverse, everyKey}
 use Rattle.model.proofs.Bools.{and-left, and-right, failed}
 use Rattle.model.proofs.Order.{keys, compare-eq, compare-lt, lt≢gt}
 use Rattle.model.proofs.Ordered.{above-less, test-above}

@@ -12,7 +12,7 @@ use borrow.Author.Tests.{eqb-true, eqb-false, eq-eqb, ne-eqb, ltb-true, ltb-fals
 use Rattle.model.specs.declared.Key.{Key}
 use Rattle.model.specs.Keys.{nodeKey, edgeKey}
 use Rattle.model.specs.Tuples.{present}
-use Rattle.model.specs.Buffer.{capacityOf, keyAt, tuplesOf}
+use Rattle.layouts.specs.Buffer.{capacityOf, keyAt, tuplesOf}
 use Rattle.model.proofs.Bools.{or-cases, and-left, and-right, not-yes}
 use Rattle.model.proofs.Tuples.{same-key}
 use Rattle.presence.specs.Presence.{isAt, Held, Marked, Marks, MarksFit, markCount, nodeMark, edgeMark, edgeRecord, nodeSlot, edgeSlot, withMark, withNode, withEdge, withNamed, lookFrom, nodeShown, edgeShown}

@@ -5,7 +5,7 @@ use mathlib.Core.Path.{_≡_, refl, sym, ap, ap₂, _∙_}
 use Rattle.model.specs.declared.Key.{Key}
 use Rattle.model.specs.Keys.{nodeKey, edgeKey, isEdge}
 use Rattle.model.specs.Tuples.{Tuples, present}
-use Rattle.model.specs.Buffer.{nodeSupported, edgeSupported, everyKey}
+use Rattle.model.specs.Rules.{nodeSupported, edgeSupported, everyKey}
 use Rattle.presence.specs.Presence.{supported, edgeInUniverse, namedPresent, endsPresent}
 
 -- ---- tests

@@ -13,16 +13,17 @@ use Rattle.model.specs.declared.Key.{Key}
 use Rattle.model.specs.Ordered.{isLess, holds, Ascending}
 use Rattle.model.specs.Keys.{keyOf, compareKeys, sameKey}
 use Rattle.model.specs.Tuples.{Tuples, present}
-use Rattle.model.specs.Buffer.{word, capacityOf, next, keyAt, tupleAt, walk, orNothing, usedChain, usedOf, tuplesOf, ascendsFromUniverse, everyKey}
-use Rattle.model.specs.Rules.{Chain}
+use Rattle.layouts.specs.Buffer.{word, capacityOf, next, keyAt, tupleAt, walk, orNothing, usedChain, usedOf, tuplesOf}
+use Rattle.model.specs.Rules.{ascendsFromUniverse, everyKey}
+use Rattle.layouts.specs.Chains.{Chain}
 use Rattle.model.proofs.Bools.{or-left, or-right, and-left, and-right, not-yes}
 use Rattle.model.proofs.Order.{keys, opposite}
 use Rattle.model.proofs.Ordered.{isLess-true, above-not-held, ascending-tail}
 use Rattle.model.proofs.Tuples.{own-key}
-use Rattle.model.proofs.Chains.{chain-walk}
+use Rattle.layouts.proofs.Chains.{chain-walk}
 use Rattle.words.specs.Words.{Inside}
 use Rattle.presence.specs.Presence.{Walkable, allWithin, UsedEnds, recordsFrom, tuplesFrom, OnChain, Seekable, isAt, isBefore, Held}
-use Rattle.words.proofs.Sizes.{room}
+use Rattle.layouts.proofs.Sizes.{records-fit}
 use Rattle.presence.proofs.ChainEnds.{met-by-walk}
 
 -- ---- one record on
@@ -31,7 +32,7 @@ walk-none : (link : ℕ → ℕ) (most : ℕ) → walk link most 0 ≡ some []
 walk-none link most = chain-walk link most 0 [] refl (omega arith)
 
 pub record-inside : (b : List ℕ) (i : ℕ) → Walkable b → i ≤ capacityOf b → i ≢ 0 → Inside b i
-record-inside b i w h n = record { low = omega arith; high = omega (arith, room b (w .least) (w .most)) }
+record-inside b i w h n = record { low = omega arith; high = omega (arith, records-fit b (w .least) (w .most)) }
 
 -- the used chain from its head
 pub used-from-head : (b : List ℕ) (h : ℕ) → h ≡ word b 1 → tuplesFrom b h ≡ tuplesOf b

@@ -11,7 +11,9 @@ use borrow.Author.Tests.{eqb-true, eqb-false, eq-eqb, ne-eqb, lt-ltb, le-ltb, le
 use Rattle.model.specs.declared.Key.{Key}
 use Rattle.model.specs.Keys.{nodeKey}
 use Rattle.model.specs.Tuples.{Tuples, present}
-use Rattle.model.specs.Buffer.{keyAt, tuplesOf, everyRecord, smallKey, noEdgeWithoutNode, edgeHasEnd}
+use Rattle.layouts.specs.Buffer.{keyAt, tuplesOf}
+use Rattle.model.specs.Numbers.{everyUpTo}
+use Rattle.model.specs.Rules.{smallKey, noEdgeWithoutNode, edgeHasEnd}
 use Rattle.model.proofs.Bools.{and-left, and-right, not-yes}
 use Rattle.presence.specs.declared.ends.Found.{Found}
 use Rattle.presence.specs.Presence.{withNode, withEdge, withNamed, nodeShown, edgeShown, nodeSettled, edgeSettled, settled, endThere, endShown, nothingKept, foundWith, listWith, everyEnd, goodKey, shapedKey}
@@ -180,20 +182,20 @@ module _ (b ms list : List ℕ) (j k : Key) (f : Found) (at : ℕ) where
     take-edge-list list′ e = e ∙ simp (ne-eqb (k .g) 0 g)
 
 -- a test of the records 1 to C
-pub every-on : (p : ℕ → Bool) (i : ℕ) → 0 < i → p i ≡ true → everyRecord p i ≡ everyRecord p (i - 1)
-unfolding everyRecord
+pub every-on : (p : ℕ → Bool) (i : ℕ) → 0 < i → p i ≡ true → everyUpTo p i ≡ everyUpTo p (i - 1)
+unfolding everyUpTo
 every-on p zero h e = absurd (omega arith)
 every-on p (suc i) h e =
     let z : i ≡ suc i - 1 = omega arith in
-    ap (λ (t : Bool). t && everyRecord p i) e ∙ ap (everyRecord p) z
+    ap (λ (t : Bool). t && everyUpTo p i) e ∙ ap (everyUpTo p) z
 
-pub every-stop : (p : ℕ → Bool) (i : ℕ) → 0 < i → p i ≡ false → everyRecord p i ≡ false
-unfolding everyRecord
+pub every-stop : (p : ℕ → Bool) (i : ℕ) → 0 < i → p i ≡ false → everyUpTo p i ≡ false
+unfolding everyUpTo
 every-stop p zero h e = absurd (omega arith)
-every-stop p (suc i) h e = ap (λ (t : Bool). t && everyRecord p i) e
+every-stop p (suc i) h e = ap (λ (t : Bool). t && everyUpTo p i) e
 
-pub every-none : (p : ℕ → Bool) → everyRecord p 0 ≡ true
-unfolding everyRecord
+pub every-none : (p : ℕ → Bool) → everyUpTo p 0 ≡ true
+unfolding everyUpTo
 every-none p = refl
 
 -- what is left of testing them
@@ -210,7 +212,7 @@ module _ (b list : List ℕ) (kept : ℕ) where
     unfolding everyEnd
     ending-end h =
         let z : j ≡ 0 = omega arith in
-        sym (E .left ∙ ap (everyRecord (λ (j : ℕ). endThere (tuplesOf b) (keyAt b (getD list (j - 1) 0)))) z ∙ every-none (λ (j : ℕ). endThere (tuplesOf b) (keyAt b (getD list (j - 1) 0))))
+        sym (E .left ∙ ap (everyUpTo (λ (j : ℕ). endThere (tuplesOf b) (keyAt b (getD list (j - 1) 0)))) z ∙ every-none (λ (j : ℕ). endThere (tuplesOf b) (keyAt b (getD list (j - 1) 0))))
 
     module _ (h : 0 < j) (i : ℕ) (e : i ≡ getD list (j - 1) 0) (r : Bool) (f : r ≡ endThere (tuplesOf b) (keyAt b i)) where
       this : endThere (tuplesOf b) (keyAt b (getD list (j - 1) 0)) ≡ r

@@ -9,8 +9,9 @@ use Rattle.model.specs.declared.Key.{Key}
 use Rattle.model.specs.Ordered.{Ascending}
 use Rattle.model.specs.Keys.{keyOf, spaceKey, nodeKey, edgeKey, compareKeys}
 use Rattle.model.specs.Tuples.{Tuples, present}
-use Rattle.model.specs.Buffer.{word, tuplesOf, nodeSupported}
-use Rattle.model.proofs.Store.{from-universe-yes}
+use Rattle.layouts.specs.Buffer.{word, tuplesOf}
+use Rattle.model.specs.Rules.{nodeSupported}
+use Rattle.model.proofs.Sound.{from-universe-yes}
 use Rattle.presence.specs.Presence.{tuplesFrom, Seekable, Sorted, edgeInUniverse, namedPresent}
 use Rattle.presence.proofs.Rest.{used-from-head, on-head, ascends-empty}
 

@@ -11,8 +11,10 @@ use Rattle.model.specs.declared.Key.{Key}
 use Rattle.model.specs.Ordered.{isLess, Ascending}
 use Rattle.model.specs.Keys.{mostName, keyOf, nodeKey, edgeKey, isEdge, compareKeys, sameKey}
 use Rattle.model.specs.Tuples.{Tuples, present}
-use Rattle.model.specs.Buffer.{word, leastLength, mostLength, capacityOf, next, keyAt, tupleAt, walk, orNothing, usedChain, tuplesOf, everyRecord, ascendsFromUniverse, smallKey, noEdgeWithoutNode, edgeHasEnd, nodeSupported, edgeSupported, everyKey}
-use Rattle.model.specs.Rules.{Chain}
+use Rattle.layouts.specs.Buffer.{word, leastLength, mostLength, capacityOf, next, keyAt, tupleAt, walk, orNothing, usedChain, tuplesOf}
+use Rattle.model.specs.Numbers.{everyUpTo}
+use Rattle.model.specs.Rules.{ascendsFromUniverse, smallKey, noEdgeWithoutNode, edgeHasEnd, nodeSupported, edgeSupported, everyKey}
+use Rattle.layouts.specs.Chains.{Chain}
 use Rattle.presence.specs.declared.ends.Found.{Found}
 
 -- ---- a chain that ends
@@ -226,7 +228,7 @@ listWith marks list k kept i = cond (nothingKept marks k) list (set list kept i)
 
 -- are the second ends there of the first so many kept records
 unfoldable pub everyEnd : List ℕ → List ℕ → ℕ → Bool
-everyEnd b list kept = everyRecord (λ (j : ℕ). endThere (tuplesOf b) (keyAt b (getD list (j - 1) 0))) kept
+everyEnd b list kept = everyUpTo (λ (j : ℕ). endThere (tuplesOf b) (keyAt b (getD list (j - 1) 0))) kept
 
 -- the first so many places of a list name records with good keys
 pub record Listed (b list : List ℕ) (kept : ℕ) : Type 0 where

@@ -5,7 +5,8 @@ use super::seek::is_at;
 use super::seek::is_before;
 use words::node_key;
 ghost use mathlib.Core.Path.{_≡_};
-ghost use Rattle.model.specs.Buffer.{tuplesOf, everyKey};
+ghost use Rattle.layouts.specs.Buffer.{tuplesOf};
+ghost use Rattle.model.specs.Rules.{everyKey};
 ghost use Rattle.words.specs.Words.{Inside};
 ghost use Rattle.presence.specs.Presence.{Sorted, endsPresent, spaceStart};
 

@@ -11,7 +11,7 @@ ghost use mathlib.Core.Logic.{_≢_};
 ghost use mathlib.Core.Path.{_≡_};
 ghost use Prim.Native.Nat.{suc, _≤_, _<_};
 ghost use lib.ListN.{length, getD, set};
-ghost use Rattle.model.specs.Buffer.{capacityOf, keyAt, tuplesOf};
+ghost use Rattle.layouts.specs.Buffer.{capacityOf, keyAt, tuplesOf};
 ghost use Rattle.presence.specs.Presence.{Walkable, Sorted, Marks, MarksFit, markCount, goodKey, Listed, keptCount, nodeSettled, edgeSettled, endThere, endShown, everyEnd, foundWith, listWith, withNamed};
 
 // What the walk of the used chain finds.

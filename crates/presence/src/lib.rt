@@ -8,7 +8,8 @@ mod seek;
 
 use ends::Found;
 ghost use mathlib.Core.Path.{_≡_};
-ghost use Rattle.model.specs.Buffer.{tuplesOf, everyKey};
+ghost use Rattle.layouts.specs.Buffer.{tuplesOf};
+ghost use Rattle.model.specs.Rules.{everyKey};
 ghost use Rattle.presence.specs.Presence.{Sorted, supported, Decided};
 
 // Is all there that the tuples name, after the walk of the used chain.

@@ -11,7 +11,7 @@ ghost use Prim.Native.Nat.{_≤_, _<_};
 ghost use lib.ListN.{length, getD, set};
 ghost use Rattle.model.specs.Keys.{nodeKey};
 ghost use Rattle.model.specs.Tuples.{present};
-ghost use Rattle.model.specs.Buffer.{tuplesOf};
+ghost use Rattle.layouts.specs.Buffer.{tuplesOf};
 ghost use Rattle.presence.specs.Presence.{Walkable, Sorted, Marks, MarksFit, markCount, nodeMark, edgeMark, edgeRecord, nodeSlot, edgeSlot, withMark, withNode, withEdge, nodeShown, edgeShown};
 
 // The mark of node n in s.

@@ -4,7 +4,8 @@ use super::seek::holds_from;
 use model::Key;
 use words::node_key;
 ghost use mathlib.Core.Path.{_≡_};
-ghost use Rattle.model.specs.Buffer.{tuplesOf, nodeSupported, everyKey};
+ghost use Rattle.layouts.specs.Buffer.{tuplesOf};
+ghost use Rattle.model.specs.Rules.{nodeSupported, everyKey};
 ghost use Rattle.presence.specs.Presence.{Sorted, edgeInUniverse, namedPresent};
 
 // Has a node tuple its space and its tuple in 0; other keys need neither.

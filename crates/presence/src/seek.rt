@@ -4,7 +4,7 @@ use model::Key;
 ghost use mathlib.Core.Path.{_≡_};
 ghost use Prim.Native.Nat.{_≤_};
 ghost use Rattle.model.specs.Tuples.{present};
-ghost use Rattle.model.specs.Buffer.{capacityOf};
+ghost use Rattle.layouts.specs.Buffer.{capacityOf};
 ghost use Rattle.presence.specs.Presence.{Walkable, tuplesFrom, Seekable, isAt, isBefore};
 
 // Does record i have this key.

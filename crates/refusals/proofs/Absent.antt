@@ -16,9 +16,10 @@ use Rattle.model.specs.Operators.{operatorOf, within, readsOf, asksOf, rowOf}
 use Rattle.model.specs.Tuples.{Tuples, present, anyPresent}
 use Rattle.model.specs.Steps.{nOf, mOf, sOf}
 use Rattle.model.specs.Refusals.{noOperator, spaceAbsent, nodeAbsent, secondAbsent, workedOn, edgeAbsent}
-use Rattle.model.specs.Buffer.{everyRecord, tuplesOf}
+use Rattle.model.specs.Numbers.{everyUpTo}
+use Rattle.layouts.specs.Buffer.{tuplesOf}
 use Rattle.model.proofs.Bools.{or-left, or-right, and-left, and-right, and-no, not-no, not-yes}
-use Rattle.model.proofs.Steps.{every-record}
+use Rattle.model.proofs.Numbers.{every-up-to}
 use Rattle.steps.specs.declared.Fields.{Fields}
 use Rattle.steps.specs.Operate.{fieldsOf}
 use Rattle.located.specs.declared.Located.{Located}
@@ -50,12 +51,12 @@ asksTogether o = not (asksOf o .node || (readsOf o .m)) || (asksOf o .space)
 abbrev readsNode : ℕ → Bool
 readsNode o = not (asksOf o .node) || (readsOf o .n)
 
-all-ask : everyRecord asksTogether 57 ≡ true
-unfolding everyRecord readsOf
+all-ask : everyUpTo asksTogether 57 ≡ true
+unfolding everyUpTo readsOf
 all-ask = refl
 
-all-read : everyRecord readsNode 57 ≡ true
-unfolding everyRecord readsOf
+all-read : everyUpTo readsNode 57 ≡ true
+unfolding everyUpTo readsOf
 all-read = refl
 
 in-one-place : (o : ℕ) → asksOf o .universe ≡ true → asksOf o .node ≡ false
@@ -111,11 +112,11 @@ module _ (b : List ℕ) (c : Call) (l : Located) (T : Told b c l) where
   -- ---- 6 and 7, where conditions 2 and 5 do not apply
 
   module _ (valid : noOperator c ≡ false) (there : spaceAbsent c ts ≡ false) where
-    numbered : (p : ℕ → Bool) → everyRecord p 57 ≡ true → p o ≡ true
+    numbered : (p : ℕ → Bool) → everyUpTo p 57 ≡ true → p o ≡ true
     unfolding noOperator
     numbered p e =
         let w = not-no (within 1 57 o) valid in
-        every-record p 57 e o (leb-true 1 o (and-left (leb 1 o) (leb o 57) w)) (leb-true o 57 (and-right (leb 1 o) (leb o 57) w))
+        every-up-to p 57 e o (leb-true 1 o (and-left (leb 1 o) (leb o 57) w)) (leb-true o 57 (and-right (leb 1 o) (leb o 57) w))
 
     space-there : (asksOf o .node || (readsOf o .m)) ≡ true → l .space ≡ true
     unfolding spaceAbsent

@@ -14,11 +14,11 @@ use Rattle.model.specs.declared.Operator.{Operator}
 use Rattle.model.specs.declared.Pair.{Pair}
 use Rattle.model.specs.Operators.{operatorOf}
 use Rattle.model.specs.Tuples.{Tuples, missing}
-use Rattle.model.specs.Buffer.{word, capacityOf, tuplesOf}
+use Rattle.layouts.specs.Buffer.{word, capacityOf, tuplesOf}
 use Rattle.model.specs.Steps.{wouldList, wouldAdd}
 use Rattle.model.specs.Refusals.{Stop, stop, first, selectsNothing, noOperator, zeroName, destroysUniverse, spaceAbsent, nodeAbsent, secondAbsent, edgeAbsent, listShort, full, ofCall, ofTuples, ifLookedUp, earlier, refusalOf}
 use Rattle.model.proofs.Bools.{equal, not-yes}
-use Rattle.model.proofs.Store.{tuples-fit}
+use Rattle.layouts.proofs.Store.{tuples-fit}
 use Rattle.model.proofs.Refusals.{everyNumber, first-number, asked, looked-up}
 use Rattle.chain.specs.Links.{Linked}
 use Rattle.edit.proofs.Built.{length-tuples}

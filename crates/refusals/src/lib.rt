@@ -11,7 +11,7 @@ ghost use Prim.Native.Nat.{_-_};
 ghost use lib.ListN.{length};
 ghost use Rattle.model.specs.Operators.{operatorOf};
 ghost use Rattle.model.specs.Tuples.{present, anyPresent, missing};
-ghost use Rattle.model.specs.Buffer.{capacityOf, tuplesOf, isStore};
+ghost use Rattle.layouts.specs.Buffer.{capacityOf, tuplesOf, isStore};
 ghost use Rattle.model.specs.Steps.{listed, wouldAdd};
 ghost use Rattle.model.specs.Refusals.{selectsNothing, noOperator, zeroName, spaceAbsent, nodeAbsent, secondAbsent, workedOn, edgeAbsent, listShort, full, refusalOf};
 ghost use Rattle.chain.specs.Links.{Linked, Hint};

@@ -12,7 +12,7 @@ use Rattle.model.specs.declared.Pair.{Pair}
 use Rattle.model.specs.Pairs.{edgeOf, nodeOf, pairsOf, nodeNames, withEdge}
 use Rattle.model.specs.OneCall.{nameCount, pack}
 use Rattle.model.specs.Tuples.{Tuples, remove}
-use Rattle.model.specs.Buffer.{tuplesOf}
+use Rattle.layouts.specs.Buffer.{tuplesOf}
 use Rattle.model.specs.Rules.{TupleRules}
 use Rattle.model.specs.Steps.{nOf, gOf, sOf, nodeTaken, removeNodes, listed}
 use Rattle.model.proofs.Entries.{Member, pairs-sound, nodes-sound, only-sound}

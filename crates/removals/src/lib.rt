@@ -12,7 +12,7 @@ ghost use mathlib.Core.Logic.{_≢_};
 ghost use mathlib.Core.Path.{_≡_};
 ghost use Rattle.model.specs.declared.Removal.{Removal};
 ghost use Rattle.model.specs.Tuples.{remove};
-ghost use Rattle.model.specs.Buffer.{tuplesOf, isStore};
+ghost use Rattle.layouts.specs.Buffer.{tuplesOf, isStore};
 ghost use Rattle.model.specs.Steps.{nOf, gOf, mOf, sOf, edgesTaken, nodeTaken, spaceTaken, destroyed, listed, removeNodes};
 ghost use Rattle.chain.specs.Links.{Linked, Hint, Edited};
 ghost use Rattle.taken.specs.Selections.{passes};

@@ -12,14 +12,14 @@ use denote.Triple.Clauses.{AtExit}
 use Rattle.model.specs.declared.Preparation.the-variants.{Capacity}
 use Rattle.model.specs.Tuples.{fresh}
 use Rattle.model.specs.Machine.{State}
-use Rattle.model.specs.Stored.{stored}
-use Rattle.model.proofs.Stored.{stored-lawful}
+use Rattle.layouts.specs.Stored.{stored}
+use Rattle.layouts.proofs.Stored.{stored-lawful}
 use Rattle.model.proofs.Bools.{clash}
-use Rattle.model.proofs.Store.{store-exactly}
+use Rattle.layouts.proofs.Store.{store-exactly}
 use Rattle.model.proofs.Traces.{trace-each}
 use Rattle.model.proofs.CallLists.{whole-list, machine-trace}
 use Rattle.model.proofs.Demand1.{one-call-demand-1}
-use Rattle.model.proofs.Prepared.{prepared-capacity, prepared-store, prepared-tuples}
+use Rattle.layouts.proofs.Prepared.{prepared-capacity, prepared-store, prepared-tuples}
 use Rattle.calls.proofs.Lists.{PreparedBy, prepared-by}
 use Rattle.run.specs.Words.{callsIn}
 use Rattle.run.specs.Runs.{hasRoom, NotRun, AllRun, Ran, RunDemand1, WholeRun}

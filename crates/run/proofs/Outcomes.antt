@@ -9,7 +9,7 @@ use lib.Dec.{leb}
 use lib.ListN.{length, take, drop, length-drop}
 use lib.Seq.{length-take-le}
 use Rattle.model.specs.Machine.{State, Request, machine}
-use Rattle.model.specs.Buffer.{capacityOf, tuplesOf, isStore}
+use Rattle.layouts.specs.Buffer.{capacityOf, tuplesOf, isStore}
 use Rattle.model.specs.CallLists.{exchangeOf, requests}
 use Rattle.model.proofs.Bools.{and-both, and-left, and-right, clash, failed, not-yes, not-no}
 use Rattle.run.specs.Words.{answerWords, callCount, callsFrom, callsIn}

@@ -9,14 +9,14 @@ use lib.Seq.{length-take-le, take-at, drop-at}
 use Rattle.model.specs.declared.Call.{Call}
 use Rattle.model.specs.declared.Answer.{Answer}
 use Rattle.model.specs.Machine.{State, Request, machine}
-use Rattle.model.specs.Buffer.{capacityOf, tuplesOf, isStore}
+use Rattle.layouts.specs.Buffer.{capacityOf, tuplesOf, isStore}
 use Rattle.model.specs.Traces.{Trace, end, then}
 use Rattle.model.specs.OneCall.{answerOf, listCount, listAfter, OnStore}
 use Rattle.model.specs.CallLists.{CallMade, OneMade}
-use Rattle.model.specs.Stored.{stored}
+use Rattle.layouts.specs.Stored.{stored}
 use Rattle.model.proofs.Bools.{clash}
 use Rattle.model.proofs.CallLists.{answer-within}
-use Rattle.words.proofs.Words.{capacity-length}
+use Rattle.layouts.proofs.Sizes.{capacity-length}
 use Rattle.run.specs.Words.{answerWords, callAt, roomAt, requestAt, callsFrom, kindOf, numberOf, putAnswer}
 use Rattle.run.specs.Runs.{callMade, callsMade, answersAfter, listsAfter, roomsOf, Left, OneRun}
 use Rattle.run.proofs.WordLaws.{calls-start, calls-next, calls-end, answer-length, answer-first, answer-rest}

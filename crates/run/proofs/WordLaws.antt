@@ -11,7 +11,7 @@ use Rattle.model.specs.declared.Call.{Call}
 use Rattle.model.specs.declared.Space.{Space}
 use Rattle.model.specs.declared.Space.the-variants.{Universe, Numbered, Nothing}
 use Rattle.model.specs.declared.Answer.{Answer}
-use Rattle.model.specs.Buffer.{word}
+use Rattle.layouts.specs.Buffer.{word}
 use Rattle.run.specs.Words.{callWords, answerWords, spaceOf, lower, upper, callAt, requestAt, callsFrom, kindOf, numberOf, putAnswer}
 
 -- ---- a call

@@ -10,7 +10,7 @@ use Rattle.model.specs.Machine.{State, Request, machine}
 use Rattle.model.specs.Traces.{Trace}
 use Rattle.model.specs.OneCall.{answerOf, listAfter, OnStore}
 use Rattle.model.specs.CallLists.{CallMade, OneMade, MeetsDemand1, exchangeOf, requests, WholeList}
-use Rattle.model.specs.Stored.{stored}
+use Rattle.layouts.specs.Stored.{stored}
 use Rattle.run.specs.Words.{answerWords, callsIn, kindOf, numberOf, putAnswer}
 
 -- ---- what the machine makes of a list of calls

@@ -13,7 +13,7 @@ use Rattle.model.specs.declared.Space.the-variants.{Universe, Numbered, Nothing
 use Rattle.model.specs.declared.Answer.{Answer}
 use Rattle.model.specs.declared.Answer.the-variants.{Refusal, Name, Value, YesNo, List as Listed}
 use Rattle.model.specs.Machine.{Request}
-use Rattle.model.specs.Buffer.{word}
+use Rattle.layouts.specs.Buffer.{word}
 use Rattle.model.specs.OneCall.{nameCount}
 
 -- ---- calls

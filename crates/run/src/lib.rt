@@ -11,7 +11,7 @@ ghost use Prim.Native.Nat.{_+_, _*_, _≤_};
 ghost use lib.Dec.{leb};
 ghost use lib.ListN.{length};
 ghost use Rattle.model.specs.OneCall.{listCount};
-ghost use Rattle.model.specs.Stored.{stored};
+ghost use Rattle.layouts.specs.Stored.{stored};
 ghost use Rattle.run.specs.Words.{spaceOf, lower, upper, callAt, roomAt, requestAt, callsFrom, kindOf, bitOf, numberOf, putAnswer};
 ghost use Rattle.run.specs.Runs.{roomsOf, callMade, callsMade, OneRun, Left, Ran};
 

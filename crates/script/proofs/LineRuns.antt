@@ -10,13 +10,13 @@ use Rattle.model.specs.declared.Answer.{Answer}
 use Rattle.model.specs.declared.Answer.the-variants.{Refusal}
 use Rattle.model.specs.Steps.{Reply, refusal}
 use Rattle.model.specs.Machine.{State, Outcome, machine}
-use Rattle.model.specs.Buffer.{capacityOf, tuplesOf}
+use Rattle.layouts.specs.Buffer.{capacityOf, tuplesOf}
 use Rattle.model.specs.OneCall.{answerOf, listCount, listAfter, observed, OnStore}
 use Rattle.model.specs.Demand1.{Demand1}
-use Rattle.model.specs.Stored.{stored}
-use Rattle.model.proofs.Stored.{stored-lawful}
+use Rattle.layouts.specs.Stored.{stored}
+use Rattle.layouts.proofs.Stored.{stored-lawful}
 use Rattle.model.proofs.Bools.{clash}
-use Rattle.model.proofs.Store.{store-rules}
+use Rattle.layouts.proofs.Store.{store-rules}
 use Rattle.model.proofs.Demand1.{one-call-demand-1}
 use Rattle.model.proofs.CallLists.{observed-machine, answer-within}
 use Rattle.text.specs.Bytes.{Text, lineFeed}
@@ -28,7 +28,7 @@ use Rattle.lines.specs.Calls.{readLine}
 use Rattle.print.specs.Answers.{answerText, answerLine, mostLine, Put, Printable}
 use Rattle.print.proofs.Lengths.{line-printable}
 use Rattle.script.specs.Scripts.{scriptRecords, scriptPlaces, readingOutcome, lineOutcome}
-use Rattle.words.proofs.Words.{capacity-length}
+use Rattle.layouts.proofs.Sizes.{capacity-length}
 use Rattle.script.specs.Runs.{Ready, LineCalled, call, no-call, LineStep, LineRun, lineList, LineDemand1}
 
 -- ---- what was run

@@ -8,7 +8,7 @@ use borrow.Author.Tests.{le-leb, lt-leb, ltb-true, ltb-false}
 use lib.Dec.{leb, ltb}
 use lib.ListN.{length, drop, length-append}
 use Rattle.model.specs.Machine.{State}
-use Rattle.model.specs.Buffer.{tuplesOf}
+use Rattle.layouts.specs.Buffer.{tuplesOf}
 use Rattle.model.specs.Traces.{Trace, end, then}
 use Rattle.model.proofs.Traces.{trace-append}
 use Rattle.text.specs.Bytes.{Text, lineFeed, before as upTo, written}

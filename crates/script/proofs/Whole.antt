@@ -15,7 +15,7 @@ use Rattle.model.specs.Tuples.{fresh}
 use Rattle.model.specs.Steps.{refusal}
 use Rattle.model.specs.Machine.{State}
 use Rattle.model.specs.Traces.{Trace, end}
-use Rattle.model.specs.Stored.{stored}
+use Rattle.layouts.specs.Stored.{stored}
 use Rattle.model.proofs.Traces.{trace-each, trace-append}
 use Rattle.calls.proofs.Lists.{PreparedBy, prepared-preparing}
 use Rattle.text.specs.Bytes.{Text}

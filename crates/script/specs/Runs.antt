@@ -10,7 +10,7 @@ use Rattle.model.specs.Machine.{State, machine}
 use Rattle.model.specs.Traces.{Trace}
 use Rattle.model.specs.OneCall.{answerOf, listAfter, OnStore}
 use Rattle.model.specs.Demand1.{Demand1}
-use Rattle.model.specs.Stored.{stored}
+use Rattle.layouts.specs.Stored.{stored}
 use Rattle.text.specs.Bytes.{Text}
 use Rattle.lines.specs.declared.Reading.{Reading}
 use Rattle.lines.specs.declared.Reading.the-variants.{Read, Refused}

@@ -7,7 +7,7 @@ ghost use Prim.Native.Nat.{_+_, _≤_};
 ghost use lib.Dec.{leb};
 ghost use lib.ListN.{length, drop};
 ghost use Rattle.model.specs.Steps.{refusal};
-ghost use Rattle.model.specs.Stored.{stored};
+ghost use Rattle.layouts.specs.Stored.{stored};
 ghost use Rattle.lines.specs.Lines.{linesOf};
 ghost use Rattle.print.specs.Answers.{answerLine, mostLine, Put};
 ghost use Rattle.script.specs.Scripts.{mostInput};

@@ -15,11 +15,11 @@ use Rattle.model.specs.declared.Object.{Object}
 use Rattle.model.specs.Ordered.{Ascending, holds}
 use Rattle.model.specs.Keys.{keyOf, compareKeys, sameKey, edgeKey}
 use Rattle.model.specs.Tuples.{Tuples, present, add, addAll, missing}
-use Rattle.model.specs.Buffer.{capacityOf, tuplesOf}
+use Rattle.layouts.specs.Buffer.{capacityOf, tuplesOf}
 use Rattle.model.specs.Steps.{sOf, objectKeys, created}
 use Rattle.model.proofs.Bools.{or-cases, or-left, or-right, clash, failed}
 use Rattle.model.proofs.Tuples.{same-key, own-key, among, present-add, present-addAll, addAll-ascending, length-addAll}
-use Rattle.words.proofs.Words.{capacity-length}
+use Rattle.layouts.proofs.Sizes.{capacity-length}
 use Rattle.chain.specs.Links.{Linked, Edited}
 use Rattle.edit.specs.Edits.{Adding}
 use Rattle.steps.specs.declared.Fields.{Fields}

@@ -14,9 +14,9 @@ use Rattle.model.specs.declared.Key.{Key}
 use Rattle.model.specs.declared.Object.{Object}
 use Rattle.model.specs.Keys.{Value, edgeKey}
 use Rattle.model.specs.Tuples.{Tuples, present, anyPresent, valueAt, assign, assignAll}
-use Rattle.model.specs.Buffer.{word, recordStart, keyAt, usedOf, tuplesOf}
+use Rattle.layouts.specs.Buffer.{word, recordStart, valuePlace, keyAt, usedOf, tuplesOf}
 use Rattle.model.specs.Steps.{vOf, sOf, objectKeys, firstValue}
-use Rattle.words.specs.Words.{putValue}
+use Rattle.words.specs.Words.{putWord}
 use Rattle.chain.specs.Links.{Hint, KeepsHints, findIn, Edited}
 use Rattle.edit.specs.Edits.{assignIn, Assigned}
 use Rattle.steps.specs.declared.Fields.{Fields}
@@ -162,16 +162,16 @@ near-kept K N = record { space = K _ (N .space); node = K _ (N .node); second = 
 -- ---- the words of B
 
 -- one key: a word that is no record's value word stays
-assign-other : (b : List ℕ) (k : Key) (v : Value) (i : ℕ) → ((at : ℕ) → i ≢ recordStart at + 5) → word (assignIn b k v) i ≡ word b i
-unfolding assignIn putValue
+assign-other : (b : List ℕ) (k : Key) (v : Value) (i : ℕ) → ((at : ℕ) → i ≢ recordStart at + valuePlace) → word (assignIn b k v) i ≡ word b i
+unfolding assignIn putWord
 assign-other b k v i d = go (eqb (findIn (keyAt b) k (usedOf b)) 0)
   where
-    go : (t : Bool) → word (cond t b (set b (recordStart (findIn (keyAt b) k (usedOf b)) + 5) v)) i ≡ word b i
+    go : (t : Bool) → word (cond t b (set b (recordStart (findIn (keyAt b) k (usedOf b)) + valuePlace) v)) i ≡ word b i
     go true = refl
-    go false = getD-set-other b (recordStart (findIn (keyAt b) k (usedOf b)) + 5) i v 0 (d _)
+    go false = getD-set-other b (recordStart (findIn (keyAt b) k (usedOf b)) + valuePlace) i v 0 (d _)
 
 -- B writes value words alone: no head, no link and no key is another afterwards
-pub bound-other : (b : List ℕ) (ks : List Key) (v : Value) (b′ : List ℕ) (i : ℕ) → Bound b ks v b′ → ((at : ℕ) → i ≢ recordStart at + 5) → word b′ i ≡ word b i
+pub bound-other : (b : List ℕ) (ks : List Key) (v : Value) (b′ : List ℕ) (i : ℕ) → Bound b ks v b′ → ((at : ℕ) → i ≢ recordStart at + valuePlace) → word b′ i ≡ word b i
 unfolding assignAllIn
 bound-other b ks v b′ i B d = ap (λ (x : List ℕ). word x i) (B .words) ∙ go ks b
   where

@@ -11,7 +11,7 @@ use Rattle.model.specs.declared.Key.{Key}
 use Rattle.model.specs.declared.Object.{Object}
 use Rattle.model.specs.Keys.{Value, spaceKey, nodeKey, edgeKey}
 use Rattle.model.specs.Tuples.{missing, assignAll}
-use Rattle.model.specs.Buffer.{capacityOf, tuplesOf}
+use Rattle.layouts.specs.Buffer.{capacityOf, tuplesOf}
 use Rattle.model.specs.Steps.{nOf, gOf, mOf, vOf, sOf}
 use Rattle.steps.specs.declared.Fields.{Fields}
 use Rattle.steps.specs.declared.Near.{Near}

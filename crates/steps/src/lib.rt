@@ -15,7 +15,7 @@ ghost use Rattle.model.specs.Keys.{mostName, edgeKey};
 ghost use Rattle.model.specs.Machine.{FieldsFit};
 ghost use Prim.Native.Nat.{_≤_};
 ghost use Rattle.model.specs.Tuples.{anyPresent, addAll, missing};
-ghost use Rattle.model.specs.Buffer.{tuplesOf};
+ghost use Rattle.layouts.specs.Buffer.{tuplesOf};
 ghost use Rattle.model.specs.Steps.{spaceNumber, nOf, gOf, mOf, vOf, sOf, objectKeys, created, firstValue};
 ghost use Rattle.chain.specs.Links.{Linked, Hint, KeepsHints, Edited};
 ghost use Rattle.steps.specs.Operate.{NearIn, pairHint, mainHint, fieldsOf, pairKey, mainKey, bothWays, isAdjacent, keysIn, isSpace, Room, Bound};

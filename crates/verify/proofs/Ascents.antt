@@ -8,7 +8,8 @@ use Rattle.model.specs.declared.Key.{Key}
 use Rattle.model.specs.Ordered.{isLess, ascendsFrom}
 use Rattle.model.specs.Keys.{keyOf, spaceKey, compareKeys, sameKey}
 use Rattle.model.specs.Tuples.{Tuples}
-use Rattle.model.specs.Buffer.{word, next, keyAt, tupleAt, tuplesOf, ascendsFromUniverse}
+use Rattle.layouts.specs.Buffer.{word, next, keyAt, tupleAt, tuplesOf}
+use Rattle.model.specs.Rules.{ascendsFromUniverse}
 use Rattle.presence.specs.Presence.{UsedEnds, tuplesFrom, OnChain}
 use Rattle.presence.proofs.Rest.{used-from-head, on-head, on-next, tuples-next, tuples-none}
 

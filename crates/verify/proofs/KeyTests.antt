@@ -7,7 +7,7 @@ use borrow.Author.Tests.{eq-eqb, ne-eqb, le-leb, lt-leb}
 use Rattle.model.specs.declared.Key.{Key}
 use Rattle.model.specs.Ordered.{isLess}
 use Rattle.model.specs.Keys.{compareKeys}
-use Rattle.model.specs.Buffer.{smallKey, noEdgeWithoutNode, edgeHasEnd}
+use Rattle.model.specs.Rules.{smallKey, noEdgeWithoutNode, edgeHasEnd}
 use Rattle.presence.specs.Presence.{shapedKey, goodKey}
 use Rattle.verify.specs.Checks.{mayMeet, keyFollows}
 

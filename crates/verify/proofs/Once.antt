@@ -8,12 +8,12 @@ use native.Mathlib.Omega.{arith}
 use lib.Dec.{eqb}
 use lib.ListN.{length, length-append}
 use borrow.Author.Tests.{eqb-true, eqb-false, eq-eqb, ne-eqb}
-use Rattle.model.specs.Buffer.{oneIf, count, everyRecord}
-use Rattle.model.specs.Rules.{Chain}
+use Rattle.layouts.specs.Buffer.{oneIf, count}
+use Rattle.model.specs.Numbers.{everyUpTo}
+use Rattle.layouts.specs.Chains.{Chain}
 use Rattle.model.proofs.Bools.{and-left, and-right, and-both, not-yes, no-not, equal}
-use Rattle.model.proofs.Steps.{every-record}
-use Rattle.model.proofs.Store.{record-every}
-use Rattle.model.proofs.Chains.{Within, within-append, chain-unique, count-append, hit, miss, total, total-length, once-length}
+use Rattle.model.proofs.Numbers.{every-up-to, up-to-every}
+use Rattle.layouts.proofs.Chains.{Within, within-append, chain-unique, count-append, hit, miss, total, total-length, once-length}
 
 -- ---- the last record
 
@@ -151,22 +151,22 @@ module _
           omega (arith, o l (last-low C x xs (u .2) (u .0)) (last-high C x xs (u .2) (u .1)), count-append l (x ∷ xs) (y ∷ ys), last-met x xs, two)
 
   -- the test by counts and last records is the test of each record
-  pub once-test : everyRecord (λ (i : ℕ). eqb (count i (used ++ free)) 1) C
+  pub once-test : everyUpTo (λ (i : ℕ). eqb (count i (used ++ free)) 1) C
       ≡ (eqb (length used + length free) C && not (eqb (lastOr 0 used) (lastOr 0 free)))
   once-test = equal _ _ there back
     where
-      there : everyRecord (λ (i : ℕ). eqb (count i (used ++ free)) 1) C ≡ true
+      there : everyUpTo (λ (i : ℕ). eqb (count i (used ++ free)) 1) C ≡ true
           → (eqb (length used + length free) C && not (eqb (lastOr 0 used) (lastOr 0 free))) ≡ true
       there e =
           let once : (i : ℕ) → 1 ≤ i → i ≤ C → count i (used ++ free) ≡ 1
-          = λ i a b. eqb-true _ 1 (every-record (λ (i : ℕ). eqb (count i (used ++ free)) 1) C e i a b) in
+          = λ i a b. eqb-true _ 1 (every-up-to (λ (i : ℕ). eqb (count i (used ++ free)) 1) C e i a b) in
           let sum : length used + length free ≡ C = once-length C used free w₁ w₂ once in
           and-both (eqb (length used + length free) C) _ (eq-eqb _ C sum) (no-not _ (ne-eqb (lastOr 0 used) (lastOr 0 free) (differ once sum)))
 
       back : (eqb (length used + length free) C && not (eqb (lastOr 0 used) (lastOr 0 free))) ≡ true
-          → everyRecord (λ (i : ℕ). eqb (count i (used ++ free)) 1) C ≡ true
+          → everyUpTo (λ (i : ℕ). eqb (count i (used ++ free)) 1) C ≡ true
       back e =
-          record-every (λ (i : ℕ). eqb (count i (used ++ free)) 1) C
+          up-to-every (λ (i : ℕ). eqb (count i (used ++ free)) 1) C
           (λ i a b.
           eq-eqb (count i (used ++ free)) 1
           (met (eqb-true _ C (and-left (eqb (length used + length free) C) _ e))

@@ -13,14 +13,16 @@ use Rattle.model.specs.declared.Key.{Key}
 use Rattle.model.specs.Ordered.{isLess}
 use Rattle.model.specs.Keys.{Tuple, sameKey, spaceKey, nodeKey, compareKeys}
 use Rattle.model.specs.Tuples.{Tuples, present}
-use Rattle.model.specs.Buffer.{word, capacityOf, next, usedChain, keyAt, tupleAt, tuplesOf, ascendsFromUniverse, everyRecord, everyKey, smallKey, noEdgeWithoutNode, edgeHasEnd, nodeSupported, edgeSupported}
+use Rattle.layouts.specs.Buffer.{word, capacityOf, next, usedChain, keyAt, tupleAt, tuplesOf}
+use Rattle.model.specs.Rules.{ascendsFromUniverse, everyKey, smallKey, noEdgeWithoutNode, edgeHasEnd, nodeSupported, edgeSupported}
+use Rattle.model.specs.Numbers.{everyUpTo}
 use Rattle.model.proofs.Bools.{and-left, and-right, and-both, not-yes, not-no}
 use Rattle.model.proofs.Tuples.{same-key}
 use Rattle.presence.specs.Presence.{Walkable, endsWithin, UsedEnds, Held, Marks, MarksFit, withNamed, tuplesFrom, shapedKey, goodKey, supported, settled, endThere, nothingKept, foundWith, listWith, everyEnd, Listed, keptCount}
 use Rattle.verify.specs.Checks.{walkedOn, walkedFrom, stepped, FreeWalk, UsedFound, keysRight, mayMeet, keyFollows, stoppedWalk, startsRight, usedWalk}
 use Rattle.verify.specs.declared.chains.Walk.{Walk}
 use Rattle.presence.specs.declared.ends.Found.{Found}
-use Rattle.words.proofs.Sizes.{some-record, few-records}
+use Rattle.layouts.proofs.Sizes.{some-record, few-records}
 use Rattle.presence.proofs.Rest.{ascends-empty, EveryLeft, every-start, every-next, every-no, every-end, every-held, tuples-next, tuples-none}
 use Rattle.presence.proofs.Hints.{named-marks, named-fit, marks-fit}
 use Rattle.presence.proofs.Shows.{good-n, good-node}
@@ -106,9 +108,9 @@ module _ (b : List ℕ) (list : List ℕ) (kept : ℕ) (L : Listed b list kept) 
 
 -- the ends of the records before it are the same
 same-before : (b list : List ℕ) (kept at m : ℕ) → m ≤ kept
-    → everyRecord (λ (j : ℕ). endThere (tuplesOf b) (keyAt b (getD (set list kept at) (j - 1) 0))) m
-    ≡ everyRecord (λ (j : ℕ). endThere (tuplesOf b) (keyAt b (getD list (j - 1) 0))) m
-unfolding everyRecord
+    → everyUpTo (λ (j : ℕ). endThere (tuplesOf b) (keyAt b (getD (set list kept at) (j - 1) 0))) m
+    ≡ everyUpTo (λ (j : ℕ). endThere (tuplesOf b) (keyAt b (getD list (j - 1) 0))) m
+unfolding everyUpTo
 same-before b list kept at zero h = refl
 same-before b list kept at (suc m) h =
     let n : suc m - 1 ≢ kept = λ z. omega arith in
@@ -116,7 +118,7 @@ same-before b list kept at (suc m) h =
     (same-before b list kept at m (omega arith))
 
 one-end-more : (b list : List ℕ) (kept at : ℕ) → kept < length list → everyEnd b (set list kept at) (suc kept) ≡ (endThere (tuplesOf b) (keyAt b at) && everyEnd b list kept)
-unfolding everyEnd everyRecord
+unfolding everyEnd everyUpTo
 one-end-more b list kept at h =
     let z : suc kept - 1 ≡ kept = omega arith in
     ap₂ (λ (x : ℕ) (y : Bool). endThere (tuplesOf b) (keyAt b x) && y)
@@ -135,7 +137,7 @@ every-tuple p b i ts = refl
 
 module _ (b : List ℕ) (U : UsedEnds b) where
   pub open-start : (h n : ℕ) → h ≡ word b 1 → h ≢ 0 → n ≡ next b h → (k : Key) → k ≡ keyAt b h → sameKey k (spaceKey 0) ≡ true → (list : List ℕ) → Open b list k n 0
-  unfolding everyEnd everyRecord supported nodeSupported edgeSupported
+  unfolding everyEnd everyUpTo supported nodeSupported edgeSupported
   open-start h n e h≢ f k g t list =
       let z : k ≡ spaceKey 0 = same-key k (spaceKey 0) t in
       let H : Held b h = every-held (supported (tuplesOf b)) b h (U .walkable) (every-start (supported (tuplesOf b)) b h U e) in

@@ -7,7 +7,8 @@ use lib.Dec.{eqb, leb}
 use lib.ListN.{length}
 use Rattle.model.specs.declared.Key.{Key}
 use Rattle.model.specs.Tuples.{Tuples}
-use Rattle.model.specs.Buffer.{word, fitsLength, capacityOf, sizeWord, ends, usedChain, freeChain, usedOf, tuplesOf, ascendsFromUniverse, smallKey, noEdgeWithoutNode, edgeHasEnd, nodeSupported, edgeSupported, everyKey, sound, isStore}
+use Rattle.layouts.specs.Buffer.{word, fitsLength, capacityOf, sizeWord, ends, usedChain, freeChain, usedOf, tuplesOf, isStore}
+use Rattle.model.specs.Rules.{ascendsFromUniverse, smallKey, noEdgeWithoutNode, edgeHasEnd, nodeSupported, edgeSupported, everyKey, sound}
 use Rattle.model.proofs.Bools.{and-left, and-right, clash}
 use Rattle.presence.specs.Presence.{Walkable, endsWithin, shapedKey, goodKey, Sorted, supported}
 use Rattle.verify.specs.Checks.{headsFit, nextsWithin, metOnce, chainsRight, linksRight, walkedFrom, keysRight, stoppedWalk, usedWalk}

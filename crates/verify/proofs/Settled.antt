@@ -9,7 +9,8 @@ use borrow.Author.Tests.{eqb-true, eqb-false, eq-eqb, ne-eqb}
 use Rattle.model.specs.declared.Key.{Key}
 use Rattle.model.specs.Keys.{spaceKey, nodeKey, edgeKey, isNode, isEdge}
 use Rattle.model.specs.Tuples.{Tuples, present}
-use Rattle.model.specs.Buffer.{tuplesOf, nodeSupported, edgeSupported}
+use Rattle.layouts.specs.Buffer.{tuplesOf}
+use Rattle.model.specs.Rules.{nodeSupported, edgeSupported}
 use Rattle.model.proofs.Bools.{or-cases, and-left, and-right}
 use Rattle.presence.specs.Presence.{Marks, nodeShown, edgeShown, nodeSettled, edgeSettled, settled, endThere, endShown, nothingKept, supported, goodKey}
 use Rattle.presence.proofs.Hints.{show-node, show-edge}

@@ -8,7 +8,7 @@ use native.Mathlib.Omega.{arith}
 use lib.Dec.{eqb}
 use borrow.Author.Tests.{eq-eqb, ne-eqb}
 use Rattle.model.specs.declared.Key.{Key}
-use Rattle.model.specs.Buffer.{word, capacityOf, next, keyAt}
+use Rattle.layouts.specs.Buffer.{word, capacityOf, next, keyAt}
 use Rattle.model.proofs.Bools.{and-both}
 use Rattle.verify.specs.declared.chains.Walk.{Walk}
 use Rattle.presence.specs.declared.ends.Found.{Found}

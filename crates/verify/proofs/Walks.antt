@@ -9,17 +9,16 @@ use native.Mathlib.Omega.{arith}
 use lib.Dec.{eqb, leb, ltb}
 use lib.ListN.{length}
 use borrow.Author.Tests.{eqb-true, eqb-false, eq-eqb, ne-eqb, le-leb, lt-leb, leb-true, ltb-true, ltb-false, lt-ltb, le-ltb}
-use Rattle.model.specs.Buffer.{word, capacityOf, next, walk, ends, orNothing, usedChain, freeChain, usedOf, freeOf, count}
-use Rattle.model.specs.Rules.{Chain}
+use Rattle.layouts.specs.Buffer.{word, capacityOf, next, walk, ends, orNothing, usedChain, freeChain, usedOf, freeOf, count}
+use Rattle.layouts.specs.Chains.{Chain}
 use Rattle.model.proofs.Bools.{and-left, and-right, and-both}
-use Rattle.model.proofs.Chains.{Within, walk-chain, chain-within, count-append, miss}
-use Rattle.model.proofs.Steps.{every-record}
-use Rattle.model.proofs.Store.{record-every}
+use Rattle.layouts.proofs.Chains.{Within, walk-chain, chain-within, count-append, miss}
+use Rattle.model.proofs.Numbers.{every-up-to, up-to-every}
 use Rattle.verify.specs.declared.chains.Walk.{Walk}
 use Rattle.verify.specs.declared.chains.Walked.{Walked}
 use Rattle.presence.specs.Presence.{Walkable, allWithin, endsWithin}
 use Rattle.verify.specs.Checks.{nextsWithin, metOnce, chainsRight, linksRight, steps, lastMet, stoppedWalk, walkedOn, walkedFrom, stepped, inRun, alongRun, FreeWalk}
-use Rattle.words.proofs.Sizes.{some-record}
+use Rattle.layouts.proofs.Sizes.{some-record}
 use Rattle.presence.proofs.ChainEnds.{Met, met-by-walk}
 use Rattle.verify.proofs.Once.{lastOr, once-test}
 
@@ -258,7 +257,7 @@ unfolding endsWithin ends nextsWithin
 ends-nexts b head h t = go (walk (next b) (capacityOf b) head) refl
   where
     nexts : (j : ℕ) → 1 ≤ j → j ≤ capacityOf b → next b j ≤ capacityOf b
-    nexts j l k = leb-true (next b j) (capacityOf b) (every-record (λ (i : ℕ). leb (next b i) (capacityOf b)) (capacityOf b) t j l k)
+    nexts j l k = leb-true (next b j) (capacityOf b) (every-up-to (λ (i : ℕ). leb (next b i) (capacityOf b)) (capacityOf b) t j l k)
 
     go : (r : Option (List ℕ)) → walk (next b) (capacityOf b) head ≡ r → endsWithin (capacityOf b) r ≡ ends r
     go none f = refl
@@ -382,11 +381,11 @@ module _ (b : List ℕ) (w : Walkable b) (u : Walked) (used : u ≡ walkedFrom b
     met-nexts : metOnce b ≡ true → nextsWithin b ≡ true
     unfolding metOnce nextsWithin
     met-nexts t =
-        record-every (λ (i : ℕ). leb (next b i) (capacityOf b)) (capacityOf b)
+        up-to-every (λ (i : ℕ). leb (next b i) (capacityOf b)) (capacityOf b)
         (λ i l h.
         le-leb (next b i) (capacityOf b)
         (go i (count i (usedOf b)) refl
-        (sym (count-append i (usedOf b) (freeOf b)) ∙ eqb-true _ 1 (every-record (λ (i : ℕ). eqb (count i (usedOf b ++ freeOf b)) 1) (capacityOf b) t i l h))))
+        (sym (count-append i (usedOf b) (freeOf b)) ∙ eqb-true _ 1 (every-up-to (λ (i : ℕ). eqb (count i (usedOf b ++ freeOf b)) 1) (capacityOf b) t i l h))))
       where
         go : (i n : ℕ) → count i (usedOf b) ≡ n → count i (usedOf b) + count i (freeOf b) ≡ 1 → next b i ≤ capacityOf b
         go i zero e s = link-within (next b) (capacityOf b) (word b 2) (freeOf b) (free-met .chain) (free-met .within) i (omega arith)

@@ -10,7 +10,9 @@ use Rattle.model.specs.declared.Key.{Key}
 use Rattle.model.specs.Ordered.{isLess}
 use Rattle.model.specs.Keys.{spaceKey, compareKeys, sameKey}
 use Rattle.model.specs.Tuples.{Tuples}
-use Rattle.model.specs.Buffer.{word, fitsLength, capacityOf, sizeWord, next, keyAt, walk, ends, usedChain, freeChain, usedOf, freeOf, tuplesOf, count, everyRecord, ascendsFromUniverse, everyKey}
+use Rattle.layouts.specs.Buffer.{word, fitsLength, capacityOf, sizeWord, next, keyAt, walk, ends, usedChain, freeChain, usedOf, freeOf, tuplesOf, count}
+use Rattle.model.specs.Numbers.{everyUpTo}
+use Rattle.model.specs.Rules.{ascendsFromUniverse, everyKey}
 use Rattle.presence.specs.declared.ends.Found.{Found}
 use Rattle.presence.specs.Presence.{endsWithin, goodKey, withNamed, foundWith, listWith, Decided}
 use Rattle.verify.specs.declared.chains.Walk.{Walk}
@@ -25,13 +27,13 @@ headsFit b = fitsLength b && (eqb (word b 0) (sizeWord b) && (leb (word b 1) (ca
 
 -- ".. and every next [is] at most C"
 unfoldable pub nextsWithin : List ℕ → Bool
-nextsWithin b = everyRecord (λ (i : ℕ). leb (next b i) (capacityOf b)) (capacityOf b)
+nextsWithin b = everyUpTo (λ (i : ℕ). leb (next b i) (capacityOf b)) (capacityOf b)
 
 -- ---- the two chains
 
 -- "the two chains together meet each record exactly once"
 unfoldable pub metOnce : List ℕ → Bool
-metOnce b = everyRecord (λ (i : ℕ). eqb (count i (usedOf b ++ freeOf b)) 1) (capacityOf b)
+metOnce b = everyUpTo (λ (i : ℕ). eqb (count i (usedOf b ++ freeOf b)) 1) (capacityOf b)
 
 -- both chains end, they meet each record exactly once, "word 3 is right"
 unfoldable pub chainsRight : List ℕ → Bool

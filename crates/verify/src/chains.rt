@@ -5,7 +5,7 @@ ghost use mathlib.Core.Bool.{true};
 ghost use mathlib.Core.Logic.{_≢_};
 ghost use mathlib.Core.Path.{_≡_};
 ghost use Prim.Native.Nat.{_≤_};
-ghost use Rattle.model.specs.Buffer.{word, capacityOf};
+ghost use Rattle.layouts.specs.Buffer.{word, capacityOf};
 ghost use Rattle.presence.specs.Presence.{Walkable};
 ghost use Rattle.verify.specs.Checks.{headsFit, stoppedWalk, walkedOn, walkedFrom, stepped, inRun, alongRun, FreeWalk, linksRight};
 
@@ -33,10 +33,7 @@ pub struct Walked {
 pub fn heads_fit(b: &[u32]) -> bool
     ensures { λ r. ⌜ r ≡ headsFit (now (b .entry)) ⌝ }
 {
-    if b.len() < 10 {
-        return false;
-    }
-    if b.len() > 12297 {
+    if !words::fits_length(b) {
         return false;
     }
     let c = capacity(b);

@@ -9,7 +9,8 @@ use words::node_key;
 ghost use mathlib.Core.Bool.{true};
 ghost use mathlib.Core.Path.{_≡_};
 ghost use lib.ListN.{length};
-ghost use Rattle.model.specs.Buffer.{word, smallKey};
+ghost use Rattle.layouts.specs.Buffer.{word};
+ghost use Rattle.model.specs.Rules.{smallKey};
 ghost use Rattle.presence.specs.Presence.{Walkable, shapedKey, goodKey, Marks, keptCount};
 ghost use Rattle.verify.specs.Checks.{mayMeet, keyFollows, startsRight, stoppedUsed, walkedOf, usedWalk, usedRunOf, UsedFound};
 

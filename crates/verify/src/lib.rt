@@ -6,7 +6,8 @@ use chains::Walked;
 use presence::named_right;
 ghost use mathlib.Core.Bool.{_&&_};
 ghost use mathlib.Core.Path.{_≡_};
-ghost use Rattle.model.specs.Buffer.{tuplesOf, sound, isStore};
+ghost use Rattle.layouts.specs.Buffer.{tuplesOf, isStore};
+ghost use Rattle.model.specs.Rules.{sound};
 ghost use Rattle.presence.specs.Presence.{Walkable};
 ghost use Rattle.verify.specs.Checks.{linksRight};
 

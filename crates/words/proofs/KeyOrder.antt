@@ -4,7 +4,7 @@ use mathlib.Core.Path.{_≡_, refl, sym, ap, _∙_}
 use Prim.Native.Nat.{ℕ, compare, Ordering, Ordering·lt, Ordering·eq, Ordering·gt}
 use native.Mathlib.Nat.{le-of-lt, le-of-eq}
 use lib.Dec.{ltb, eqb, isEq}
-use borrow.Author.Tests.{lt-ltb, le-ltb, eq-eqb}
+use borrow.Author.Tests.{lt-ltb, le-ltb}
 use Rattle.model.specs.declared.Key.{Key}
 use Rattle.model.specs.Ordered.{thenBy, isLess}
 use Rattle.model.specs.Keys.{compareKeys, sameKey}

@@ -1,3 +1,2 @@
 pub mod KeyOrder
 pub mod Words
-pub mod Sizes

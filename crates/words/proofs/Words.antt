@@ -1,15 +1,16 @@
 -- Laws of single writes (specs/Words.antt): what is read at each word and record afterwards.
 use mathlib.Core.List.{List}
 use mathlib.Core.Logic.{_≢_}
-use mathlib.Core.Path.{_≡_, refl, ap, _∙_}
-use Prim.Native.Nat.{ℕ, _+_, _-_, _*_, _/_, _≤_, _<_}
+use mathlib.Core.Path.{_≡_, ap, _∙_}
+use Prim.Native.Nat.{ℕ, _+_, _-_, _*_, _≤_, _<_}
 use native.Mathlib.Omega.{arith}
-use lib.ListN.{length, getD, set, drop, length-set}
+use lib.ListN.{length, set, drop, length-set}
 use lib.Seq.{getD-set-same, getD-set-other, drop-set-lt}
 use Rattle.model.specs.declared.Key.{Key}
 use Rattle.model.specs.Keys.{Value, Tuple}
-use Rattle.model.specs.Buffer.{word, headWords, recordWords, capacityOf, recordStart, next, keyAt, tupleAt, pastRecords}
-use Rattle.words.specs.Words.{Inside, putNext, putValue, putTuple}
+use Rattle.layouts.specs.Buffer.{word, headWords, recordWords, capacityOf, recordStart, wordOf, nextPlace, valuePlace, next, keyAt, tupleAt, pastRecords}
+use Rattle.layouts.proofs.Sizes.{capacity-length}
+use Rattle.words.specs.Words.{Inside, putWord, putNext, putValue, putTuple}
 
 -- two tuples of five words each are equal by their words
 tuple-words : {s s′ n n′ g g′ m m′ v v′ : ℕ} → s ≡ s′ → n ≡ n′ → g ≡ g′ → m ≡ m′ → v ≡ v′
@@ -25,10 +26,6 @@ same : (b : List ℕ) (at v : ℕ) → at < length b → word (set b at v) at �
 same b at v h = getD-set-same b at v 0 h
 
 -- ---- length, and the words past record C
-
-pub capacity-length : (b b′ : List ℕ) → length b′ ≡ length b → capacityOf b′ ≡ capacityOf b
-unfolding capacityOf
-capacity-length b b′ e = ap (λ (l : ℕ). (l - headWords) / recordWords) e
 
 -- record i is one of 1 to C exactly when it ends inside the buffer
 pub inside : (b : List ℕ) (i : ℕ) → 1 ≤ i → i ≤ capacityOf b → Inside b i
@@ -49,16 +46,17 @@ past-set b at v h =
 -- ---- words 0 to 3
 
 module _ (b : List ℕ) (at v : ℕ) (h : at < headWords) where
+  of-head : (i place : ℕ) → wordOf (set b at v) i place ≡ wordOf b i place
+  unfolding wordOf
+  of-head i place = other b at (recordStart i + place) v (omega arith)
+
   pub next-head : (i : ℕ) → next (set b at v) i ≡ next b i
   unfolding next
-  next-head i = other b at (recordStart i) v (omega arith)
+  next-head i = of-head i nextPlace
 
   pub tuple-head : (i : ℕ) → tupleAt (set b at v) i ≡ tupleAt b i
   unfolding tupleAt keyAt
-  tuple-head i =
-      tuple-words (other b at (recordStart i + 1) v (omega arith)) (other b at (recordStart i + 2) v (omega arith))
-      (other b at (recordStart i + 3) v (omega arith)) (other b at (recordStart i + 4) v (omega arith))
-      (other b at (recordStart i + 5) v (omega arith))
+  tuple-head i = tuple-words (of-head i 1) (of-head i 2) (of-head i 3) (of-head i 4) (of-head i valuePlace)
 
   pub word-head : (j : ℕ) → j ≢ at → word (set b at v) j ≡ word b j
   word-head j d = other b at j v d
@@ -66,159 +64,209 @@ module _ (b : List ℕ) (at v : ℕ) (h : at < headWords) where
   pub past-head : pastRecords (set b at v) ≡ pastRecords b
   past-head = past-set b at v (omega arith)
 
+-- ---- one word of a record, by its place: all that is read after it is written
+
+pub length-putWord : (b : List ℕ) (i place v : ℕ) → length (putWord b i place v) ≡ length b
+unfolding putWord
+length-putWord b i place v = length-set b (recordStart i + place) v
+
+pub inside-length : (b b′ : List ℕ) (i : ℕ) → length b′ ≡ length b → Inside b i → Inside b′ i
+inside-length b b′ i e I = record { low = I .low; high = omega (arith, I .high, e) }
+
+pub word-putWord : (b : List ℕ) (i place v : ℕ) (j : ℕ) → j < headWords → word (putWord b i place v) j ≡ word b j
+unfolding putWord
+word-putWord b i place v j h = other b (recordStart i + place) j v (omega arith)
+
+module _ (b : List ℕ) (i place v : ℕ) (I : Inside b i) (p : place < recordWords) where
+  pub same-putWord : wordOf (putWord b i place v) i place ≡ v
+  unfolding putWord wordOf
+  same-putWord = same b (recordStart i + place) v (omega (arith, I .high))
+
+  -- another place, in whatever record
+  pub place-putWord : (j q : ℕ) → 1 ≤ j → q < recordWords → q ≢ place → wordOf (putWord b i place v) j q ≡ wordOf b j q
+  unfolding putWord wordOf
+  place-putWord j q h l d = other b (recordStart i + place) (recordStart j + q) v (omega (arith, I .low))
+
+  -- another record
+  pub record-putWord : (j q : ℕ) → 1 ≤ j → q < recordWords → j ≢ i → wordOf (putWord b i place v) j q ≡ wordOf b j q
+  unfolding putWord wordOf
+  record-putWord j q h l d = other b (recordStart i + place) (recordStart j + q) v (omega (arith, I .low))
+
+  pub past-putWord : pastRecords (putWord b i place v) ≡ pastRecords b
+  unfolding putWord
+  past-putWord = past-set b (recordStart i + place) v (omega (arith, I .low, inside-most b i I))
+
 -- ---- the next of a record
 
 module _ (b : List ℕ) (i v : ℕ) (I : Inside b i) where
+  abbrev away : (j q : ℕ) → 1 ≤ j → q < recordWords → q ≢ nextPlace → wordOf (putNext b i v) j q ≡ wordOf b j q
+  away = place-putWord b i nextPlace v I (omega arith)
+
   pub length-putNext : length (putNext b i v) ≡ length b
-  unfolding putNext
-  length-putNext = length-set b (recordStart i) v
+  length-putNext = length-putWord b i nextPlace v
 
   pub word-putNext : (j : ℕ) → j < headWords → word (putNext b i v) j ≡ word b j
-  unfolding putNext
-  word-putNext j h = other b (recordStart i) j v (omega arith)
+  word-putNext = word-putWord b i nextPlace v
 
   pub next-putNext : next (putNext b i v) i ≡ v
-  unfolding putNext next
-  next-putNext = same b (recordStart i) v (omega (arith, I .high))
+  unfolding next
+  next-putNext = same-putWord b i nextPlace v I (omega arith)
 
   pub next-putNext-other : (j : ℕ) → 1 ≤ j → j ≢ i → next (putNext b i v) j ≡ next b j
-  unfolding putNext next
-  next-putNext-other j h d = other b (recordStart i) (recordStart j) v (omega (arith, I .low))
+  unfolding next
+  next-putNext-other j h d = record-putWord b i nextPlace v I (omega arith) j nextPlace h (omega arith) d
 
   pub tuple-putNext : (j : ℕ) → 1 ≤ j → tupleAt (putNext b i v) j ≡ tupleAt b j
-  unfolding putNext tupleAt keyAt
+  unfolding tupleAt keyAt
   tuple-putNext j h =
-      tuple-words (other b (recordStart i) (recordStart j + 1) v (omega (arith, I .low)))
-      (other b (recordStart i) (recordStart j + 2) v (omega (arith, I .low)))
-      (other b (recordStart i) (recordStart j + 3) v (omega (arith, I .low)))
-      (other b (recordStart i) (recordStart j + 4) v (omega (arith, I .low)))
-      (other b (recordStart i) (recordStart j + 5) v (omega (arith, I .low)))
+      tuple-words (away j 1 h (omega arith) (omega arith)) (away j 2 h (omega arith) (omega arith)) (away j 3 h (omega arith) (omega arith))
+      (away j 4 h (omega arith) (omega arith)) (away j valuePlace h (omega arith) (omega arith))
 
   pub past-putNext : pastRecords (putNext b i v) ≡ pastRecords b
-  unfolding putNext
-  past-putNext = past-set b (recordStart i) v (omega (arith, I .low, inside-most b i I))
+  past-putNext = past-putWord b i nextPlace v I (omega arith)
 
 -- ---- the value of a record
 
 module _ (b : List ℕ) (i v : ℕ) (I : Inside b i) where
+  abbrev beside : (j q : ℕ) → 1 ≤ j → q < recordWords → q ≢ valuePlace → wordOf (putValue b i v) j q ≡ wordOf b j q
+  beside = place-putWord b i valuePlace v I (omega arith)
+
   pub length-putValue : length (putValue b i v) ≡ length b
-  unfolding putValue
-  length-putValue = length-set b (recordStart i + 5) v
+  length-putValue = length-putWord b i valuePlace v
 
   pub word-putValue : (j : ℕ) → j < headWords → word (putValue b i v) j ≡ word b j
-  unfolding putValue
-  word-putValue j h = other b (recordStart i + 5) j v (omega arith)
+  word-putValue = word-putWord b i valuePlace v
 
   pub next-putValue : (j : ℕ) → 1 ≤ j → next (putValue b i v) j ≡ next b j
-  unfolding putValue next
-  next-putValue j h = other b (recordStart i + 5) (recordStart j) v (omega (arith, I .low))
+  unfolding next
+  next-putValue j h = beside j nextPlace h (omega arith) (omega arith)
 
   pub key-putValue : (j : ℕ) → 1 ≤ j → tupleAt (putValue b i v) j .key ≡ tupleAt b j .key
-  unfolding putValue tupleAt keyAt
+  unfolding tupleAt keyAt
   key-putValue j h =
-      let at : ℕ = recordStart i + 5 in
-      let s = other b at (recordStart j + 1) v (omega (arith, I .low)) in
-      let n = other b at (recordStart j + 2) v (omega (arith, I .low)) in
-      let g = other b at (recordStart j + 3) v (omega (arith, I .low)) in
-      let m = other b at (recordStart j + 4) v (omega (arith, I .low)) in
+      let s = beside j 1 h (omega arith) (omega arith) in
+      let n = beside j 2 h (omega arith) (omega arith) in
+      let g = beside j 3 h (omega arith) (omega arith) in
+      let m = beside j 4 h (omega arith) (omega arith) in
       λ x. record { s = s x; n = n x; g = g x; m = m x }
 
   pub value-putValue : tupleAt (putValue b i v) i .value ≡ v
-  unfolding putValue tupleAt
-  value-putValue = same b (recordStart i + 5) v (omega (arith, I .high))
+  unfolding tupleAt
+  value-putValue = same-putWord b i valuePlace v I (omega arith)
 
   pub value-putValue-other : (j : ℕ) → 1 ≤ j → j ≢ i → tupleAt (putValue b i v) j .value ≡ tupleAt b j .value
-  unfolding putValue tupleAt
-  value-putValue-other j h d = other b (recordStart i + 5) (recordStart j + 5) v (omega (arith, I .low))
+  unfolding tupleAt
+  value-putValue-other j h d = record-putWord b i valuePlace v I (omega arith) j valuePlace h (omega arith) d
 
   pub past-putValue : pastRecords (putValue b i v) ≡ pastRecords b
-  unfolding putValue
-  past-putValue = past-set b (recordStart i + 5) v (omega (arith, I .low, inside-most b i I))
+  past-putValue = past-putWord b i valuePlace v I (omega arith)
 
 -- ---- the key and value of a record
 
 module _ (b : List ℕ) (i : ℕ) (k : Key) (v : Value) (I : Inside b i) where
   b₁ : List ℕ
-  b₁ = set b (recordStart i + 1) (k .s)
+  b₁ = putWord b i 1 (k .s)
 
   b₂ : List ℕ
-  b₂ = set b₁ (recordStart i + 2) (k .n)
+  b₂ = putWord b₁ i 2 (k .n)
 
   b₃ : List ℕ
-  b₃ = set b₂ (recordStart i + 3) (k .g)
+  b₃ = putWord b₂ i 3 (k .g)
 
   b₄ : List ℕ
-  b₄ = set b₃ (recordStart i + 4) (k .m)
+  b₄ = putWord b₃ i 4 (k .m)
+
+  i₁ : Inside b₁ i
+  unfolding b₁
+  i₁ = inside-length b (putWord b i 1 (k .s)) i (length-putWord b i 1 (k .s)) I
+
+  i₂ : Inside b₂ i
+  unfolding b₂
+  i₂ = inside-length b₁ (putWord b₁ i 2 (k .n)) i (length-putWord b₁ i 2 (k .n)) i₁
+
+  i₃ : Inside b₃ i
+  unfolding b₃
+  i₃ = inside-length b₂ (putWord b₂ i 3 (k .g)) i (length-putWord b₂ i 3 (k .g)) i₂
+
+  i₄ : Inside b₄ i
+  unfolding b₄
+  i₄ = inside-length b₃ (putWord b₃ i 4 (k .m)) i (length-putWord b₃ i 4 (k .m)) i₃
 
   pub length-putTuple : length (putTuple b i k v) ≡ length b
-  unfolding putTuple
-  length-putTuple = simp length-set
-
-  -- a word that is none of the five is as before
-  untouched : (h : ℕ)
-      → h ≢ recordStart i + 1 → h ≢ recordStart i + 2 → h ≢ recordStart i + 3 → h ≢ recordStart i + 4 → h ≢ recordStart i + 5
-      → word (putTuple b i k v) h ≡ word b h
   unfolding putTuple b₁ b₂ b₃ b₄
-  untouched h d₁ d₂ d₃ d₄ d₅ =
-      other b₄ (recordStart i + 5) h v d₅
-      ∙ other b₃ (recordStart i + 4) h (k .m) d₄
-      ∙ other b₂ (recordStart i + 3) h (k .g) d₃
-      ∙ other b₁ (recordStart i + 2) h (k .n) d₂
-      ∙ other b (recordStart i + 1) h (k .s) d₁
+  length-putTuple =
+      length-putWord b₄ i valuePlace v
+      ∙ length-putWord b₃ i 4 (k .m)
+      ∙ length-putWord b₂ i 3 (k .g)
+      ∙ length-putWord b₁ i 2 (k .n)
+      ∙ length-putWord b i 1 (k .s)
 
   pub word-putTuple : (j : ℕ) → j < headWords → word (putTuple b i k v) j ≡ word b j
-  word-putTuple j h = untouched j (omega arith) (omega arith) (omega arith) (omega arith) (omega arith)
+  unfolding putTuple b₁ b₂ b₃ b₄
+  word-putTuple j h =
+      word-putWord b₄ i valuePlace v j h
+      ∙ word-putWord b₃ i 4 (k .m) j h
+      ∙ word-putWord b₂ i 3 (k .g) j h
+      ∙ word-putWord b₁ i 2 (k .n) j h
+      ∙ word-putWord b i 1 (k .s) j h
 
   pub next-putTuple : (j : ℕ) → 1 ≤ j → next (putTuple b i k v) j ≡ next b j
-  unfolding next
+  unfolding next putTuple b₁ b₂ b₃ b₄
   next-putTuple j h =
-      untouched (recordStart j) (omega (arith, I .low)) (omega (arith, I .low)) (omega (arith, I .low)) (omega (arith, I .low)) (omega (arith, I .low))
+      place-putWord b₄ i valuePlace v i₄ (omega arith) j nextPlace h (omega arith) (omega arith)
+      ∙ place-putWord b₃ i 4 (k .m) i₃ (omega arith) j nextPlace h (omega arith) (omega arith)
+      ∙ place-putWord b₂ i 3 (k .g) i₂ (omega arith) j nextPlace h (omega arith) (omega arith)
+      ∙ place-putWord b₁ i 2 (k .n) i₁ (omega arith) j nextPlace h (omega arith) (omega arith)
+      ∙ place-putWord b i 1 (k .s) I (omega arith) j nextPlace h (omega arith) (omega arith)
+
+  -- the words of another record
+  elsewhere : (j q : ℕ) → 1 ≤ j → q < recordWords → j ≢ i → wordOf (putTuple b i k v) j q ≡ wordOf b j q
+  unfolding putTuple b₁ b₂ b₃ b₄
+  elsewhere j q h l d =
+      record-putWord b₄ i valuePlace v i₄ (omega arith) j q h l d
+      ∙ record-putWord b₃ i 4 (k .m) i₃ (omega arith) j q h l d
+      ∙ record-putWord b₂ i 3 (k .g) i₂ (omega arith) j q h l d
+      ∙ record-putWord b₁ i 2 (k .n) i₁ (omega arith) j q h l d
+      ∙ record-putWord b i 1 (k .s) I (omega arith) j q h l d
 
   pub tuple-putTuple-other : (j : ℕ) → 1 ≤ j → j ≢ i → tupleAt (putTuple b i k v) j ≡ tupleAt b j
   unfolding tupleAt keyAt
   tuple-putTuple-other j h d =
-      tuple-words (away 1 (omega arith)) (away 2 (omega arith)) (away 3 (omega arith)) (away 4 (omega arith)) (away 5 (omega arith))
-    where
-      away : (a : ℕ) → a < recordWords → word (putTuple b i k v) (recordStart j + a) ≡ word b (recordStart j + a)
-      away a l =
-          untouched (recordStart j + a) (omega (arith, I .low)) (omega (arith, I .low)) (omega (arith, I .low)) (omega (arith, I .low))
-          (omega (arith, I .low))
+      tuple-words (elsewhere j 1 h (omega arith) d) (elsewhere j 2 h (omega arith) d) (elsewhere j 3 h (omega arith) d)
+      (elsewhere j 4 h (omega arith) d) (elsewhere j valuePlace h (omega arith) d)
+
+  -- the places below 5 are as the fourth write left them, and so on down
+  over-five : (q : ℕ) → q < 5 → wordOf (putTuple b i k v) i q ≡ wordOf b₄ i q
+  unfolding putTuple b₁ b₂ b₃ b₄
+  over-five q l = place-putWord b₄ i valuePlace v i₄ (omega arith) i q (I .low) (omega arith) (omega arith)
+
+  over-four : (q : ℕ) → q < 4 → wordOf b₄ i q ≡ wordOf b₃ i q
+  unfolding b₄
+  over-four q l = place-putWord b₃ i 4 (k .m) i₃ (omega arith) i q (I .low) (omega arith) (omega arith)
+
+  over-three : (q : ℕ) → q < 3 → wordOf b₃ i q ≡ wordOf b₂ i q
+  unfolding b₃
+  over-three q l = place-putWord b₂ i 3 (k .g) i₂ (omega arith) i q (I .low) (omega arith) (omega arith)
+
+  over-two : (q : ℕ) → q < 2 → wordOf b₂ i q ≡ wordOf b₁ i q
+  unfolding b₂
+  over-two q l = place-putWord b₁ i 2 (k .n) i₁ (omega arith) i q (I .low) (omega arith) (omega arith)
 
   pub tuple-putTuple : tupleAt (putTuple b i k v) i ≡ record { key = k; value = v }
   unfolding putTuple tupleAt keyAt b₁ b₂ b₃ b₄
   tuple-putTuple =
-      let at : ℕ = recordStart i in
-      let l : at + 5 < length b = omega (arith, I .high) in
-      let l₁ : at + 2 < length b₁ = simp length-set (omega arith) in
-      let l₂ : at + 3 < length b₂ = simp length-set (omega arith) in
-      let l₃ : at + 4 < length b₃ = simp length-set (omega arith) in
-      let l₄ : at + 5 < length b₄ = simp length-set (omega arith) in
-      let s : word (putTuple b i k v) (at + 1) ≡ k .s
-      = other b₄ (at + 5) (at + 1) v (omega arith)
-      ∙ other b₃ (at + 4) (at + 1) (k .m) (omega arith)
-      ∙ other b₂ (at + 3) (at + 1) (k .g) (omega arith)
-      ∙ other b₁ (at + 2) (at + 1) (k .n) (omega arith)
-      ∙ same b (at + 1) (k .s) (omega arith) in
-      let n : word (putTuple b i k v) (at + 2) ≡ k .n
-      = other b₄ (at + 5) (at + 2) v (omega arith)
-      ∙ other b₃ (at + 4) (at + 2) (k .m) (omega arith)
-      ∙ other b₂ (at + 3) (at + 2) (k .g) (omega arith)
-      ∙ same b₁ (at + 2) (k .n) l₁ in
-      let g : word (putTuple b i k v) (at + 3) ≡ k .g
-      = other b₄ (at + 5) (at + 3) v (omega arith) ∙ other b₃ (at + 4) (at + 3) (k .m) (omega arith) ∙ same b₂ (at + 3) (k .g) l₂ in
-      let m : word (putTuple b i k v) (at + 4) ≡ k .m = other b₄ (at + 5) (at + 4) v (omega arith) ∙ same b₃ (at + 4) (k .m) l₃ in
-      tuple-words s n g m (same b₄ (at + 5) v l₄)
+      tuple-words
+      (over-five 1 (omega arith) ∙ over-four 1 (omega arith) ∙ over-three 1 (omega arith) ∙ over-two 1 (omega arith) ∙ same-putWord b i 1 (k .s) I (omega arith))
+      (over-five 2 (omega arith) ∙ over-four 2 (omega arith) ∙ over-three 2 (omega arith) ∙ same-putWord b₁ i 2 (k .n) i₁ (omega arith))
+      (over-five 3 (omega arith) ∙ over-four 3 (omega arith) ∙ same-putWord b₂ i 3 (k .g) i₂ (omega arith))
+      (over-five 4 (omega arith) ∙ same-putWord b₃ i 4 (k .m) i₃ (omega arith))
+      (same-putWord b₄ i valuePlace v i₄ (omega arith))
 
   pub past-putTuple : pastRecords (putTuple b i k v) ≡ pastRecords b
   unfolding putTuple b₁ b₂ b₃ b₄
   past-putTuple =
-      let most : i ≤ capacityOf b = inside-most b i I in
-      let c₁ : capacityOf b₁ ≡ capacityOf b = capacity-length b b₁ (simp length-set) in
-      let c₂ : capacityOf b₂ ≡ capacityOf b = capacity-length b b₂ (simp length-set) in
-      let c₃ : capacityOf b₃ ≡ capacityOf b = capacity-length b b₃ (simp length-set) in
-      let c₄ : capacityOf b₄ ≡ capacityOf b = capacity-length b b₄ (simp length-set) in
-      past-set b₄ (recordStart i + 5) v (omega (arith, I .low))
-      ∙ past-set b₃ (recordStart i + 4) (k .m) (omega (arith, I .low))
-      ∙ past-set b₂ (recordStart i + 3) (k .g) (omega (arith, I .low))
-      ∙ past-set b₁ (recordStart i + 2) (k .n) (omega (arith, I .low))
-      ∙ past-set b (recordStart i + 1) (k .s) (omega (arith, I .low))
+      past-putWord b₄ i valuePlace v i₄ (omega arith)
+      ∙ past-putWord b₃ i 4 (k .m) i₃ (omega arith)
+      ∙ past-putWord b₂ i 3 (k .g) i₂ (omega arith)
+      ∙ past-putWord b₁ i 2 (k .n) i₁ (omega arith)
+      ∙ past-putWord b i 1 (k .s) I (omega arith)

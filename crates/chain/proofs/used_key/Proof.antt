@@ -1,5 +1,5 @@
 use mathlib.Core.Path.{sym, ap, _∙_, subst}
-use Rattle.model.specs.Buffer.{keyAt}
+use Rattle.layouts.specs.Buffer.{keyAt}
 use Rattle.words.specs.Words.{Inside}
 use Rattle.chain.proofs.Places.{same-number}
 use Rattle.chain.proofs.used_key.Statement.{statement}

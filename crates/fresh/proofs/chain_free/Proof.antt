@@ -3,7 +3,7 @@ use lib.ListN.{length}
 use mathlib.Core.Path.{_≡_, refl, ap, _∙_}
 use Rattle.fresh.specs.Prepare.{chained}
 use native.Mathlib.Omega.{arith}
-use Rattle.model.proofs.Prepared.{follower-most}
+use Rattle.layouts.proofs.Prepared.{follower-most}
 use Rattle.fresh.proofs.Preparing.{chained-length, chained-more}
 use Rattle.fresh.proofs.chain_free.Statement.{statement}
 use Rattle.fresh.proofs.chain_free.Tie as tie

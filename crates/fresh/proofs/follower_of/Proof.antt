@@ -1,6 +1,6 @@
 use native.Mathlib.Omega.{arith}
 use mathlib.Core.Path.{sym}
-use Rattle.model.proofs.Prepared.{follower-on, follower-last}
+use Rattle.layouts.proofs.Prepared.{follower-on, follower-last}
 use borrow.Author.Needs.{needs}
 use Rattle.fresh.proofs.follower_of.Statement.{statement}
 use Rattle.fresh.proofs.follower_of.Tie as tie

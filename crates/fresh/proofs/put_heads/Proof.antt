@@ -1,6 +1,6 @@
 use Rattle.fresh.proofs.Preparing.{heads-put}
 use native.Mathlib.Omega.{arith}
-use Rattle.model.proofs.Prepared.{follower-most}
+use Rattle.layouts.proofs.Prepared.{follower-most}
 use borrow.Author.Needs.{needs}
 use Rattle.fresh.proofs.put_heads.Statement.{statement}
 use Rattle.fresh.proofs.put_heads.Tie as tie

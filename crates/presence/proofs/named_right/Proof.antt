@@ -1,6 +1,6 @@
 use borrow.Author.Tests.{not-true, not-false}
 use mathlib.Core.Path.{sym, _∙_}
-use Rattle.model.specs.Buffer.{tuplesOf}
+use Rattle.layouts.specs.Buffer.{tuplesOf}
 use Rattle.presence.proofs.NamedParts.{named-no-all, named-yes-ends}
 use Rattle.presence.proofs.named_right.Statement.{statement}
 use Rattle.presence.proofs.named_right.Tie as tie

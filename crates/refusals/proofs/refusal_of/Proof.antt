@@ -1,4 +1,4 @@
-use Rattle.model.specs.Buffer.{tuplesOf}
+use Rattle.layouts.specs.Buffer.{tuplesOf}
 use Rattle.edit.proofs.Built.{store-linked}
 use Rattle.refusals.proofs.Stops.{stops-here, goes-on, tested, nothing-left, as-asked, NamesPassed, after-names}
 use Rattle.refusals.proofs.Absent.{known-told, reads-told, asks-told}

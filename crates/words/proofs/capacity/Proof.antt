@@ -1,5 +1,5 @@
 use mathlib.Core.Path.{refl}
-use Rattle.model.specs.Buffer.{capacityOf}
+use Rattle.layouts.specs.Buffer.{capacityOf}
 use borrow.Author.Needs.{needs}
 use Rattle.words.proofs.capacity.Statement.{statement}
 use Rattle.words.proofs.capacity.Tie as tie

@@ -4,7 +4,7 @@ use mathlib.Core.Bool.{true}
 use mathlib.Core.Logic.{_≢_}
 use mathlib.Core.Path.{_≡_, sym, subst}
 use Prim.Native.Nat.{ℕ, _≤_}
-use Rattle.model.specs.Buffer.{capacityOf, keyAt}
+use Rattle.layouts.specs.Buffer.{capacityOf, keyAt}
 use Rattle.presence.specs.Presence.{goodKey}
 use Rattle.presence.proofs.Shows.{Ending, ending-start, ending-no, ending-next, ending-end}
 use Rattle.presence.proofs.ends.all_ends.Statement.{statement}

@@ -1,7 +1,7 @@
 use mathlib.Core.Bool.{true}
 use mathlib.Core.Path.{_≡_, ap, _∙_}
 use Rattle.model.specs.declared.Key.{Key}
-use Rattle.model.specs.Buffer.{tuplesOf}
+use Rattle.layouts.specs.Buffer.{tuplesOf}
 use Rattle.presence.specs.Presence.{goodKey, endThere}
 use Rattle.presence.proofs.Rest.{record-inside}
 use Rattle.presence.proofs.Shows.{good-s, good-m, good-end-some, there-none, there-edge}

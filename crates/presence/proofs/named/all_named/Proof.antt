@@ -2,7 +2,7 @@ use borrow.Author.Tests.{not-true, not-false}
 use native.Mathlib.Omega.{arith}
 use mathlib.Core.Path.{sym, ap, _∙_}
 use lib.ListN.{length}
-use Rattle.model.specs.Buffer.{tuplesOf}
+use Rattle.layouts.specs.Buffer.{tuplesOf}
 use Rattle.presence.specs.Presence.{recordsFrom, namedPresent}
 use Rattle.presence.proofs.Rest.{record-inside, fewer, EveryLeft, every-start, every-no, every-next, every-end}
 use Rattle.presence.proofs.named.all_named.Statement.{statement}

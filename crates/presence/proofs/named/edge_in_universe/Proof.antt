@@ -1,5 +1,5 @@
 use mathlib.Core.Path.{refl}
-use Rattle.model.specs.Buffer.{tuplesOf}
+use Rattle.layouts.specs.Buffer.{tuplesOf}
 use Rattle.presence.proofs.Support.{from-head, head-says, edge-none, edge-some}
 use borrow.Author.Needs.{needs}
 use Rattle.presence.proofs.named.edge_in_universe.Statement.{statement}

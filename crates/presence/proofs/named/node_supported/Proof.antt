@@ -1,5 +1,5 @@
 use borrow.Author.Tests.{not-true, not-false}
-use Rattle.model.specs.Buffer.{tuplesOf}
+use Rattle.layouts.specs.Buffer.{tuplesOf}
 use Rattle.presence.proofs.Support.{from-head, head-says, node-nameless, node-edge, node-no-space, node-rest}
 use borrow.Author.Needs.{needs}
 use Rattle.presence.proofs.named.node_supported.Statement.{statement}

@@ -1,6 +1,6 @@
 use mathlib.Core.Path.{_≡_, refl, sym, _∙_}
 use native.Mathlib.Omega.{arith}
-use Rattle.model.specs.Buffer.{capacityOf}
+use Rattle.layouts.specs.Buffer.{capacityOf}
 use Rattle.model.proofs.Bools.{not-yes, not-no}
 use Rattle.verify.specs.Checks.{alongRun}
 use Rattle.verify.proofs.Walks.{run-low, along-stop, along-on, along-end}

@@ -1,7 +1,7 @@
 use borrow.Author.Tests.{not-true, not-false}
 use native.Mathlib.Omega.{arith}
 use mathlib.Core.Path.{_∙_}
-use Rattle.words.proofs.Sizes.{few-records}
+use Rattle.layouts.proofs.Sizes.{few-records}
 use Rattle.verify.proofs.Walks.{found-most, no-free, no-count, no-last, all-right}
 use borrow.Author.Needs.{needs}
 use Rattle.verify.proofs.chains.chains_right.Statement.{statement}

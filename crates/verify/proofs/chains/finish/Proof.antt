@@ -2,7 +2,7 @@ use mathlib.Core.Bool.{true}
 use mathlib.Core.Path.{_≡_, refl, ap, _∙_}
 use Prim.Native.Nat.{ℕ, _≤_, _-_}
 use native.Mathlib.Omega.{arith}
-use Rattle.model.specs.Buffer.{capacityOf}
+use Rattle.layouts.specs.Buffer.{capacityOf}
 use Rattle.verify.specs.Checks.{walkedOn}
 use Rattle.presence.proofs.Rest.{record-inside}
 use Rattle.verify.proofs.Walks.{walked-run, walked-end, walked-long, walked-far}

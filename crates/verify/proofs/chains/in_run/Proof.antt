@@ -1,6 +1,6 @@
 use mathlib.Core.Path.{sym}
 use native.Mathlib.Omega.{arith}
-use Rattle.model.specs.Buffer.{capacityOf}
+use Rattle.layouts.specs.Buffer.{capacityOf}
 use Rattle.presence.proofs.Rest.{record-inside}
 use Rattle.verify.proofs.Walks.{run-none, run-far, run-here}
 use Rattle.verify.proofs.chains.in_run.Statement.{statement}

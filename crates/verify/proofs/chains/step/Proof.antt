@@ -1,4 +1,4 @@
-use Rattle.words.proofs.Sizes.{room}
+use Rattle.layouts.proofs.Sizes.{records-fit}
 use Rattle.presence.proofs.Rest.{record-inside}
 use Rattle.verify.proofs.Walks.{step-ended, step-far, step-on}
 use native.Mathlib.Omega.{arith}

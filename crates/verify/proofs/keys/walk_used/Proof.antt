@@ -4,10 +4,10 @@ use Prim.Native.Nat.{ℕ, _-_}
 use mathlib.Core.Bool.{true, false≢true}
 use mathlib.Core.Logic.{_≢_}
 use mathlib.Core.Path.{_≡_, sym, ap, _∙_, subst}
-use Rattle.model.specs.Buffer.{capacityOf}
+use Rattle.layouts.specs.Buffer.{capacityOf}
 use Rattle.verify.specs.Checks.{walkedOf, UsedFound, usedRun, usedRunOf}
 use Rattle.verify.specs.declared.keys.Used.{Used}
-use Rattle.words.proofs.Sizes.{some-record}
+use Rattle.layouts.proofs.Sizes.{some-record}
 use Rattle.presence.proofs.Rest.{record-inside}
 use Rattle.verify.proofs.OneWalk.{Using, head-some, not-started, using-start, using-far, using-high, using-left, using-low, using-room, using-enough, using-no, using-good, using-next, using-end, using-found}
 use Rattle.verify.proofs.UsedRuns.{run-unstarted, run-started, run-end, run-far, run-no, run-on}

@@ -10,8 +10,8 @@ use native.Mathlib.Omega.{arith}
 use lib.Dec.{eqb}
 use lib.ListN.{length, length-append}
 use borrow.Author.Tests.{eqb-true, eqb-false, eq-eqb, ne-eqb}
-use Rattle.model.specs.Buffer.{walk, oneIf, count}
-use Rattle.model.specs.Rules.{Chain}
+use Rattle.layouts.specs.Buffer.{walk, oneIf, count}
+use Rattle.layouts.specs.Chains.{Chain}
 
 -- ---- the walk and the chain
 

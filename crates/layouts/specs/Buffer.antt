@@ -1,18 +1,19 @@
 -- Document 01, "The buffer of records": the layout, the rules of a store as a test that computes, and what preparing leaves.
--- A buffer is the list of its words. The rules as statements are in Rules.antt; proofs/Store.antt proves that the test says yes exactly when they hold.
-use mathlib.Core.Bool.{Bool, true, false, cond, not, _&&_, _||_}
+-- A buffer is the list of its words. The rules as statements are in Chains.antt, those on the tuples in Rules.antt of the model; proofs/Store.antt proves that the test says yes exactly when they hold.
+use mathlib.Core.Bool.{Bool, true, false, cond, _&&_}
 use mathlib.Core.List.{List, [], _∷_, _++_, map}
 use mathlib.Core.Option.{Option, none, some, Option·map}
 use mathlib.Core.Path.{_≡_}
 use Prim.Native.Nat.{ℕ, zero, suc, _+_, _-_, _*_, _/_, _≤_}
 use lib.Dec.{eqb, leb, ltb}
 use lib.ListN.{length, getD, drop}
 use Rattle.model.specs.declared.Preparation.{Preparation}
 use Rattle.model.specs.declared.Preparation.the-variants.{Refused, Capacity}
-use Rattle.model.specs.Ordered.{ascendsFrom}
 use Rattle.model.specs.declared.Key.{Key}
-use Rattle.model.specs.Keys.{mostName, NIL, Tuple, keyOf, spaceKey, nodeKey, edgeKey, isNode, isEdge, compareKeys, sameKey}
-use Rattle.model.specs.Tuples.{Tuples, present}
+use Rattle.model.specs.Keys.{NIL, Tuple, spaceKey}
+use Rattle.model.specs.Tuples.{Tuples}
+use Rattle.model.specs.Numbers.{everyUpTo}
+use Rattle.model.specs.Rules.{sound}
 
 -- ---- the layout
 
@@ -45,19 +46,28 @@ capacityOf b = (length b - headWords) / recordWords
 abbrev pub sizeWord : List ℕ → ℕ
 sizeWord b = capacityOf b
 
--- "Record i, 1 to C, starts at word 4 + 6 × (i − 1): next index, s, n, g, m, value."
+-- "Record i, 1 to C, starts at word 4 + 6 × (i − 1)"
 abbrev pub recordStart : ℕ → ℕ
 recordStart i = headWords + recordWords * (i - 1)
 
+-- a word of record i, by its place in the record: "next index, s, n, g, m, value"
+unfoldable pub wordOf : List ℕ → ℕ → ℕ → ℕ
+wordOf b i place = word b (recordStart i + place)
+
+abbrev pub nextPlace : ℕ
+nextPlace = 0
+
+abbrev pub valuePlace : ℕ
+valuePlace = 5
+
 unfoldable pub next : List ℕ → ℕ → ℕ
-next b i = word b (recordStart i)
+next b i = wordOf b i nextPlace
 
 unfoldable pub keyAt : List ℕ → ℕ → Key
-keyAt b i =
-    record { s = word b (recordStart i + 1); n = word b (recordStart i + 2); g = word b (recordStart i + 3); m = word b (recordStart i + 4) }
+keyAt b i = record { s = wordOf b i 1; n = wordOf b i 2; g = wordOf b i 3; m = wordOf b i 4 }
 
 unfoldable pub tupleAt : List ℕ → ℕ → Tuple
-tupleAt b i = record { key = keyAt b i; value = word b (recordStart i + 5) }
+tupleAt b i = record { key = keyAt b i; value = wordOf b i valuePlace }
 
 -- "Words past record C are never touched."
 unfoldable pub pastRecords : List ℕ → List ℕ
@@ -106,51 +116,6 @@ unfoldable pub count : ℕ → List ℕ → ℕ
 count i [] = 0
 count i (j ∷ js) = oneIf (eqb i j) + count i js
 
--- does a test pass at each of the records 1 to C
-unfoldable pub everyRecord : (ℕ → Bool) → ℕ → Bool
-everyRecord p zero = true
-everyRecord p (suc i) = p (suc i) && everyRecord p i
-
--- ---- the rules on the tuples of a store
-
--- "used keys strictly ascend, s first; the first is (0,0,0,0)"
-unfoldable pub ascendsFromUniverse : Tuples → Bool
-ascendsFromUniverse [] = false
-ascendsFromUniverse (t ∷ ts) = sameKey (t .key) (spaceKey 0) && ascendsFrom keyOf compareKeys (t .key) ts
-
--- "key words are at most 65,535"
-unfoldable pub smallKey : Key → Bool
-smallKey k = leb (k .s) mostName && (leb (k .n) mostName && (leb (k .g) mostName && leb (k .m) mostName))
-
--- "n = 0 makes g and m 0"
-unfoldable pub noEdgeWithoutNode : Key → Bool
-noEdgeWithoutNode k = not (eqb (k .n) 0) || (eqb (k .g) 0 && eqb (k .m) 0)
-
--- "g is 0 exactly when m is"
-unfoldable pub edgeHasEnd : Key → Bool
-edgeHasEnd k = cond (eqb (k .g) 0) (eqb (k .m) 0) (not (eqb (k .m) 0))
-
--- "each node tuple has its space and its tuple in 0"
-unfoldable pub nodeSupported : Tuples → Key → Bool
-nodeSupported ts k = not (isNode k) || (present (spaceKey (k .s)) ts && present (nodeKey 0 (k .n)) ts)
-
--- "each edge tuple has its two node tuples in s and its tuple in 0"
-unfoldable pub edgeSupported : Tuples → Key → Bool
-edgeSupported ts k =
-    not (isEdge k)
-    || (present (nodeKey (k .s) (k .n)) ts && (present (nodeKey (k .s) (k .m)) ts && present (edgeKey 0 (k .n) (k .g) (k .m)) ts))
-
-unfoldable pub everyKey : (Key → Bool) → Tuples → Bool
-everyKey p [] = true
-everyKey p (t ∷ ts) = p (t .key) && everyKey p ts
-
--- the rules on the tuples together
-unfoldable pub sound : Tuples → Bool
-sound ts =
-    ascendsFromUniverse ts
-    && (everyKey smallKey ts
-    && (everyKey noEdgeWithoutNode ts && (everyKey edgeHasEnd ts && (everyKey (nodeSupported ts) ts && everyKey (edgeSupported ts) ts))))
-
 -- ---- a store
 
 -- "A store is a buffer of 10 to 12,297 words where: word 0 fits; both heads and every next are at most C;
@@ -161,10 +126,10 @@ isStore b =
     && (eqb (word b 0) (sizeWord b)
     && (leb (word b 1) (capacityOf b)
     && (leb (word b 2) (capacityOf b)
-    && (everyRecord (λ (i : ℕ). leb (next b i) (capacityOf b)) (capacityOf b)
+    && (everyUpTo (λ (i : ℕ). leb (next b i) (capacityOf b)) (capacityOf b)
     && (ends (usedChain b)
     && (ends (freeChain b)
-    && (everyRecord (λ (i : ℕ). eqb (count i (usedOf b ++ freeOf b)) 1) (capacityOf b)
+    && (everyUpTo (λ (i : ℕ). eqb (count i (usedOf b ++ freeOf b)) 1) (capacityOf b)
     && (eqb (word b 3) (length (usedOf b)) && sound (tuplesOf b)))))))))
 
 -- ---- preparing

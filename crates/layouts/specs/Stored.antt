@@ -1,7 +1,7 @@
 -- The layout of the store: records of six words in one chain (Buffer.antt, Rules.antt).
-use Rattle.model.specs.Buffer.{capacityOf, isStore, tuplesOf, freeOf, pastRecords, Prepared}
-use Rattle.model.specs.Rules.{IsStore}
+use Rattle.layouts.specs.Buffer.{capacityOf, isStore, tuplesOf, freeOf, pastRecords, Prepared}
+use Rattle.layouts.specs.Chains.{IsStore}
 use Rattle.model.specs.Layouts.{Layout}
 
 abbrev pub stored : Layout
 stored =

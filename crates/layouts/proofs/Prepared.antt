@@ -2,17 +2,20 @@
 use mathlib.Core.Bool.{Bool, true, false, cond}
 use mathlib.Core.List.{List, [], _∷_, map}
 use mathlib.Core.Path.{_≡_, refl, sym, ap, _∙_, subst}
-use Prim.Native.Nat.{ℕ, zero, suc, _+_, _-_, _/_, _≤_, _<_}
+use Prim.Native.Nat.{ℕ, zero, suc, _+_, _-_, _≤_, _<_}
 use native.Mathlib.Omega.{arith}
 use lib.Dec.{eqb, ltb}
 use borrow.Author.Tests.{eqb-true, eqb-false, ltb-true, lt-ltb, le-ltb}
 use Rattle.model.specs.Ordered.{holds, ascendsFrom}
 use Rattle.model.specs.Keys.{compareKeys}
 use Rattle.model.specs.Tuples.{fresh}
-use Rattle.model.specs.Buffer.{capacityOf, next, tupleAt, oneIf, count, tuplesOf, ascendsFromUniverse, smallKey, noEdgeWithoutNode, edgeHasEnd, nodeSupported, edgeSupported, everyKey, sound, isStore, follower, Prepared}
-use Rattle.model.specs.Rules.{TupleRules, Chain, StoreRules}
-use Rattle.model.proofs.Chains.{hit, miss}
-use Rattle.model.proofs.Store.{fits-least, fits-most, sound-exactly, rules-store, tuples-of}
+use Rattle.layouts.specs.Buffer.{capacityOf, next, tupleAt, oneIf, count, tuplesOf, isStore, follower, Prepared}
+use Rattle.model.specs.Rules.{ascendsFromUniverse, smallKey, noEdgeWithoutNode, edgeHasEnd, nodeSupported, edgeSupported, everyKey, sound, TupleRules}
+use Rattle.layouts.specs.Chains.{Chain, StoreRules}
+use Rattle.layouts.proofs.Chains.{hit, miss}
+use Rattle.layouts.proofs.Store.{rules-store, tuples-of}
+use Rattle.layouts.proofs.Sizes.{capacity-length, fits-least, fits-most, some-record}
+use Rattle.model.proofs.Sound.{sound-exactly}
 
 -- n records from record i on
 abbrev pub upFrom : ℕ → ℕ → List ℕ
@@ -73,12 +76,10 @@ fresh-rules = sound-exactly fresh .0 yes′
 
 module _ (b₀ b : List ℕ) (P : Prepared b₀ b) where
   pub prepared-capacity : capacityOf b ≡ capacityOf b₀
-  unfolding capacityOf
-  prepared-capacity = ap (λ (l : ℕ). (l - 4) / 6) (P .size)
+  prepared-capacity = capacity-length b₀ b (P .size)
 
   capacity-least : 1 ≤ capacityOf b₀
-  unfolding capacityOf
-  capacity-least = omega (arith, fits-least b₀ (P .fits))
+  capacity-least = some-record b₀ (fits-least b₀ (P .fits)) (fits-most b₀ (P .fits))
 
   one-tuple : map (tupleAt b) (1 ∷ []) ≡ fresh
   one-tuple = ap (λ t. t ∷ []) (P .universe)

@@ -1,0 +1,5 @@
+pub mod Sizes
+pub mod Chains
+pub mod Store
+pub mod Prepared
+pub mod Stored
