@@ -5,6 +5,8 @@
  * target/staticlib. The functions keep nothing between calls and allocate
  * nothing; of the C library they need memset and the like alone. All that a
  * graph has stands in a buffer of words that the caller lends to each call.
+ * docs/STORE.md says what each word of it means, and exactly what each
+ * operator does.
  *
  * What a caller must see to:
  *

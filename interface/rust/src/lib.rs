@@ -20,6 +20,9 @@
 //!
 //! The functions below are those of the library, on slices. They allocate
 //! nothing, and take any buffer of any length. A refusal changes nothing.
+//!
+//! The page `docs/STORE.md` of the repository says what each word of a buffer
+//! means, and exactly what each operator does.
 #![deny(missing_docs, unsafe_code)]
 
 mod answer;
