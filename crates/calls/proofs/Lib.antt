@@ -1,4 +1,3 @@
 pub mod Known
 pub mod AtOnce
 pub mod Lists
-pub mod Nothing

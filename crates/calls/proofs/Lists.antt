@@ -113,9 +113,10 @@ entry-any-store b b′ xs store calls = whole-list stored stored-lawful (trace-m
 -- all other answers and the tuples are the same
 pub entry-nothing : (raw b b′ b″ : List ℕ) (C : ℕ) (xs : List CallMade) (x : CallMade) (ys zs : List CallMade) → selectsNothing (x .call) ≡ true
     → requests (map exchangeOf zs) ≡ requests (map exchangeOf (xs ++ ys)) → PreparedBy raw (Capacity C) b → Executed b (xs ++ (x ∷ ys)) b′ → Executed b zs b″
-    → WithoutEffect stored C fresh (map exchangeOf xs) (exchangeOf x) (map exchangeOf ys) b′ (map exchangeOf zs) b″
+    → WithoutEffect stored C fresh (map exchangeOf xs) (exchangeOf x) (x .call) (map exchangeOf ys) b′ (map exchangeOf zs) b″
 entry-nothing raw b b′ b″ C xs x ys zs e same P with-it without-it =
-    nothing-without-effect stored C fresh (map exchangeOf xs) (exchangeOf x) (map exchangeOf ys) b′ (map exchangeOf zs) b″ e
+    nothing-without-effect stored C fresh (map exchangeOf xs) (exchangeOf x) (record { call = x .call; room = length (x .lent) }) (map exchangeOf ys) b′
+    (map exchangeOf zs) b″ refl e
     (same ∙ ap requests (map-append exchangeOf xs ys))
     (subst (λ (es : List Exchange). WholeList stored C fresh es b′) (map-append exchangeOf xs (x ∷ ys)) (entry-demand-3 raw b b′ C (xs ++ (x ∷ ys)) P with-it))
     (entry-demand-3 raw b b″ C zs P without-it)

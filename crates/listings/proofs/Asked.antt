@@ -7,7 +7,7 @@ use native.Mathlib.Omega.{arith}
 use lib.Dec.{eqb, leb, ltb}
 use borrow.Author.Tests.{leb-true, le-ltb}
 use lib.ListN.{length}
-use Rattle.model.specs.declared.Call.{Call}
+use Rattle.model.specs.declared.Fields.{Fields}
 use Rattle.model.specs.declared.Direction.{Direction}
 use Rattle.model.specs.declared.Direction.the-variants.{Outpointing, Inpointing, Adjacent}
 use Rattle.model.specs.declared.Key.{Key}
@@ -15,7 +15,7 @@ use Rattle.model.specs.declared.Listing.{Listing}
 use Rattle.model.specs.declared.Pair.{Pair}
 use Rattle.model.specs.Tuples.{Tuples}
 use Rattle.model.specs.Pairs.{comparePairs, itself, member, ascending, gather, outPair, inPair, pairsAt, pairsOf, edgeNames, nodeNames, only, nodesIn, spacesIn, spacesWith}
-use Rattle.model.specs.Steps.{nOf, gOf, mOf, sOf, listed}
+use Rattle.model.specs.Steps.{listed}
 use Rattle.model.proofs.Bools.{equal}
 use Rattle.model.proofs.Order.{pairs}
 use Rattle.model.proofs.Ordered.{same-members}
@@ -28,9 +28,8 @@ use Rattle.entries.specs.declared.Query.the-variants.{Pairs, Nodes, Spaces, Spa
 use Rattle.entries.specs.Queries.{partOf, chosen, firstPairs, secondPairs, firstAt, secondAt, queried, written, mostOf}
 use Rattle.entries.proofs.Most.{queried-most}
 use Rattle.taken.specs.Selections.{passes}
-use Rattle.steps.specs.declared.Fields.{Fields}
-use Rattle.steps.specs.declared.Near.{Near}
-use Rattle.steps.specs.Operate.{NearIn, fieldsOf}
+use Rattle.located.specs.declared.Near.{Near}
+use Rattle.located.specs.Located.{NearIn}
 use Rattle.chain.specs.Links.{Hint}
 use Rattle.chain.proofs.Hints.{no-hint}
 use Rattle.taken.proofs.Passes.{passes-any, passes-edge, passes-node}
@@ -169,49 +168,50 @@ gather-first : (f : Key → List Pair) (ts : Tuples) → gather (λ (k : Key). f
 gather-first f ts = λ i. gather (λ (k : Key). append-nil (f k) i) ts
 
 -- the theorem: a query lists what its operator does
-pub asked-listed : (l : Listing) (c : Call) (ts : Tuples) → NamesAsked l c → queried (queryOf l c) ts ≡ listed l c ts
+pub asked-listed : (l : Listing) (f : Fields) (ts : Tuples) → NamesAsked l f → queried (queryOf l f) ts ≡ listed l f ts
 unfolding queryOf listed queried nodesIn spacesIn spacesWith firstAt secondAt
-asked-listed (Listing.P d) c ts h = pairs-listed d (sOf c) (nOf c) ts
-asked-listed (Listing.G d) c ts h =
-    edges-listed d (sOf c) (nOf c) 0 0 ts ∙ ap edgeNames (any-passes (pairsOf d (sOf c) (nOf c) ts))
-asked-listed (Listing.GN d) c ts h =
-    edges-listed d (sOf c) (nOf c) 0 (mOf c) ts
-    ∙ ap edgeNames (same-only (passes 0 (mOf c)) _ (pairsOf d (sOf c) (nOf c) ts) (passes-node (mOf c) h))
-asked-listed (Listing.N d) c ts h =
-    nodes-listed d (sOf c) (nOf c) 0 0 ts ∙ ap nodeNames (any-passes (pairsOf d (sOf c) (nOf c) ts))
-asked-listed (Listing.NG d) c ts h =
-    nodes-listed d (sOf c) (nOf c) (gOf c) 0 ts
-    ∙ ap nodeNames (same-only (passes (gOf c) 0) _ (pairsOf d (sOf c) (nOf c) ts) (passes-edge (gOf c) h))
-asked-listed Listing.UN c ts h = ap ascending (gather-first (firstAt (Nodes (sOf c))) ts)
-asked-listed Listing.US c ts h = ap ascending (gather-first (firstAt Spaces) ts)
-asked-listed Listing.USn c ts h = ap ascending (gather-first (firstAt (SpacesOf (nOf c))) ts)
+asked-listed (Listing.P d) f ts h = pairs-listed d (f .s) (f .n) ts
+asked-listed (Listing.G d) f ts h =
+    edges-listed d (f .s) (f .n) 0 0 ts ∙ ap edgeNames (any-passes (pairsOf d (f .s) (f .n) ts))
+asked-listed (Listing.GN d) f ts h =
+    edges-listed d (f .s) (f .n) 0 (f .m) ts
+    ∙ ap edgeNames (same-only (passes 0 (f .m)) _ (pairsOf d (f .s) (f .n) ts) (passes-node (f .m) h))
+asked-listed (Listing.N d) f ts h =
+    nodes-listed d (f .s) (f .n) 0 0 ts ∙ ap nodeNames (any-passes (pairsOf d (f .s) (f .n) ts))
+asked-listed (Listing.NG d) f ts h =
+    nodes-listed d (f .s) (f .n) (f .g) 0 ts
+    ∙ ap nodeNames (same-only (passes (f .g) 0) _ (pairsOf d (f .s) (f .n) ts) (passes-edge (f .g) h))
+asked-listed Listing.UN f ts h = ap ascending (gather-first (firstAt (Nodes (f .s))) ts)
+asked-listed Listing.US f ts h = ap ascending (gather-first (firstAt Spaces) ts)
+asked-listed Listing.USn f ts h = ap ascending (gather-first (firstAt (SpacesOf (f .n))) ts)
 
--- ---- the query that a function makes of the fields that it learnt
+-- ---- the list of the query that a function learnt
 
-pub query-told : (l : Listing) {l′ : Listing} (c : Call) (f : Fields) (ask : Fields → Query) → f ≡ fieldsOf c → l ≡ l′
-    → ask (fieldsOf c) ≡ queryOf l′ c → ask f ≡ queryOf l c
-query-told l c f ask F L e = ap ask F ∙ e ∙ sym (ap (λ (x : Listing). queryOf x c) L)
+told-listed : (l : Listing) (f : Fields) (q : Query) (ts : Tuples) → NamesAsked l f → q ≡ queryOf l f → queried q ts ≡ listed l f ts
+told-listed l f q ts h e = ap (λ (x : Query). queried x ts) e ∙ asked-listed l f ts h
 
--- a query for pairs, in a direction that it learnt too
-pub pairs-told : (l : Listing) {l′ : Listing} (c : Call) (f : Fields) (d : Direction) (ask : Direction → Fields → Query)
-    → f ≡ fieldsOf c → l ≡ l′ → ask d (fieldsOf c) ≡ queryOf l′ c → ask d f ≡ queryOf l c
-pairs-told l c f d ask F L e = query-told l c f (ask d) F L e
+pub told-count : (l : Listing) (f : Fields) (q : Query) (ts : Tuples) (k : ℕ) → NamesAsked l f → q ≡ queryOf l f → k ≡ length (queried q ts)
+    → k ≡ length (listed l f ts)
+told-count l f q ts k h e K = K ∙ ap (λ (ps : List Pair). length ps) (told-listed l f q ts h e)
 
--- the list of the query that a function learnt
-told-listed : (l : Listing) (c : Call) (q : Query) (ts : Tuples) → NamesAsked l c → q ≡ queryOf l c → queried q ts ≡ listed l c ts
-told-listed l c q ts h e = ap (λ (x : Query). queried x ts) e ∙ asked-listed l c ts h
+pub told-room : (l : Listing) (f : Fields) (q : Query) (ts : Tuples) (room : ℕ) → NamesAsked l f → q ≡ queryOf l f
+    → length (listed l f ts) ≤ room → length (queried q ts) ≤ room
+told-room l f q ts room h e = subst (λ (ps : List Pair). length ps ≤ room) (sym (told-listed l f q ts h e))
 
-pub told-count : (l : Listing) (c : Call) (q : Query) (ts : Tuples) → NamesAsked l c → q ≡ queryOf l c
-    → length (queried q ts) ≡ length (listed l c ts)
-told-count l c q ts h e = ap (λ (ps : List Pair). length ps) (told-listed l c q ts h e)
+pub told-written : (l : Listing) (f : Fields) (q : Query) (ts : Tuples) (list list′ : List ℕ) → NamesAsked l f → q ≡ queryOf l f
+    → list′ ≡ written (queried q ts) list → list′ ≡ written (listed l f ts) list
+told-written l f q ts list list′ h e W = W ∙ ap (λ (ps : List Pair). written ps list) (told-listed l f q ts h e)
 
-pub told-room : (l : Listing) (c : Call) (q : Query) (ts : Tuples) (room : ℕ) → NamesAsked l c → q ≡ queryOf l c
-    → length (listed l c ts) ≤ room → length (queried q ts) ≤ room
-told-room l c q ts room h e = subst (λ (k : ℕ). k ≤ room) (sym (told-count l c q ts h e))
+-- ---- what a function answers once it knows which operator it has
 
-pub told-written : (l : Listing) (c : Call) (q : Query) (ts : Tuples) (list : List ℕ) → NamesAsked l c → q ≡ queryOf l c
-    → written (queried q ts) list ≡ written (listed l c ts) list
-told-written l c q ts list h e = ap (λ (ps : List Pair). written ps list) (told-listed l c q ts h e)
+pub query-as : (l l′ : Listing) (f : Fields) (q : Query) → l ≡ l′ → q ≡ queryOf l′ f → q ≡ queryOf l f
+query-as l l′ f q e Q = Q ∙ ap (λ (x : Listing). queryOf x f) (sym e)
+
+pub hint-as : (l l′ : Listing) (near : Near) (h : ℕ) → l ≡ l′ → h ≡ listHint l′ near → h ≡ listHint l near
+hint-as l l′ near h e H = H ∙ ap (λ (x : Listing). listHint x near) (sym e)
+
+pub pairs-hint-as : (d d′ : Direction) (near : Near) (h : ℕ) → d ≡ d′ → h ≡ pairsHint d′ near → h ≡ pairsHint d near
+pairs-hint-as d d′ near h e H = H ∙ ap (λ (x : Direction). pairsHint x near) (sym e)
 
 -- ---- hints
 
@@ -236,12 +236,14 @@ list-hint b l near h N e = subst (Hint b) (sym e) (go l)
 
 -- ---- the most entries
 
-pub told-most : (l : Listing) (c : Call) (q : Query) (n room : ℕ) → q ≡ queryOf l c → leb (mostOf q n) room ≡ leb (mostOf (queryOf l c) n) room
-told-most l c q n room e = ap (λ (x : Query). leb (mostOf x n) room) e
+pub told-most : (l : Listing) (f : Fields) (q : Query) (n room : ℕ) (t : Bool) → q ≡ queryOf l f → t ≡ leb (mostOf q n) room
+    → t ≡ leb (mostOf (queryOf l f) n) room
+told-most l f q n room t e T = T ∙ ap (λ (x : Query). leb (mostOf x n) room) e
 
 -- where even those fit, the list is not short
-pub surely-not-short : (l : Listing) (c : Call) (ts : Tuples) (room : ℕ) (t : Bool) → NamesAsked l c → t ≡ leb (mostOf (queryOf l c) (length ts)) room → t ≡ true
-    → false ≡ ltb room (length (listed l c ts))
-surely-not-short l c ts room t h T e =
-    let most : mostOf (queryOf l c) (length ts) ≤ room = leb-true _ room (sym T ∙ e) in
-    sym (le-ltb room (length (listed l c ts)) (omega (arith, most, queried-most (queryOf l c) ts, sym (told-count l c (queryOf l c) ts h refl))))
+pub surely-not-short : (l : Listing) (f : Fields) (ts : Tuples) (room : ℕ) (t : Bool) → NamesAsked l f → t ≡ leb (mostOf (queryOf l f) (length ts)) room → t ≡ true
+    → false ≡ ltb room (length (listed l f ts))
+surely-not-short l f ts room t h T e =
+    let most : mostOf (queryOf l f) (length ts) ≤ room = leb-true _ room (sym T ∙ e) in
+    let listed-count = ap (λ (ps : List Pair). length ps) (asked-listed l f ts h) in
+    sym (le-ltb room (length (listed l f ts)) (omega (arith, most, queried-most (queryOf l f) ts, sym listed-count)))

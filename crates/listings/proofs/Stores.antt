@@ -9,6 +9,7 @@ use Rattle.model.specs.declared.Operator.{Operator}
 use Rattle.model.specs.declared.Operator.the-variants.{List as Lists}
 use Rattle.model.specs.Operators.{operatorOf}
 use Rattle.layouts.specs.Buffer.{isStore}
+use Rattle.model.specs.Steps.{fieldsOf}
 use Rattle.model.specs.Refusals.{noOperator, zeroName}
 use Rattle.model.proofs.Steps.{agrees, agree, g-named, m-named}
 use Rattle.edit.proofs.Built.{store-linked, store-tuples}
@@ -19,10 +20,10 @@ pub store-readable : (b : List ℕ) → isStore b ≡ true → Readable b
 store-readable b e = record { linked = store-linked b e; small = store-tuples b e .small }
 
 -- the names that a query asks for are read, and so are not 0
-pub names-asked : (l : Listing) (c : Call) → noOperator c ≡ false → zeroName c ≡ false → operatorOf (c .operator) ≡ Lists l → NamesAsked l c
+pub names-asked : (l : Listing) (c : Call) → noOperator c ≡ false → zeroName c ≡ false → operatorOf (c .operator) ≡ Lists l → NamesAsked l (fieldsOf c)
 names-asked l c known named e = go l (ap (λ (op : Operator). agrees op (c .operator)) (sym e) ∙ agree c known)
   where
-    go : (l : Listing) → agrees (Lists l) (c .operator) ≡ true → NamesAsked l c
+    go : (l : Listing) → agrees (Lists l) (c .operator) ≡ true → NamesAsked l (fieldsOf c)
     go (Listing.P d) a = tt
     go (Listing.G d) a = tt
     go (Listing.GN d) a = m-named c named a

@@ -3,11 +3,10 @@
 use entries::PairQuery;
 use entries::Part;
 use entries::Query;
-use model::Call;
+use located::Near;
 use model::Direction;
+use model::Fields;
 use model::Listing;
-use steps::Fields;
-use steps::Near;
 ghost use mathlib.Core.Path.{_≡_};
 ghost use lib.ListN.{length};
 ghost use Prim.Native.Nat.{_≤_};
@@ -18,7 +17,7 @@ ghost use Rattle.chain.specs.Links.{Linked};
 ghost use lib.Dec.{leb};
 ghost use Rattle.entries.specs.declared.Query.the-variants.{Pairs};
 ghost use Rattle.listings.specs.Lists.{pairsHint, listHint, pairQuery, queryOf, NamesAsked};
-ghost use Rattle.steps.specs.Operate.{NearIn};
+ghost use Rattle.located.specs.Located.{NearIn};
 
 // The query for the pairs of the call's node in its space, with edge g and node m (0: any).
 fn pair_query(d: Direction, f: Fields, g: u32, m: u32, part: Part) -> Query
@@ -35,10 +34,9 @@ fn pair_query(d: Direction, f: Fields, g: u32, m: u32, part: Part) -> Query
 }
 
 // The query of an S operator.
-pub fn query_of(l: Listing, c: Call) -> Query
-    ensures { λ r. ⌜ r ≡ queryOf l c ⌝ }
+pub fn query_of(l: Listing, f: Fields) -> Query
+    ensures { λ r. ⌜ r ≡ queryOf l f ⌝ }
 {
-    let f = steps::fields_of(c);
     match l {
         Listing::P(d) => pair_query(d, f, 0, 0, Part::Both),
         Listing::G(d) => pair_query(d, f, 0, 0, Part::Edge),
@@ -79,26 +77,26 @@ fn list_hint(l: Listing, near: Near) -> usize
 }
 
 // The number of entries that an S operator lists.
-pub fn count_listed(b: &[u32], near: Near, l: Listing, c: Call) -> usize
-    requires { ⌜ Readable (now b) × NearIn (now b) near × NamesAsked l c ⌝ }
-    ensures { λ r. ⌜ r ≡ length (listed l c (tuplesOf (now (b .entry)))) ⌝ }
+pub fn count_listed(b: &[u32], near: Near, l: Listing, f: Fields) -> usize
+    requires { ⌜ Readable (now b) × NearIn (now b) near × NamesAsked l f ⌝ }
+    ensures { λ r. ⌜ r ≡ length (listed l f (tuplesOf (now (b .entry)))) ⌝ }
 {
-    entries::count_entries(b, list_hint(l, near), query_of(l, c))
+    entries::count_entries(b, list_hint(l, near), query_of(l, f))
 }
 
 // Is there room for as many entries as the tuples could give an S operator: then they need not be counted.
-pub fn surely_fits(b: &[u32], l: Listing, c: Call, room: usize) -> bool
+pub fn surely_fits(b: &[u32], l: Listing, f: Fields, room: usize) -> bool
     requires { ⌜ Linked (now b) ⌝ }
-    ensures { λ r. ⌜ r ≡ leb (mostOf (queryOf l c) (length (tuplesOf (now (b .entry))))) room ⌝ }
+    ensures { λ r. ⌜ r ≡ leb (mostOf (queryOf l f) (length (tuplesOf (now (b .entry))))) room ⌝ }
 {
-    entries::surely_fits(b, query_of(l, c), room)
+    entries::surely_fits(b, query_of(l, f), room)
 }
 
 // The entries written to the first places of a list that has room for them, and their number; the rest stays.
-pub fn write_listed(b: &[u32], near: Near, l: Listing, c: Call, list: &mut [u32]) -> usize
-    requires { ⌜ Readable (now b) × NearIn (now b) near × NamesAsked l c × (length (listed l c (tuplesOf (now b))) ≤ length (now list)) ⌝ }
-    ensures { λ r. ⌜ r ≡ length (listed l c (tuplesOf (now (b .entry)))) ⌝ }
-    ensures list { λ _. ⌜ now (list .exit) ≡ written (listed l c (tuplesOf (now (b .entry)))) (now (list .entry)) ⌝ }
+pub fn write_listed(b: &[u32], near: Near, l: Listing, f: Fields, list: &mut [u32]) -> usize
+    requires { ⌜ Readable (now b) × NearIn (now b) near × NamesAsked l f × (length (listed l f (tuplesOf (now b))) ≤ length (now list)) ⌝ }
+    ensures { λ r. ⌜ r ≡ length (listed l f (tuplesOf (now (b .entry)))) ⌝ }
+    ensures list { λ _. ⌜ now (list .exit) ≡ written (listed l f (tuplesOf (now (b .entry)))) (now (list .entry)) ⌝ }
 {
-    entries::write_entries(b, list_hint(l, near), query_of(l, c), list)
+    entries::write_entries(b, list_hint(l, near), query_of(l, f), list)
 }

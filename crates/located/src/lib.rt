@@ -1,17 +1,19 @@
 // What a call names, located once: where it is to be sought, and what of it is there.
 // Each function is pub for the crate above, which has proved what it requires.
-use model::Call;
-use model::Row;
-use steps::Fields;
-use steps::Near;
+use model::Decoded;
+use model::Fields;
 ghost use mathlib.Core.Path.{_≡_};
-ghost use Rattle.model.specs.Operators.{rowOf};
 ghost use Rattle.chain.specs.Links.{Linked, Hint};
 ghost use Rattle.model.specs.Keys.{nodeKey};
-ghost use Rattle.model.specs.Machine.{FieldsFit};
-ghost use Rattle.steps.specs.Operate.{NearIn};
-ghost use Rattle.located.specs.Located.{beforeKey, near, nearNodes, nearUniverse, alsoIn, fartherOf, soughtIn, spaceAlone, withNode, withNodes, locatedIn};
-ghost use Rattle.model.specs.Steps.{sOf};
+ghost use Rattle.located.specs.Located.{NearIn, beforeKey, near, nearNodes, nearUniverse, alsoIn, fartherOf, soughtIn, spaceAlone, withNode, withNodes, locatedIn};
+
+// Where to look in one space for what a call names: used records before the space, node n and node m, or 0.
+// They are hints: searches start behind them where that is right, and answers do not depend on them.
+pub struct Near {
+    pub space: usize,
+    pub node: usize,
+    pub second: usize,
+}
 
 // The last used record whose key is below that of node n in space s.
 fn before_node(b: &[u32], hint: usize, s: u32, n: u32) -> usize
@@ -57,26 +59,25 @@ fn nowhere() -> Near
 }
 
 // Where a C in a numbered space is to look in UNIVERSE; nowhere in particular for other calls.
-pub fn locate_universe(b: &[u32], row: Row, c: Call) -> Near
-    requires { ⌜ Linked (now b) × (row ≡ rowOf (c .operator)) ⌝ }
-    ensures { λ r. ⌜ r ≡ nearUniverse (now (b .entry)) c ⌝ }
+pub fn locate_universe(b: &[u32], d: Decoded) -> Near
+    requires { ⌜ Linked (now b) ⌝ }
+    ensures { λ r. ⌜ r ≡ nearUniverse (now (b .entry)) d ⌝ }
 {
-    let f = steps::fields_of(c);
+    let f = d.fields;
     if f.s == 0 {
         return nowhere();
     }
-    if !row.both {
+    if !d.row.both {
         return nowhere();
     }
     near_nodes(b, 0, 0, f.n, f.m)
 }
 
 // Where a C is to look in UNIVERSE, once its space is known: on UNIVERSE, as in its space.
-pub fn also_in_universe(near: Near, universe: Near, c: Call) -> Near
-    ensures { λ r. ⌜ r ≡ alsoIn near universe (sOf c) ⌝ }
+pub fn also_in_universe(near: Near, universe: Near, s: u32) -> Near
+    ensures { λ r. ⌜ r ≡ alsoIn near universe s ⌝ }
 {
-    let f = steps::fields_of(c);
-    if f.s == 0 {
+    if s == 0 {
         return near;
     }
     universe
@@ -98,10 +99,9 @@ struct Sought {
     there: bool,
 }
 
-// What a call names in its space: where that is to be sought, the row of its operator, and whether the space is there, and node n and node m in it.
+// What a call names in its space: where that is to be sought, and whether the space is there, and node n and node m in it.
 pub struct Located {
     pub near: Near,
-    pub row: Row,
     pub space: bool,
     pub node: bool,
     pub second: bool,
@@ -122,8 +122,8 @@ fn seek_node(b: &[u32], hint: usize, s: u32, n: u32) -> Sought
 }
 
 // A space without its nodes.
-fn space_alone(row: Row, before: usize, there: bool) -> Located
-    ensures { λ r. ⌜ r ≡ spaceAlone row before there ⌝ }
+fn space_alone(before: usize, there: bool) -> Located
+    ensures { λ r. ⌜ r ≡ spaceAlone before there ⌝ }
 {
     Located {
         near: Near {
@@ -131,7 +131,6 @@ fn space_alone(row: Row, before: usize, there: bool) -> Located
             node: 0,
             second: 0,
         },
-        row,
         space: there,
         node: false,
         second: false,
@@ -139,8 +138,8 @@ fn space_alone(row: Row, before: usize, there: bool) -> Located
 }
 
 // A space that is there, with its node n.
-fn with_node(row: Row, space: usize, node: Sought) -> Located
-    ensures { λ r. ⌜ r ≡ withNode row space node ⌝ }
+fn with_node(space: usize, node: Sought) -> Located
+    ensures { λ r. ⌜ r ≡ withNode space node ⌝ }
 {
     Located {
         near: Near {
@@ -148,7 +147,6 @@ fn with_node(row: Row, space: usize, node: Sought) -> Located
             node: node.before,
             second: 0,
         },
-        row,
         space: true,
         node: node.there,
         second: false,
@@ -156,8 +154,8 @@ fn with_node(row: Row, space: usize, node: Sought) -> Located
 }
 
 // A space that is there, with its nodes n and m.
-fn with_nodes(row: Row, space: usize, node: Sought, second: Sought) -> Located
-    ensures { λ r. ⌜ r ≡ withNodes row space node second ⌝ }
+fn with_nodes(space: usize, node: Sought, second: Sought) -> Located
+    ensures { λ r. ⌜ r ≡ withNodes space node second ⌝ }
 {
     Located {
         near: Near {
@@ -165,7 +163,6 @@ fn with_nodes(row: Row, space: usize, node: Sought, second: Sought) -> Located
             node: node.before,
             second: second.before,
         },
-        row,
         space: true,
         node: node.there,
         second: second.there,
@@ -173,41 +170,40 @@ fn with_nodes(row: Row, space: usize, node: Sought, second: Sought) -> Located
 }
 
 // Nodes n and m of a space that is there, found in one walk: the lesser first.
-fn locate_nodes(b: &[u32], row: Row, space: usize, f: Fields) -> Located
+fn locate_nodes(b: &[u32], space: usize, f: Fields) -> Located
     requires { ⌜ Linked (now b) × Hint (now b) space ⌝ }
-    ensures { λ r. ⌜ r ≡ withNodes row space (soughtIn (now (b .entry)) (nodeKey (f .s) (f .n))) (soughtIn (now (b .entry)) (nodeKey (f .s) (f .m))) ⌝ }
+    ensures { λ r. ⌜ r ≡ withNodes space (soughtIn (now (b .entry)) (nodeKey (f .s) (f .n))) (soughtIn (now (b .entry)) (nodeKey (f .s) (f .m))) ⌝ }
 {
     if f.n <= f.m {
         let node = seek_node(b, space, f.s, f.n);
         let second = seek_node(b, node.before, f.s, f.m);
-        return with_nodes(row, space, node, second);
+        return with_nodes(space, node, second);
     }
     let second = seek_node(b, space, f.s, f.m);
     let node = seek_node(b, second.before, f.s, f.n);
-    with_nodes(row, space, node, second)
+    with_nodes(space, node, second)
 }
 
 // What a call names in its space, if its operator reads it. No node is sought in a space that is absent.
-pub fn locate(b: &[u32], universe: Near, row: Row, c: Call) -> Located
-    requires { ⌜ Linked (now b) × NearIn (now b) universe × (row ≡ rowOf (c .operator)) ⌝ }
-    ensures { λ r. ⌜ r ≡ locatedIn (now (b .entry)) c ⌝ }
-    ensures fit { λ _. ⌜ FieldsFit c ⌝ }
+pub fn locate(b: &[u32], universe: Near, d: Decoded) -> Located
+    requires { ⌜ Linked (now b) × NearIn (now b) universe ⌝ }
+    ensures { λ r. ⌜ r ≡ locatedIn (now (b .entry)) d ⌝ }
 {
-    let f = steps::fields_of(c);
-    let reads = row.reads;
+    let f = d.fields;
+    let reads = d.row.reads;
     if !reads.s {
-        return space_alone(row, 0, false);
+        return space_alone(0, false);
     }
     let space = seek_node(b, farther(universe, f), f.s, 0);
     if !space.there {
-        return space_alone(row, space.before, false);
+        return space_alone(space.before, false);
     }
     if reads.m {
-        return locate_nodes(b, row, space.before, f);
+        return locate_nodes(b, space.before, f);
     }
     if !reads.n {
-        return space_alone(row, space.before, true);
+        return space_alone(space.before, true);
     }
     let node = seek_node(b, space.before, f.s, f.n);
-    with_node(row, space.before, node)
+    with_node(space.before, node)
 }

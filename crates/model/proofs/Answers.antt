@@ -1,10 +1,10 @@
 -- What V, X, C and B say and do, by what is present: laws of values, and of existence.
-use mathlib.Core.Bool.{Bool, true, false, cond, not, _||_, false≢true, true≢false, or-false}
+use mathlib.Core.Bool.{Bool, true, false, cond, _||_, false≢true, true≢false, or-false}
 use mathlib.Core.List.{[], _∷_}
 use mathlib.Core.Logic.{inl, inr, ⊎-elim, _≢_, _↔_}
 use mathlib.Core.Path.{_≡_, refl, sym, ap, _∙_, subst}
-use Prim.Native.Nat.{Ordering, Ordering·lt, Ordering·eq, Ordering·gt}
-use Rattle.model.specs.declared.Call.{Call}
+use Prim.Native.Nat.{ℕ, Ordering, Ordering·lt, Ordering·eq, Ordering·gt}
+use Rattle.model.specs.declared.Fields.{Fields}
 use Rattle.model.specs.Ordered.{byOrder, holds, put, Ascending}
 use Rattle.model.specs.declared.Key.{Key}
 use Rattle.model.specs.Keys.{Value, NIL, Tuple, keyOf, spaceKey, nodeKey, edgeKey, compareKeys, sameKey}
@@ -13,7 +13,7 @@ use Rattle.model.specs.declared.Direction.the-variants.{Outpointing, Inp
 use Rattle.model.specs.declared.Object.{Object}
 use Rattle.model.specs.declared.Operator.the-variants.{Create, Exists}
 use Rattle.model.specs.Pairs.{pair}
-use Rattle.model.specs.Steps.{yesNo, nOf, gOf, mOf, sOf, objectKeys, created, reply, after}
+use Rattle.model.specs.Steps.{yesNo, objectKeys, created, reply, after}
 use Rattle.model.specs.Rules.{Has}
 use Rattle.model.specs.Entries.{IsPair}
 use Rattle.model.proofs.Bools.{or-cases, or-left, or-right, clash}
@@ -99,38 +99,38 @@ value-remove j takes (t ∷ ts) e = go (takes (t .key)) refl (value-remove j tak
 -- ---- C: "add"
 
 -- exactly the keys of the step are new
-pub create-adds : (o : Object) (c : Call) (ts : Tuples) (k : Key) → present k (after (Create o) c ts) ≡ (among k (created o c) || present k ts)
+pub create-adds : (o : Object) (f : Fields) (ts : Tuples) (k : Key) → present k (after (Create o) f ts) ≡ (among k (created o f) || present k ts)
 unfolding after
-create-adds o c ts k = present-addAll k (created o c) ts
+create-adds o f ts k = present-addAll k (created o f) ts
 
 -- ---- X: "yes if the pair (g,m) of n is present in s", "is it there"
 
 -- what X asks
-abbrev pub Asked : Object → Call → Tuples → Type 0
-Asked (Object.P d) c ts = IsPair d (sOf c) (nOf c) ts (pair (gOf c) (mOf c))
-Asked Object.UN c ts = Has (nodeKey (sOf c) (nOf c)) ts
-Asked Object.US c ts = Has (spaceKey (sOf c)) ts
+abbrev pub Asked : Object → Fields → Tuples → Type 0
+Asked (Object.P d) f ts = IsPair d (f .s) (f .n) ts (pair (f .g) (f .m))
+Asked Object.UN f ts = Has (nodeKey (f .s) (f .n)) ts
+Asked Object.US f ts = Has (spaceKey (f .s)) ts
 
 yes-said : {b : Bool} → yesNo b ≡ yesNo true → b ≡ true
 yes-said e = cc
 
 -- where an edge is asked for, its name is not 0: condition 3 sees to it
-abbrev pub EdgeNamed : Object → Call → Type 0
-EdgeNamed (Object.P d) c = gOf c ≢ 0
-EdgeNamed Object.UN c = Unit {0}
-EdgeNamed Object.US c = Unit {0}
+abbrev pub EdgeNamed : Object → Fields → Type 0
+EdgeNamed (Object.P d) f = f .g ≢ 0
+EdgeNamed Object.UN f = Unit {0}
+EdgeNamed Object.US f = Unit {0}
 
 -- X says yes exactly when what it asks is there
-pub exists-exactly : (o : Object) (c : Call) (ts : Tuples) → EdgeNamed o c → (reply (Exists o) c ts ≡ yesNo true) ↔ Asked o c ts
+pub exists-exactly : (o : Object) (first : ℕ) (f : Fields) (ts : Tuples) → EdgeNamed o f → (reply (Exists o) first f ts ≡ yesNo true) ↔ Asked o f ts
 unfolding reply objectKeys anyPresent
-exists-exactly (Object.P Outpointing) c ts g = (λ e. (g, sym (or-false _) ∙ yes-said e), λ h. ap yesNo (or-false _ ∙ h .1))
-exists-exactly (Object.P Inpointing) c ts g = (λ e. (g, sym (or-false _) ∙ yes-said e), λ h. ap yesNo (or-false _ ∙ h .1))
-exists-exactly (Object.P Adjacent) c ts g = (
+exists-exactly (Object.P Outpointing) first f ts g = (λ e. (g, sym (or-false _) ∙ yes-said e), λ h. ap yesNo (or-false _ ∙ h .1))
+exists-exactly (Object.P Inpointing) first f ts g = (λ e. (g, sym (or-false _) ∙ yes-said e), λ h. ap yesNo (or-false _ ∙ h .1))
+exists-exactly (Object.P Adjacent) first f ts g = (
   λ e. ⊎-elim (λ h. inl (g, h)) (λ h. inr (g, sym (or-false _) ∙ h)) (or-cases _ _ (yes-said e)),
   λ h.
-      let there : Bool = present (edgeKey (sOf c) (nOf c) (gOf c) (mOf c)) ts in
-      let back : Bool = present (edgeKey (sOf c) (mOf c) (gOf c) (nOf c)) ts in
+      let there : Bool = present (edgeKey (f .s) (f .n) (f .g) (f .m)) ts in
+      let back : Bool = present (edgeKey (f .s) (f .m) (f .g) (f .n)) ts in
       ap yesNo (⊎-elim (λ a. or-left there (back || false) (a .1)) (λ a. or-right there (back || false) (or-false back ∙ a .1)) h),
 )
-exists-exactly Object.UN c ts g = (λ e. sym (or-false _) ∙ yes-said e, λ h. ap yesNo (or-false _ ∙ h))
-exists-exactly Object.US c ts g = (λ e. sym (or-false _) ∙ yes-said e, λ h. ap yesNo (or-false _ ∙ h))
+exists-exactly Object.UN first f ts g = (λ e. sym (or-false _) ∙ yes-said e, λ h. ap yesNo (or-false _ ∙ h))
+exists-exactly Object.US first f ts g = (λ e. sym (or-false _) ∙ yes-said e, λ h. ap yesNo (or-false _ ∙ h))

@@ -10,22 +10,22 @@ use lib.ListN.{length, drop, length-append, length-drop, length-map}
 use lib.Seq.{take-at}
 use Rattle.model.specs.declared.Call.{Call}
 use Rattle.model.specs.declared.Answer.{Answer}
+use Rattle.model.specs.declared.Fields.{Fields}
 use Rattle.model.specs.declared.Pair.{Pair}
 use Rattle.model.specs.Keys.{mostName}
 use Rattle.model.specs.Tuples.{Tuples, fresh}
 use Rattle.model.specs.declared.Direction.{Direction}
 use Rattle.model.specs.declared.Direction.the-variants.{Outpointing, Inpointing, Adjacent}
 use Rattle.model.specs.declared.Listing.{Listing}
-use Rattle.model.specs.Pairs.{pair, edgeOf, nodeOf}
-use Rattle.model.specs.Steps.{Reply, pairs, nOf, sOf, listed}
-use Rattle.model.specs.Machine.{State, machine, answers, final}
+use Rattle.model.specs.Pairs.{pair, edgeOf, nodeOf, EveryPair}
+use Rattle.model.specs.Steps.{Reply, pairs, fieldsOf, listed}
+use Rattle.model.specs.Machine.{State, serve, machine, answers, final}
 use Rattle.model.specs.Rules.{TupleRules}
 use Rattle.model.specs.Entries.{PointsOut, PointsIn, IsPair, Entry}
 use Rattle.model.specs.Layouts.{Layout, Lawful}
 use Rattle.model.specs.Traces.{Trace, end, then}
 use Rattle.model.specs.OneCall.{answerOf, listCount, nameCount, pack, unpack, listAfter, observed, OnStore}
 use Rattle.model.specs.CallLists.{CallMade, OneMade, Exchange, exchangeOf, requests, FullExactly, WholeList, Demand3}
-use Rattle.model.proofs.Taken.{EveryPair}
 use Rattle.model.proofs.Entries.{listed-sound}
 use Rattle.model.proofs.Steps.{every-member}
 use Rattle.model.proofs.Refusals.{answer-form, full-exactly}
@@ -71,18 +71,18 @@ module _ (ts : Tuples) (R : TupleRules ts) where
   node-small : (n : ℕ) (q : Pair) → q ≡ pair 0 n → n ≤ mostName → SmallPair q
   node-small n q e h = subst SmallPair (sym e) (record { edge = omega arith; node = h })
 
-  entry-small : (l : Listing) (c : Call) (q : Pair) → Entry l c ts q → SmallPair q
-  entry-small (Listing.P d) c q h = pair-small d (sOf c) (nOf c) q h
-  entry-small (Listing.G d) c q h = edge-small (h .0) q (h .2) (pair-small d (sOf c) (nOf c) (h .0) (h .1))
-  entry-small (Listing.GN d) c q h = edge-small (h .0) q (h .3) (pair-small d (sOf c) (nOf c) (h .0) (h .1))
-  entry-small (Listing.N d) c q h = node-small _ q (h .2) (pair-small d (sOf c) (nOf c) (h .0) (h .1) .node)
-  entry-small (Listing.NG d) c q h = node-small _ q (h .3) (pair-small d (sOf c) (nOf c) (h .0) (h .1) .node)
-  entry-small Listing.UN c q h = node-small (h .0) q (h .3) (R .small _ (h .2) .n)
-  entry-small Listing.US c q h = node-small (h .0) q (h .2) (R .small _ (h .1) .s)
-  entry-small Listing.USn c q h = node-small (h .0) q (h .3) (R .small _ (h .2) .s)
+  entry-small : (l : Listing) (f : Fields) (q : Pair) → Entry l f ts q → SmallPair q
+  entry-small (Listing.P d) f q h = pair-small d (f .s) (f .n) q h
+  entry-small (Listing.G d) f q h = edge-small (h .0) q (h .2) (pair-small d (f .s) (f .n) (h .0) (h .1))
+  entry-small (Listing.GN d) f q h = edge-small (h .0) q (h .3) (pair-small d (f .s) (f .n) (h .0) (h .1))
+  entry-small (Listing.N d) f q h = node-small _ q (h .2) (pair-small d (f .s) (f .n) (h .0) (h .1) .node)
+  entry-small (Listing.NG d) f q h = node-small _ q (h .3) (pair-small d (f .s) (f .n) (h .0) (h .1) .node)
+  entry-small Listing.UN f q h = node-small (h .0) q (h .3) (R .small _ (h .2) .n)
+  entry-small Listing.US f q h = node-small (h .0) q (h .2) (R .small _ (h .1) .s)
+  entry-small Listing.USn f q h = node-small (h .0) q (h .3) (R .small _ (h .2) .s)
 
-  pub listed-small : (l : Listing) (c : Call) → EveryPair SmallPair (listed l c ts)
-  listed-small l c = every-member SmallPair (listed l c ts) (λ q e. entry-small l c q (listed-sound ts R l c q e))
+  pub listed-small : (l : Listing) (f : Fields) → EveryPair SmallPair (listed l f ts)
+  listed-small l f = every-member SmallPair (listed l f ts) (λ q e. entry-small l f q (listed-sound ts R l f q e))
 
 -- ---- an answer is read as the machine gave it
 
@@ -97,7 +97,7 @@ pub observed-machine : (C : ℕ) (ts : Tuples) (c : Call) (room : ℕ) (l : List
 unfolding observed answerOf
 observed-machine C ts c room l R =
     answer-form (λ (r : Reply). observed (answerOf r) (listAfter r l) ≡ r) C ts c room (λ number. refl) (λ x. refl) (λ v. refl) (λ b. refl) refl
-    (λ x. observed-list (listed x c ts) l (listed-small ts R x c))
+    (λ x. observed-list (listed x (fieldsOf c) ts) l (listed-small ts R x (fieldsOf c)))
 
 -- an answer of the machine lists no more pairs than its list has places
 listed-in-list : (C : ℕ) (ts : State) (c : Call) (room : ℕ) (l : List ℕ) → length (listAfter (machine C ts c room .answer) l) ≡ length l
@@ -107,16 +107,16 @@ listed-in-list C ts c room l =
     answer-form (λ (r : Reply). length (listAfter r l) ≡ length l → listCount (answerOf r) ≤ length l) C ts c room (λ number e. omega arith)
     (λ x e. omega arith) (λ v e. omega arith) (λ b e. omega arith) (λ e. omega arith)
     (λ x e.
-    let ps : List Pair = listed x c ts in
+    let ps : List Pair = listed x (fieldsOf c) ts in
     omega (arith, e, length-append (map pack ps) (drop (length ps) l), length-map ps pack, length-drop (length ps) l))
 
 -- ---- over any layout
 
 -- what demand 3 needs of one call on a store, by whatever door it is made: the machine's answer, and a store of the same length with the machine's state
 pub record AsMachine (Y : Layout) (b : List ℕ) (x : Exchange) (b′ : List ℕ) : Type 0 where
-  pub reply : x .reply ≡ machine (Y .capacityOf b) (Y .stateOf b) (x .request .call) (x .request .room) .answer
+  pub reply : x .reply ≡ serve (Y .capacityOf b) (Y .stateOf b) (x .request) .answer
   pub store : Y .isStore b′ ≡ true
-  pub state : Y .stateOf b′ ≡ machine (Y .capacityOf b) (Y .stateOf b) (x .request .call) (x .request .room) .state
+  pub state : Y .stateOf b′ ≡ serve (Y .capacityOf b) (Y .stateOf b) (x .request) .state
   pub size : length b′ ≡ length b
 
 abbrev pub MachineStep : Layout → List ℕ → Exchange → List ℕ → Type 0
@@ -176,6 +176,7 @@ module _ (Y : Layout) (L : Lawful Y) where
 
   -- a call of the entry is such a call
   pub one-call-machine : (b b′ : List ℕ) (x : CallMade) → OneMade Y b x b′ → MachineStep Y b (exchangeOf x) b′
+  unfolding serve
   one-call-machine b b′ x one e =
       let O = one .onStore e in
       record {

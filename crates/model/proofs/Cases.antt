@@ -7,12 +7,12 @@ use Rattle.model.specs.Operators.{table, operatorOf, readsOf}
 use Rattle.model.specs.Pairs.{comparePairs, ascending, gather, outPair, inPair, pairsAt, pairsOf, edgeNames, nodeNames, only, nodesIn, spacesIn, spacesWith, anyPair}
 use Rattle.model.specs.Steps.{spaceNumber, objectKeys, created, firstValue, reaches, edgesTaken, nodeTaken, removeNodes, spaceTaken, destroyed, listed, firstArgument, wouldList, wouldAdd, reply, idleReply, after}
 use Rattle.model.specs.Refusals.{first, zeroSpace, isUniverse, isNothing, selectsNothing, noOperator, zeroName, lacksSpace, destroysUniverse, spaceAbsent, nodeAbsent, secondAbsent, workedOn, edgeAbsent, listShort, full, ofCall, ofTuples, ifLookedUp, earlier, refusalOf}
-use Rattle.model.specs.Machine.{outcomeOf, machine, answers, final}
+use Rattle.model.specs.Machine.{outcomeOf, machine, serve, answers, final}
 use Rattle.model.specs.Cases.{Cases, ScriptTable, FirstWins, SecondNode}
 
 -- to unfold this is to unfold all that the machine computes with
 unfoldable pub computed : Unit {0}
-unfolding holds put compareKeys anyPresent valueAt addAll missing assign assignAll remove table operatorOf readsOf comparePairs ascending gather outPair inPair pairsAt pairsOf edgeNames nodeNames only nodesIn spacesIn spacesWith anyPair spaceNumber objectKeys created firstValue reaches edgesTaken nodeTaken removeNodes spaceTaken destroyed listed firstArgument wouldList wouldAdd reply idleReply after first zeroSpace isUniverse isNothing selectsNothing noOperator zeroName lacksSpace destroysUniverse spaceAbsent nodeAbsent secondAbsent workedOn edgeAbsent listShort full ofCall ofTuples ifLookedUp earlier refusalOf outcomeOf machine answers final
+unfolding holds put compareKeys anyPresent valueAt addAll missing assign assignAll remove table operatorOf readsOf comparePairs ascending gather outPair inPair pairsAt pairsOf edgeNames nodeNames only nodesIn spacesIn spacesWith anyPair spaceNumber objectKeys created firstValue reaches edgesTaken nodeTaken removeNodes spaceTaken destroyed listed firstArgument wouldList wouldAdd reply idleReply after first zeroSpace isUniverse isNothing selectsNothing noOperator zeroName lacksSpace destroysUniverse spaceAbsent nodeAbsent secondAbsent workedOn edgeAbsent listShort full ofCall ofTuples ifLookedUp earlier refusalOf outcomeOf machine serve answers final
 computed = tt
 
 pub cases : Cases

@@ -10,6 +10,7 @@ use lib.ListN.{length, length-map}
 use borrow.Author.Tests.{eqb-true, eq-eqb, ltb-true}
 use Rattle.model.specs.declared.Answer.{Answer}
 use Rattle.model.specs.declared.Call.{Call}
+use Rattle.model.specs.declared.Fields.{Fields}
 use Rattle.model.specs.declared.Direction.{Direction}
 use Rattle.model.specs.declared.Direction.the-variants.{Outpointing, Inpointing, Adjacent}
 use Rattle.model.specs.declared.Key.{Key}
@@ -22,7 +23,7 @@ use Rattle.model.specs.Keys.{isNode, isEdge}
 use Rattle.model.specs.Tuples.{Tuples}
 use Rattle.model.specs.Operators.{operatorOf}
 use Rattle.model.specs.Pairs.{pair, edgeOf, nodeOf, comparePairs, itself, ascending, gather, onlyIf, outPair, inPair, pairsAt, pairsOf, edgeNames, nodeNames, only, withEdge, withNode, nodesIn, spacesIn, spacesWith}
-use Rattle.model.specs.Steps.{Reply, nOf, gOf, mOf, sOf, listed, wouldList}
+use Rattle.model.specs.Steps.{Reply, fieldsOf, decoded, listed, wouldList}
 use Rattle.model.specs.Refusals.{Stop, stop, first, selectsNothing, listShort, full, ofCall, ofTuples, ifLookedUp, earlier, refusalOf}
 use Rattle.model.specs.Machine.{machine}
 use Rattle.model.specs.Layouts.{Layout, Lawful}
@@ -145,29 +146,29 @@ module _ (ts : Tuples) where
   pairs-within d s n = gathered _ (λ k. one-where (eqb (k .s) s) (pairsAt d n k) (one-pair d n k)) ts
 
   -- an S operator lists no more pairs than there are tuples
-  pub listed-within : (l : Listing) (c : Call) → length (listed l c ts) ≤ length ts
+  pub listed-within : (l : Listing) (f : Fields) → length (listed l f ts) ≤ length ts
   unfolding listed nodesIn spacesIn spacesWith
-  listed-within (Listing.P d) c = pairs-within d (sOf c) (nOf c)
-  listed-within (Listing.G d) c = omega (arith, length-edges (pairsOf d (sOf c) (nOf c) ts), pairs-within d (sOf c) (nOf c))
-  listed-within (Listing.GN d) c =
-      let ps : List Pair = pairsOf d (sOf c) (nOf c) ts in
-      omega (arith, length-edges (withNode (mOf c) ps), length-only (λ (p : Pair). eqb (nodeOf p) (mOf c)) ps, pairs-within d (sOf c) (nOf c))
-  listed-within (Listing.N d) c = omega (arith, length-nodes (pairsOf d (sOf c) (nOf c) ts), pairs-within d (sOf c) (nOf c))
-  listed-within (Listing.NG d) c =
-      let ps : List Pair = pairsOf d (sOf c) (nOf c) ts in
-      omega (arith, length-nodes (withEdge (gOf c) ps), length-only (λ (p : Pair). eqb (edgeOf p) (gOf c)) ps, pairs-within d (sOf c) (nOf c))
-  listed-within Listing.UN c = gathered _ (λ k. one-if (isNode k && eqb (k .s) (sOf c)) (pair 0 (k .n))) ts
-  listed-within Listing.US c = gathered _ (λ k. one-if (eqb (k .n) 0) (pair 0 (k .s))) ts
-  listed-within Listing.USn c = gathered _ (λ k. one-if (isNode k && eqb (k .n) (nOf c)) (pair 0 (k .s))) ts
+  listed-within (Listing.P d) f = pairs-within d (f .s) (f .n)
+  listed-within (Listing.G d) f = omega (arith, length-edges (pairsOf d (f .s) (f .n) ts), pairs-within d (f .s) (f .n))
+  listed-within (Listing.GN d) f =
+      let ps : List Pair = pairsOf d (f .s) (f .n) ts in
+      omega (arith, length-edges (withNode (f .m) ps), length-only (λ (p : Pair). eqb (nodeOf p) (f .m)) ps, pairs-within d (f .s) (f .n))
+  listed-within (Listing.N d) f = omega (arith, length-nodes (pairsOf d (f .s) (f .n) ts), pairs-within d (f .s) (f .n))
+  listed-within (Listing.NG d) f =
+      let ps : List Pair = pairsOf d (f .s) (f .n) ts in
+      omega (arith, length-nodes (withEdge (f .g) ps), length-only (λ (p : Pair). eqb (edgeOf p) (f .g)) ps, pairs-within d (f .s) (f .n))
+  listed-within Listing.UN f = gathered _ (λ k. one-if (isNode k && eqb (k .s) (f .s)) (pair 0 (k .n))) ts
+  listed-within Listing.US f = gathered _ (λ k. one-if (eqb (k .n) 0) (pair 0 (k .s))) ts
+  listed-within Listing.USn f = gathered _ (λ k. one-if (isNode k && eqb (k .n) (f .n)) (pair 0 (k .s))) ts
 
-  pub would-list-within : (op : Operator) (c : Call) → length (wouldList op c ts) ≤ length ts
+  pub would-list-within : (op : Operator) (f : Fields) → length (wouldList op f ts) ≤ length ts
   unfolding wouldList
-  would-list-within (Create o) c = omega arith
-  would-list-within (Bind o) c = omega arith
-  would-list-within (Values o) c = omega arith
-  would-list-within (Exists o) c = omega arith
-  would-list-within (Destroy r) c = omega arith
-  would-list-within (Lists l) c = listed-within l c
+  would-list-within (Create o) f = omega arith
+  would-list-within (Bind o) f = omega arith
+  would-list-within (Values o) f = omega arith
+  would-list-within (Exists o) f = omega arith
+  would-list-within (Destroy r) f = omega arith
+  would-list-within (Lists l) f = listed-within l f
 
 -- ---- on a store
 
@@ -176,15 +177,15 @@ module _ (Y : Layout) (L : Lawful Y) where
   store-most : (b : List ℕ) → Y .isStore b ≡ true → length (Y .stateOf b) ≤ 2048
   store-most b e = omega (arith, L .counted b e, L .most b e)
 
-  pub would-most : (b : List ℕ) → Y .isStore b ≡ true → (op : Operator) (c : Call) → length (wouldList op c (Y .stateOf b)) ≤ 2048
-  would-most b e op c = omega (arith, would-list-within (Y .stateOf b) op c, store-most b e)
+  pub would-most : (b : List ℕ) → Y .isStore b ≡ true → (op : Operator) (f : Fields) → length (wouldList op f (Y .stateOf b)) ≤ 2048
+  would-most b e op f = omega (arith, would-list-within (Y .stateOf b) op f, store-most b e)
 
   -- an answer of the machine lists no more ..
   machine-most : (b : List ℕ) (c : Call) (room : ℕ) → Y .isStore b ≡ true → listCount (answerOf (machine (Y .capacityOf b) (Y .stateOf b) c room .answer)) ≤ 2048
   unfolding answerOf listCount
   machine-most b c room store =
       answer-form (λ (r : Reply). listCount (answerOf r) ≤ 2048) (Y .capacityOf b) (Y .stateOf b) c room (λ number. omega arith) (λ x. omega arith)
-      (λ v. omega arith) (λ t. omega arith) (omega arith) (λ l. omega (arith, listed-within (Y .stateOf b) l c, store-most b store))
+      (λ v. omega arith) (λ t. omega arith) (omega arith) (λ l. omega (arith, listed-within (Y .stateOf b) l (fieldsOf c), store-most b store))
 
   -- .. nor does a call
   pub answer-most : (b l b′ l′ : List ℕ) (c : Call) (a : Answer) → Y .isStore b ≡ true → OnStore Y b l c a b′ l′ → listCount a ≤ 2048
@@ -208,11 +209,11 @@ winner-applies n (x ∷ xs) e = go (x .applies) (winner-applies n xs) e
     go false ih f = or-right (eqb (x .number) n && false) (anyApplies n xs) (ih f)
 
 -- condition 9 wins only where the list is shorter than k
-short-applies : (C : ℕ) (ts : Tuples) (c : Call) (room : ℕ) → refusalOf C ts c room ≡ some 9 → listShort c ts room ≡ true
+short-applies : (C : ℕ) (ts : Tuples) (c : Call) (room : ℕ) → refusalOf C ts c room ≡ some 9 → listShort (decoded c) ts room ≡ true
 unfolding refusalOf earlier ofCall ofTuples ifLookedUp
 short-applies C ts c room e = go (selectsNothing c) (winner-applies 9 _ e)
   where
-    go : (t : Bool) → anyApplies 9 ((ofCall c ++ cond t [] (ofTuples ts c room)) ++ cond t [] (stop 10 (full C c ts) ∷ [])) ≡ true → listShort c ts room ≡ true
+    go : (t : Bool) → anyApplies 9 ((ofCall c ++ cond t [] (ofTuples ts (decoded c) room)) ++ cond t [] (stop 10 (full C (decoded c) ts) ∷ [])) ≡ true → listShort (decoded c) ts room ≡ true
     go true h = absurd (false≢true h)
     go false h = sym (or-false _) ∙ h
 
@@ -222,4 +223,4 @@ pub places-enough : (Y : Layout) → Lawful Y → (b : List ℕ) (c : Call) (roo
 unfolding listShort
 places-enough Y L b c room store enough e =
     let short = ltb-true room _ (short-applies (Y .capacityOf b) (Y .stateOf b) c room e) in
-    omega (arith, short, would-most Y L b store (operatorOf (c .operator)) c)
+    omega (arith, short, would-most Y L b store (operatorOf (c .operator)) (fieldsOf c))

@@ -10,9 +10,9 @@ use Rattle.model.specs.declared.Call.{Call}
 use Rattle.model.specs.declared.Answer.{Answer}
 use Rattle.model.specs.declared.Answer.the-variants.{Refusal}
 use Rattle.model.specs.Tuples.{Tuples}
-use Rattle.model.specs.Steps.{Reply, refusal, name, valued, yesNo, pairs}
-use Rattle.model.specs.Refusals.{stop, selectsNothing, full, first, ofCall, ofTuples, ifLookedUp, earlier, refusalOf}
-use Rattle.model.specs.Machine.{Outcome, machine}
+use Rattle.model.specs.Steps.{Reply, decoded, refusal, name, valued, yesNo, pairs}
+use Rattle.model.specs.Refusals.{stop, selectsNothing, full, ofCall, ofTuples, ifLookedUp, earlier, refusalOf}
+use Rattle.model.specs.Machine.{Outcome}
 use Rattle.model.specs.Layouts.{Layout, Lawful}
 use Rattle.model.specs.NoSelection.{nothingReply}
 use Rattle.model.specs.OneCall.{answerOf, listAfter, OnNoStore, OnStore, OneCall}
@@ -35,11 +35,11 @@ refused-reply (pairs k ps) number e = cc
 abbrev notOne : ℕ → Bool
 notOne n = not (eqb n 1)
 
-stops-not-one : (C : ℕ) (ts : Tuples) (c : Call) (room : ℕ) → everyNumber notOne (earlier ts c room ++ ifLookedUp c (stop 10 (full C c ts) ∷ [])) ≡ true
+stops-not-one : (C : ℕ) (ts : Tuples) (c : Call) (room : ℕ) → everyNumber notOne (earlier ts c room ++ ifLookedUp c (stop 10 (full C (decoded c) ts) ∷ [])) ≡ true
 unfolding ofCall ofTuples ifLookedUp earlier
 stops-not-one C ts c room = go (selectsNothing c)
   where
-    go : (t : Bool) → everyNumber notOne ((ofCall c ++ cond t [] (ofTuples ts c room)) ++ cond t [] (stop 10 (full C c ts) ∷ [])) ≡ true
+    go : (t : Bool) → everyNumber notOne ((ofCall c ++ cond t [] (ofTuples ts (decoded c) room)) ++ cond t [] (stop 10 (full C (decoded c) ts) ∷ [])) ≡ true
     go true = refl
     go false = refl
 

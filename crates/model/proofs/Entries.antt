@@ -6,7 +6,7 @@ use mathlib.Core.Path.{_≡_, refl, sym, ap, _∙_, subst}
 use Prim.Native.Nat.{ℕ}
 use lib.Dec.{eqb, isEq}
 use borrow.Author.Tests.{eqb-true, eqb-false, eq-eqb, ne-eqb}
-use Rattle.model.specs.declared.Call.{Call}
+use Rattle.model.specs.declared.Fields.{Fields}
 use Rattle.model.specs.declared.Pair.{Pair}
 use Rattle.model.specs.Ordered.{holds, Ascending}
 use Rattle.model.specs.declared.Key.{Key}
@@ -16,7 +16,7 @@ use Rattle.model.specs.declared.Direction.{Direction}
 use Rattle.model.specs.declared.Direction.the-variants.{Outpointing, Inpointing, Adjacent}
 use Rattle.model.specs.declared.Listing.{Listing}
 use Rattle.model.specs.Pairs.{pair, edgeOf, nodeOf, comparePairs, itself, member, ascending, gather, onlyIf, outPair, inPair, pairsAt, pairsOf, edgeNames, nodeNames, only, withEdge, withNode, nodesIn, spacesIn, spacesWith}
-use Rattle.model.specs.Steps.{nOf, gOf, mOf, sOf, listed}
+use Rattle.model.specs.Steps.{listed}
 use Rattle.model.specs.Rules.{Has, TupleRules}
 use Rattle.model.specs.Entries.{PointsOut, PointsIn, IsPair, Entry}
 use Rattle.model.proofs.Bools.{or-cases, or-left, or-right, and-left, and-right, and-both, not-yes, no-not}
@@ -315,66 +315,66 @@ module _ (ts : Tuples) (R : TupleRules ts) where
   -- ---- the lists
 
   -- what a list holds is an entry
-  pub listed-sound : (l : Listing) (c : Call) (q : Pair) → Member q (listed l c ts) → Entry l c ts q
+  pub listed-sound : (l : Listing) (f : Fields) (q : Pair) → Member q (listed l f ts) → Entry l f ts q
   unfolding listed
-  listed-sound (Listing.P d) c q e = pairs-sound d (sOf c) (nOf c) ts q e
-  listed-sound (Listing.G d) c q e =
-      let r = edges-sound (pairsOf d (sOf c) (nOf c) ts) q e in (r .0, pairs-sound d (sOf c) (nOf c) ts (r .0) (r .1), r .2)
-  listed-sound (Listing.GN d) c q e =
-      let ps = pairsOf d (sOf c) (nOf c) ts in
-      let r = edges-sound (withNode (mOf c) ps) q e in
-      let i = only-sound (λ p. eqb (nodeOf p) (mOf c)) ps (r .0) (r .1) in
-      (r .0, pairs-sound d (sOf c) (nOf c) ts (r .0) (i .0), eqb-true (nodeOf (r .0)) (mOf c) (i .1), r .2)
-  listed-sound (Listing.N d) c q e =
-      let r = nodes-sound (pairsOf d (sOf c) (nOf c) ts) q e in (r .0, pairs-sound d (sOf c) (nOf c) ts (r .0) (r .1), r .2)
-  listed-sound (Listing.NG d) c q e =
-      let ps = pairsOf d (sOf c) (nOf c) ts in
-      let r = nodes-sound (withEdge (gOf c) ps) q e in
-      let i = only-sound (λ p. eqb (edgeOf p) (gOf c)) ps (r .0) (r .1) in
-      (r .0, pairs-sound d (sOf c) (nOf c) ts (r .0) (i .0), eqb-true (edgeOf (r .0)) (gOf c) (i .1), r .2)
-  listed-sound Listing.UN c q e = nodesIn-sound (sOf c) q e
-  listed-sound Listing.US c q e = spacesIn-sound q e
-  listed-sound Listing.USn c q e = spacesWith-sound (nOf c) q e
+  listed-sound (Listing.P d) f q e = pairs-sound d (f .s) (f .n) ts q e
+  listed-sound (Listing.G d) f q e =
+      let r = edges-sound (pairsOf d (f .s) (f .n) ts) q e in (r .0, pairs-sound d (f .s) (f .n) ts (r .0) (r .1), r .2)
+  listed-sound (Listing.GN d) f q e =
+      let ps = pairsOf d (f .s) (f .n) ts in
+      let r = edges-sound (withNode (f .m) ps) q e in
+      let i = only-sound (λ p. eqb (nodeOf p) (f .m)) ps (r .0) (r .1) in
+      (r .0, pairs-sound d (f .s) (f .n) ts (r .0) (i .0), eqb-true (nodeOf (r .0)) (f .m) (i .1), r .2)
+  listed-sound (Listing.N d) f q e =
+      let r = nodes-sound (pairsOf d (f .s) (f .n) ts) q e in (r .0, pairs-sound d (f .s) (f .n) ts (r .0) (r .1), r .2)
+  listed-sound (Listing.NG d) f q e =
+      let ps = pairsOf d (f .s) (f .n) ts in
+      let r = nodes-sound (withEdge (f .g) ps) q e in
+      let i = only-sound (λ p. eqb (edgeOf p) (f .g)) ps (r .0) (r .1) in
+      (r .0, pairs-sound d (f .s) (f .n) ts (r .0) (i .0), eqb-true (edgeOf (r .0)) (f .g) (i .1), r .2)
+  listed-sound Listing.UN f q e = nodesIn-sound (f .s) q e
+  listed-sound Listing.US f q e = spacesIn-sound q e
+  listed-sound Listing.USn f q e = spacesWith-sound (f .n) q e
 
   -- every entry is in the list
-  pub listed-complete : (l : Listing) (c : Call) (q : Pair) → Entry l c ts q → Member q (listed l c ts)
+  pub listed-complete : (l : Listing) (f : Fields) (q : Pair) → Entry l f ts q → Member q (listed l f ts)
   unfolding listed
-  listed-complete (Listing.P d) c q h = pairs-complete d (sOf c) (nOf c) ts q h
-  listed-complete (Listing.G d) c q h =
-      let ps = pairsOf d (sOf c) (nOf c) ts in
-      subst (λ (x : Pair). Member x (edgeNames ps)) (sym (h .2)) (edges-complete ps (h .0) (pairs-complete d (sOf c) (nOf c) ts (h .0) (h .1)))
-  listed-complete (Listing.GN d) c q h =
-      let ps = pairsOf d (sOf c) (nOf c) ts in
-      subst (λ (x : Pair). Member x (edgeNames (withNode (mOf c) ps))) (sym (h .3))
-      (edges-complete (withNode (mOf c) ps) (h .0)
-      (only-complete (λ p. eqb (nodeOf p) (mOf c)) ps (h .0) (pairs-complete d (sOf c) (nOf c) ts (h .0) (h .1)) (eq-eqb _ (mOf c) (h .2))))
-  listed-complete (Listing.N d) c q h =
-      let ps = pairsOf d (sOf c) (nOf c) ts in
-      subst (λ (x : Pair). Member x (nodeNames ps)) (sym (h .2)) (nodes-complete ps (h .0) (pairs-complete d (sOf c) (nOf c) ts (h .0) (h .1)))
-  listed-complete (Listing.NG d) c q h =
-      let ps = pairsOf d (sOf c) (nOf c) ts in
-      subst (λ (x : Pair). Member x (nodeNames (withEdge (gOf c) ps))) (sym (h .3))
-      (nodes-complete (withEdge (gOf c) ps) (h .0)
-      (only-complete (λ p. eqb (edgeOf p) (gOf c)) ps (h .0) (pairs-complete d (sOf c) (nOf c) ts (h .0) (h .1)) (eq-eqb _ (gOf c) (h .2))))
-  listed-complete Listing.UN c q h =
-      subst (λ (x : Pair). Member x (nodesIn (sOf c) ts)) (sym (h .3)) (nodesIn-complete (sOf c) (h .0) (h .1) (h .2))
-  listed-complete Listing.US c q h = subst (λ (x : Pair). Member x (spacesIn ts)) (sym (h .2)) (spacesIn-complete (h .0) (h .1))
-  listed-complete Listing.USn c q h =
-      subst (λ (x : Pair). Member x (spacesWith (nOf c) ts)) (sym (h .3)) (spacesWith-complete (nOf c) (h .0) (h .1) (h .2))
+  listed-complete (Listing.P d) f q h = pairs-complete d (f .s) (f .n) ts q h
+  listed-complete (Listing.G d) f q h =
+      let ps = pairsOf d (f .s) (f .n) ts in
+      subst (λ (x : Pair). Member x (edgeNames ps)) (sym (h .2)) (edges-complete ps (h .0) (pairs-complete d (f .s) (f .n) ts (h .0) (h .1)))
+  listed-complete (Listing.GN d) f q h =
+      let ps = pairsOf d (f .s) (f .n) ts in
+      subst (λ (x : Pair). Member x (edgeNames (withNode (f .m) ps))) (sym (h .3))
+      (edges-complete (withNode (f .m) ps) (h .0)
+      (only-complete (λ p. eqb (nodeOf p) (f .m)) ps (h .0) (pairs-complete d (f .s) (f .n) ts (h .0) (h .1)) (eq-eqb _ (f .m) (h .2))))
+  listed-complete (Listing.N d) f q h =
+      let ps = pairsOf d (f .s) (f .n) ts in
+      subst (λ (x : Pair). Member x (nodeNames ps)) (sym (h .2)) (nodes-complete ps (h .0) (pairs-complete d (f .s) (f .n) ts (h .0) (h .1)))
+  listed-complete (Listing.NG d) f q h =
+      let ps = pairsOf d (f .s) (f .n) ts in
+      subst (λ (x : Pair). Member x (nodeNames (withEdge (f .g) ps))) (sym (h .3))
+      (nodes-complete (withEdge (f .g) ps) (h .0)
+      (only-complete (λ p. eqb (edgeOf p) (f .g)) ps (h .0) (pairs-complete d (f .s) (f .n) ts (h .0) (h .1)) (eq-eqb _ (f .g) (h .2))))
+  listed-complete Listing.UN f q h =
+      subst (λ (x : Pair). Member x (nodesIn (f .s) ts)) (sym (h .3)) (nodesIn-complete (f .s) (h .0) (h .1) (h .2))
+  listed-complete Listing.US f q h = subst (λ (x : Pair). Member x (spacesIn ts)) (sym (h .2)) (spacesIn-complete (h .0) (h .1))
+  listed-complete Listing.USn f q h =
+      subst (λ (x : Pair). Member x (spacesWith (f .n) ts)) (sym (h .3)) (spacesWith-complete (f .n) (h .0) (h .1) (h .2))
 
 -- each list is strictly ascending: "ascending by edge, then node, each once"
-pub listed-ascends : (l : Listing) (c : Call) (ts : Tuples) → Ascending itself comparePairs (listed l c ts)
+pub listed-ascends : (l : Listing) (f : Fields) (ts : Tuples) → Ascending itself comparePairs (listed l f ts)
 unfolding listed pairsOf edgeNames nodeNames nodesIn spacesIn spacesWith
-listed-ascends (Listing.P d) c ts = ascending-ascends _
-listed-ascends (Listing.G d) c ts = ascending-ascends _
-listed-ascends (Listing.GN d) c ts = ascending-ascends _
-listed-ascends (Listing.N d) c ts = ascending-ascends _
-listed-ascends (Listing.NG d) c ts = ascending-ascends _
-listed-ascends Listing.UN c ts = ascending-ascends _
-listed-ascends Listing.US c ts = ascending-ascends _
-listed-ascends Listing.USn c ts = ascending-ascends _
+listed-ascends (Listing.P d) f ts = ascending-ascends _
+listed-ascends (Listing.G d) f ts = ascending-ascends _
+listed-ascends (Listing.GN d) f ts = ascending-ascends _
+listed-ascends (Listing.N d) f ts = ascending-ascends _
+listed-ascends (Listing.NG d) f ts = ascending-ascends _
+listed-ascends Listing.UN f ts = ascending-ascends _
+listed-ascends Listing.US f ts = ascending-ascends _
+listed-ascends Listing.USn f ts = ascending-ascends _
 
 -- the theorem about lists that S operators answer
-pub lists-exactly : (l : Listing) (c : Call) (ts : Tuples) → TupleRules ts
-    → Ascending itself comparePairs (listed l c ts) × ((q : Pair) → Member q (listed l c ts) ↔ Entry l c ts q)
-lists-exactly l c ts R = (listed-ascends l c ts, λ q. (listed-sound ts R l c q, listed-complete ts R l c q))
+pub lists-exactly : (l : Listing) (f : Fields) (ts : Tuples) → TupleRules ts
+    → Ascending itself comparePairs (listed l f ts) × ((q : Pair) → Member q (listed l f ts) ↔ Entry l f ts q)
+lists-exactly l f ts R = (listed-ascends l f ts, λ q. (listed-sound ts R l f q, listed-complete ts R l f q))

@@ -6,10 +6,9 @@ use mathlib.Core.Path.{_≡_, refl, sym, ap, _∙_}
 use Prim.Native.Nat.{ℕ}
 use Rattle.model.specs.declared.Call.{Call}
 use Rattle.model.specs.Keys.{Value}
-use Rattle.model.specs.Operators.{operatorOf}
-use Rattle.model.specs.Steps.{Reply, refusal, name, valued, yesNo, pairs, idleReply}
+use Rattle.model.specs.Steps.{decoded, firstArgument, Reply, refusal, name, valued, yesNo, pairs, idleReply}
 use Rattle.model.specs.Refusals.{selectsNothing, first, ofCall}
-use Rattle.model.specs.Machine.{State, Outcome, Request, idle, outcomeOf, machine, answers, final}
+use Rattle.model.specs.Machine.{State, Outcome, CallRequest, Request, calling, serve, idle, outcomeOf, machine, answers, final}
 use Rattle.model.specs.Layouts.{Layout}
 use Rattle.model.specs.CallLists.{Exchange, requests, WholeList}
 use Rattle.model.specs.NoSelection.{refusalOr, nothingReply, WithoutEffect, NoSelection}
@@ -31,9 +30,9 @@ pub nothing-form : (P : Reply → Type 0) → ((number : ℕ) → P (refusal num
 unfolding nothingReply refusalOr
 nothing-form P refused named valued-as no-said none-listed c = go (first (ofCall c))
   where
-    go : (r : Option ℕ) → P (refusalOr (idleReply (operatorOf (c .operator)) c) r)
+    go : (r : Option ℕ) → P (refusalOr (idleReply (decoded c .operator) (firstArgument (decoded c))) r)
     go (some number) = refused number
-    go none = idle-form P named valued-as no-said none-listed (operatorOf (c .operator)) c
+    go none = idle-form P named valued-as no-said none-listed (decoded c .operator) _
 
 -- ---- in a list of calls
 
@@ -42,45 +41,45 @@ pub answers-append : (C : ℕ) (ts : State) (xs ys : List Request) → answers C
 unfolding answers final
 answers-append C ts [] ys = refl
 answers-append C ts (x ∷ xs) ys =
-    ap (λ (rs : List Reply). machine C ts (x .call) (x .room) .answer ∷ rs) (answers-append C (machine C ts (x .call) (x .room) .state) xs ys)
+    ap (λ (rs : List Reply). serve C ts x .answer ∷ rs) (answers-append C (serve C ts x .state) xs ys)
 
 pub final-append : (C : ℕ) (ts : State) (xs ys : List Request) → final C ts (xs ++ ys) ≡ final C (final C ts xs) ys
 unfolding final
 final-append C ts [] ys = refl
-final-append C ts (x ∷ xs) ys = final-append C (machine C ts (x .call) (x .room) .state) xs ys
+final-append C ts (x ∷ xs) ys = final-append C (serve C ts x .state) xs ys
 
-module _ (C : ℕ) (ts : State) (xs : List Request) (r : Request) (ys : List Request) (e : selectsNothing (r .call) ≡ true) where
+module _ (C : ℕ) (ts : State) (xs : List Request) (r : CallRequest) (ys : List Request) (e : selectsNothing (r .call) ≡ true) where
   -- the answers before it and after it are those of the list without it
-  pub nothing-answers : answers C ts (xs ++ (r ∷ ys)) ≡ answers C ts xs ++ (nothingReply (r .call) ∷ answers C (final C ts xs) ys)
-  unfolding answers
+  pub nothing-answers : answers C ts (xs ++ (calling r ∷ ys)) ≡ answers C ts xs ++ (nothingReply (r .call) ∷ answers C (final C ts xs) ys)
+  unfolding answers serve
   nothing-answers =
-      answers-append C ts xs (r ∷ ys)
+      answers-append C ts xs (calling r ∷ ys)
       ∙ ap (λ (o : Outcome). answers C ts xs ++ (o .answer ∷ answers C (o .state) ys)) (nothing-idle C (final C ts xs) (r .call) (r .room) e)
 
   -- and so is the state
-  pub nothing-final : final C ts (xs ++ (r ∷ ys)) ≡ final C ts (xs ++ ys)
-  unfolding final
+  pub nothing-final : final C ts (xs ++ (calling r ∷ ys)) ≡ final C ts (xs ++ ys)
+  unfolding final serve
   nothing-final =
-      final-append C ts xs (r ∷ ys)
+      final-append C ts xs (calling r ∷ ys)
       ∙ ap (λ (o : Outcome). final C (o .state) ys) (nothing-idle C (final C ts xs) (r .call) (r .room) e)
       ∙ sym (final-append C ts xs ys)
 
 -- ---- in a list of calls that were made
 
 -- where demand 3 holds of a list with such a call and of the list without it
-pub nothing-without-effect : (Y : Layout) (C : ℕ) (ts : State) (xs : List Exchange) (x : Exchange) (ys : List Exchange) (b : List ℕ) (zs : List Exchange) (b″ : List ℕ)
-    → selectsNothing (x .request .call) ≡ true → requests zs ≡ requests (xs ++ ys) → WholeList Y C ts (xs ++ (x ∷ ys)) b → WholeList Y C ts zs b″
-    → WithoutEffect Y C ts xs x ys b zs b″
-nothing-without-effect Y C ts xs x ys b zs b″ e same W W₀ =
-    let with-it = map-append (λ (y : Exchange). y .request) xs (x ∷ ys) in
+pub nothing-without-effect : (Y : Layout) (C : ℕ) (ts : State) (xs : List Exchange) (x : Exchange) (r : CallRequest) (ys : List Exchange) (b : List ℕ) (zs : List Exchange) (b″ : List ℕ)
+    → x .request ≡ calling r → selectsNothing (r .call) ≡ true → requests zs ≡ requests (xs ++ ys) → WholeList Y C ts (xs ++ (x ∷ ys)) b → WholeList Y C ts zs b″
+    → WithoutEffect Y C ts xs x (r .call) ys b zs b″
+nothing-without-effect Y C ts xs x r ys b zs b″ asks e same W W₀ =
+    let with-it = map-append (λ (y : Exchange). y .request) xs (x ∷ ys) ∙ ap (λ (q : Request). requests xs ++ (q ∷ requests ys)) asks in
     let without-it = same ∙ map-append (λ (y : Exchange). y .request) xs ys in
     record {
-      withIt = W .answered ∙ ap (answers C ts) with-it ∙ nothing-answers C ts (requests xs) (x .request) (requests ys) e;
+      withIt = W .answered ∙ ap (answers C ts) with-it ∙ nothing-answers C ts (requests xs) r (requests ys) e;
       withoutIt = W₀ .answered ∙ ap (answers C ts) without-it ∙ answers-append C ts (requests xs) (requests ys);
       sameState =
           W .held
           ∙ ap (final C ts) with-it
-          ∙ nothing-final C ts (requests xs) (x .request) (requests ys) e
+          ∙ nothing-final C ts (requests xs) r (requests ys) e
           ∙ sym (ap (final C ts) without-it)
           ∙ sym (W₀ .held);
     }

@@ -6,10 +6,11 @@ use mathlib.Core.Option.{Option, none, some}
 use mathlib.Core.Path.{_≡_, refl, sym, ap, _∙_}
 use Prim.Native.Nat.{ℕ, _+_, _≤_, _<_}
 use native.Mathlib.Omega.{arith}
-use lib.Dec.{eqb, ltb}
+use lib.Dec.{eqb}
 use lib.ListN.{length}
 use borrow.Author.Tests.{ltb-true, lt-ltb}
 use Rattle.model.specs.declared.Call.{Call}
+use Rattle.model.specs.declared.Fields.{Fields}
 use Rattle.model.specs.declared.Pair.{Pair}
 use Rattle.model.specs.declared.Key.{Key}
 use Rattle.model.specs.declared.Listing.{Listing}
@@ -21,9 +22,9 @@ use Rattle.model.specs.declared.Operator.the-variants.{Create, Bind, Val
 use Rattle.model.specs.declared.Removal.{Removal}
 use Rattle.model.specs.Operators.{operatorOf}
 use Rattle.model.specs.Pairs.{nodeOf, pairsOf, nodeNames, withEdge, anyPair}
-use Rattle.model.specs.Steps.{Reply, refusal, name, valued, yesNo, pairs, nOf, gOf, sOf, nodeTaken, removeNodes, destroyed, wouldAdd, listed, reply, idleReply, after}
+use Rattle.model.specs.Steps.{Reply, refusal, name, valued, yesNo, pairs, fieldsOf, decoded, firstArgument, nodeTaken, removeNodes, destroyed, wouldAdd, listed, reply, idleReply, after}
 use Rattle.model.specs.Refusals.{Stop, stop, first, selectsNothing, noOperator, zeroName, lacksSpace, destroysUniverse, spaceAbsent, nodeAbsent, secondAbsent, edgeAbsent, listShort, full, ofCall, ofTuples, ifLookedUp, earlier, refusalOf}
-use Rattle.model.specs.Machine.{State, Outcome, Request, step, idle, outcomeOf, machine}
+use Rattle.model.specs.Machine.{State, Outcome, Request, calling, serve, step, idle, outcomeOf, machine}
 use Rattle.model.specs.OneCall.{writes}
 use Rattle.model.specs.CallLists.{toAdd, Exceeds}
 use Rattle.model.proofs.Bools.{and-left, and-right}
@@ -42,12 +43,12 @@ asked C ts c room =
     stop 2 (noOperator c)
     ∷ stop 3 (zeroName c)
     ∷ stop 4 (destroysUniverse c)
-    ∷ stop 5 (spaceAbsent c ts)
-    ∷ stop 6 (nodeAbsent c ts)
-    ∷ stop 7 (secondAbsent c ts)
-    ∷ stop 8 (edgeAbsent c ts)
-    ∷ stop 9 (listShort c ts room)
-    ∷ stop 10 (full C c ts)
+    ∷ stop 5 (spaceAbsent (decoded c) ts)
+    ∷ stop 6 (nodeAbsent (decoded c) ts)
+    ∷ stop 7 (secondAbsent (decoded c) ts)
+    ∷ stop 8 (edgeAbsent (decoded c) ts)
+    ∷ stop 9 (listShort (decoded c) ts room)
+    ∷ stop 10 (full C (decoded c) ts)
     ∷ []
 
 pub looked-up : (C : ℕ) (ts : Tuples) (c : Call) (room : ℕ) → selectsNothing c ≡ false → refusalOf C ts c room ≡ first (asked C ts c room)
@@ -71,14 +72,14 @@ unfolding machine outcomeOf
 stopped C ts c room number e =
     (ap (λ (r : Option ℕ). outcomeOf r ts c .answer) e, ap (λ (r : Option ℕ). outcomeOf r ts c .state) e)
 
-after-reading : (op : Operator) (c : Call) (ts : Tuples) → writes op ≡ false → after op c ts ≡ ts
+after-reading : (op : Operator) (f : Fields) (ts : Tuples) → writes op ≡ false → after op f ts ≡ ts
 unfolding writes after
-after-reading (Create o) c ts e = absurd (true≢false e)
-after-reading (Bind o) c ts e = absurd (true≢false e)
-after-reading (Values o) c ts e = refl
-after-reading (Exists o) c ts e = refl
-after-reading (Destroy r) c ts e = absurd (true≢false e)
-after-reading (Lists l) c ts e = refl
+after-reading (Create o) f ts e = absurd (true≢false e)
+after-reading (Bind o) f ts e = absurd (true≢false e)
+after-reading (Values o) f ts e = refl
+after-reading (Exists o) f ts e = refl
+after-reading (Destroy r) f ts e = absurd (true≢false e)
+after-reading (Lists l) f ts e = refl
 
 -- "Operators of V, X and S change no word": nor the state
 pub reading : (C : ℕ) (ts : Tuples) (c : Call) (room : ℕ) → writes (operatorOf (c .operator)) ≡ false → machine C ts c room .state ≡ ts
@@ -88,7 +89,7 @@ reading C ts c room w = go (refusalOf C ts c room)
     go : (r : Option ℕ) → outcomeOf r ts c .state ≡ ts
     go (some number) = refl
     go none =
-        either-outcome (λ (o : Outcome). o .state ≡ ts) (selectsNothing c) (idle c ts) (step c ts) (λ e. idle-stays c ts) (λ e. after-reading (operatorOf (c .operator)) c ts w)
+        either-outcome (λ (o : Outcome). o .state ≡ ts) (selectsNothing c) (idle c ts) (step c ts) (λ e. idle-stays c ts) (λ e. after-reading (operatorOf (c .operator)) (fieldsOf c) ts w)
 
 -- ---- full
 
@@ -98,7 +99,7 @@ some-injective e = cc
 pub none≢some : {a : ℕ} → none ≡ some a → ⊥
 none≢some {a} e = let z : _≡_ {A = ℕ} 0 1 = cc in omega arith
 
-first-none : (xs ys : List Stop) → first xs ≡ none → first (xs ++ ys) ≡ first ys
+pub first-none : (xs ys : List Stop) → first xs ≡ none → first (xs ++ ys) ≡ first ys
 unfolding first
 first-none [] ys e = refl
 first-none (x ∷ xs) ys e = go (x .applies) (first-none xs ys) e
@@ -108,7 +109,7 @@ first-none (x ∷ xs) ys e = go (x .applies) (first-none xs ys) e
     go true ih f = absurd (none≢some (sym f))
     go false ih f = ih f
 
-first-some : (xs ys : List Stop) (n : ℕ) → first xs ≡ some n → first (xs ++ ys) ≡ some n
+pub first-some : (xs ys : List Stop) (n : ℕ) → first xs ≡ some n → first (xs ++ ys) ≡ some n
 unfolding first
 first-some [] ys n e = absurd (none≢some e)
 first-some (x ∷ xs) ys n e = go (x .applies) (first-some xs ys n) e
@@ -139,13 +140,13 @@ earlier-not-ten : (ts : Tuples) (c : Call) (room : ℕ) → everyNumber notTen (
 unfolding ofCall ofTuples ifLookedUp earlier
 earlier-not-ten ts c room = go (selectsNothing c)
   where
-    go : (t : Bool) → everyNumber notTen (ofCall c ++ cond t [] (ofTuples ts c room)) ≡ true
+    go : (t : Bool) → everyNumber notTen (ofCall c ++ cond t [] (ofTuples ts (decoded c) room)) ≡ true
     go true = refl
     go false = refl
 
 -- condition 10 wins exactly when no earlier one applies, the space is looked up and it applies
 abbrev WinsTen : ℕ → Tuples → Call → ℕ → Type 0
-WinsTen C ts c room = (first (earlier ts c room) ≡ none) × (selectsNothing c ≡ false) × (full C c ts ≡ true)
+WinsTen C ts c room = (first (earlier ts c room) ≡ none) × (selectsNothing c ≡ false) × (full C (decoded c) ts ≡ true)
 
 ten-wins : (C : ℕ) (ts : Tuples) (c : Call) (room : ℕ) → refusalOf C ts c room ≡ some 10 → WinsTen C ts c room
 unfolding refusalOf ifLookedUp first
@@ -157,7 +158,7 @@ ten-wins C ts c room e = go (first (earlier ts c room)) refl
     last false false f = absurd (none≢some f)
 
     go : (r : Option ℕ) → first (earlier ts c room) ≡ r → WinsTen C ts c room
-    go none f = let l = last (selectsNothing c) (full C c ts) (sym (first-none (earlier ts c room) _ f) ∙ e) in (f, l .0, l .1)
+    go none f = let l = last (selectsNothing c) (full C (decoded c) ts) (sym (first-none (earlier ts c room) _ f) ∙ e) in (f, l .0, l .1)
     go (some n) f =
         let ten : n ≡ 10 = some-injective (sym (first-some (earlier ts c room) _ n f) ∙ e) in
         absurd (false≢true (sym (ap notTen ten) ∙ first-number notTen (earlier ts c room) n (earlier-not-ten ts c room) f))
@@ -166,36 +167,36 @@ wins-ten : (C : ℕ) (ts : Tuples) (c : Call) (room : ℕ) → WinsTen C ts c ro
 unfolding refusalOf ifLookedUp first
 wins-ten C ts c room w =
     first-none (earlier ts c room) _ (w .0)
-    ∙ ap (λ (t : Bool). first (cond t [] (stop 10 (full C c ts) ∷ []))) (w .1)
+    ∙ ap (λ (t : Bool). first (cond t [] (stop 10 (full C (decoded c) ts) ∷ []))) (w .1)
     ∙ ap (λ (b : Bool). first (stop 10 b ∷ [])) (w .2)
 
 -- ---- the forms of an answer
 
 -- with no selection: a name, a value, a no or an empty list
 pub idle-form : (P : Reply → Type 0) → ((x : ℕ) → P (name x)) → ((v : Value) → P (valued v)) → P (yesNo false) → P (pairs 0 [])
-    → (op : Operator) (c : Call) → P (idleReply op c)
+    → (op : Operator) (x : ℕ) → P (idleReply op x)
 unfolding idleReply
-idle-form P named valued-as no-said none-listed (Create o) c = named _
-idle-form P named valued-as no-said none-listed (Bind o) c = named _
-idle-form P named valued-as no-said none-listed (Values o) c = valued-as _
-idle-form P named valued-as no-said none-listed (Exists o) c = no-said
-idle-form P named valued-as no-said none-listed (Destroy r) c = named _
-idle-form P named valued-as no-said none-listed (Lists l) c = none-listed
+idle-form P named valued-as no-said none-listed (Create o) x = named _
+idle-form P named valued-as no-said none-listed (Bind o) x = named _
+idle-form P named valued-as no-said none-listed (Values o) x = valued-as _
+idle-form P named valued-as no-said none-listed (Exists o) x = no-said
+idle-form P named valued-as no-said none-listed (Destroy r) x = named _
+idle-form P named valued-as no-said none-listed (Lists l) x = none-listed
 
 -- of a step: a name, a value, a yes or no, or what an S operator lists
-reply-form : (P : Reply → Type 0) (c : Call) (ts : Tuples) → ((x : ℕ) → P (name x)) → ((v : Value) → P (valued v)) → ((b : Bool) → P (yesNo b))
-    → ((l : Listing) → P (pairs (length (listed l c ts)) (listed l c ts))) → (op : Operator) → P (reply op c ts)
+reply-form : (P : Reply → Type 0) (first : ℕ) (f : Fields) (ts : Tuples) → ((x : ℕ) → P (name x)) → ((v : Value) → P (valued v)) → ((b : Bool) → P (yesNo b))
+    → ((l : Listing) → P (pairs (length (listed l f ts)) (listed l f ts))) → (op : Operator) → P (reply op first f ts)
 unfolding reply
-reply-form P c ts named valued-as said all-listed (Create o) = named _
-reply-form P c ts named valued-as said all-listed (Bind o) = named _
-reply-form P c ts named valued-as said all-listed (Values o) = valued-as _
-reply-form P c ts named valued-as said all-listed (Exists o) = said _
-reply-form P c ts named valued-as said all-listed (Destroy r) = named _
-reply-form P c ts named valued-as said all-listed (Lists l) = all-listed l
+reply-form P first f ts named valued-as said all-listed (Create o) = named _
+reply-form P first f ts named valued-as said all-listed (Bind o) = named _
+reply-form P first f ts named valued-as said all-listed (Values o) = valued-as _
+reply-form P first f ts named valued-as said all-listed (Exists o) = said _
+reply-form P first f ts named valued-as said all-listed (Destroy r) = named _
+reply-form P first f ts named valued-as said all-listed (Lists l) = all-listed l
 
 -- what holds of each form holds of every answer of the machine
 pub answer-form : (P : Reply → Type 0) (C : ℕ) (ts : Tuples) (c : Call) (room : ℕ) → ((number : ℕ) → P (refusal number)) → ((x : ℕ) → P (name x))
-    → ((v : Value) → P (valued v)) → ((b : Bool) → P (yesNo b)) → P (pairs 0 []) → ((l : Listing) → P (pairs (length (listed l c ts)) (listed l c ts)))
+    → ((v : Value) → P (valued v)) → ((b : Bool) → P (yesNo b)) → P (pairs 0 []) → ((l : Listing) → P (pairs (length (listed l (fieldsOf c) ts)) (listed l (fieldsOf c) ts)))
     → P (machine C ts c room .answer)
 unfolding machine outcomeOf
 answer-form P C ts c room refused named valued-as said none-listed all-listed = go (refusalOf C ts c room)
@@ -204,8 +205,8 @@ answer-form P C ts c room refused named valued-as said none-listed all-listed = 
     go (some number) = refused number
     go none =
         either-outcome (λ (o : Outcome). P (o .answer)) (selectsNothing c) (idle c ts) (step c ts)
-        (λ e. idle-form P named valued-as (said false) none-listed (operatorOf (c .operator)) c)
-        (λ e. reply-form P c ts named valued-as said all-listed (operatorOf (c .operator)))
+        (λ e. idle-form P named valued-as (said false) none-listed (operatorOf (c .operator)) _)
+        (λ e. reply-form P (firstArgument (decoded c)) (fieldsOf c) ts named valued-as said all-listed (operatorOf (c .operator)))
 
 -- no step answers a refusal
 abbrev isRefusal : Reply → Bool
@@ -228,12 +229,12 @@ refused-exactly C ts c room number = (λ e. go (refusalOf C ts c room) e, λ e. 
         answers-none : isRefusal (cond (selectsNothing c) (idle c ts) (step c ts) .answer) ≡ false
         answers-none =
             either-outcome (λ (o : Outcome). isRefusal (o .answer) ≡ false) (selectsNothing c) (idle c ts) (step c ts)
-            (λ t. idle-form (λ (r : Reply). isRefusal r ≡ false) (λ x. refl) (λ v. refl) refl refl (operatorOf (c .operator)) c)
-            (λ t. reply-form (λ (r : Reply). isRefusal r ≡ false) c ts (λ x. refl) (λ v. refl) (λ b. refl) (λ l. refl) (operatorOf (c .operator)))
+            (λ t. idle-form (λ (r : Reply). isRefusal r ≡ false) (λ x. refl) (λ v. refl) refl refl (operatorOf (c .operator)) _)
+            (λ t. reply-form (λ (r : Reply). isRefusal r ≡ false) (firstArgument (decoded c)) (fieldsOf c) ts (λ x. refl) (λ v. refl) (λ b. refl) (λ l. refl) (operatorOf (c .operator)))
 
 -- how many tuples there are with those that a call would add, where its space is looked up
 added : (ts : Tuples) (c : Call) → selectsNothing c ≡ false
-    → length ts + length (missing (toAdd c) ts) ≡ length ts + length (missing (wouldAdd (operatorOf (c .operator)) c) ts)
+    → length ts + length (missing (toAdd c) ts) ≡ length ts + length (missing (wouldAdd (operatorOf (c .operator)) (fieldsOf c)) ts)
 unfolding toAdd
 added ts c e = rw e
 
@@ -242,14 +243,14 @@ adding-selects : (C : ℕ) (ts : Tuples) (c : Call) → length ts ≤ C → C < 
 unfolding toAdd missing
 adding-selects C ts c fits = go (selectsNothing c)
   where
-    go : (t : Bool) → C < length ts + length (missing (cond t [] (wouldAdd (operatorOf (c .operator)) c)) ts) → t ≡ false
+    go : (t : Bool) → C < length ts + length (missing (cond t [] (wouldAdd (operatorOf (c .operator)) (fieldsOf c))) ts) → t ≡ false
     go true h = absurd (omega (arith, fits, h))
     go false h = refl
 
 -- "'full' is answered exactly when no earlier refusal applies and tuples present plus to add exceed C", where those present do not
-pub full-exactly : (C : ℕ) (ts : Tuples) (r : Request) → length ts ≤ C → (machine C ts (r .call) (r .room) .answer ≡ refusal 10) ↔ Exceeds C ts r
-unfolding full
-full-exactly C ts r fits =
+pub full-exactly : (C : ℕ) (ts : Tuples) (r : Request) → length ts ≤ C → (serve C ts r .answer ≡ refusal 10) ↔ Exceeds C ts r
+unfolding full serve
+full-exactly C ts (calling r) fits =
     let c = r .call in
     let i = refused-exactly C ts c (r .room) 10 in (
       λ e. let w = ten-wins C ts c (r .room) (i .0 e) in (w .0, omega (arith, ltb-true C _ (w .2), added ts c (w .1))),
@@ -278,16 +279,16 @@ present-removeNodes k s (p ∷ ps) ts =
     ∙ and-not-or (present k ts) (nodeTaken s (nodeOf p) k) (anyPair (λ (p : Pair). nodeTaken s (nodeOf p) k) ps)
 
 -- "the nodes of such pairs are collected first": what DON, DIN and DAN leave, by the pairs before the call
-pub nodes-collected-first : (k : Key) (d : Direction) (c : Call) (ts : Tuples)
-    → present k (destroyed (Removal.N d) c ts)
-    ≡ (present k ts && not (anyPair (λ (p : Pair). nodeTaken (sOf c) (nodeOf p) k) (nodeNames (pairsOf d (sOf c) (nOf c) ts))))
+pub nodes-collected-first : (k : Key) (d : Direction) (f : Fields) (ts : Tuples)
+    → present k (destroyed (Removal.N d) f ts)
+    ≡ (present k ts && not (anyPair (λ (p : Pair). nodeTaken (f .s) (nodeOf p) k) (nodeNames (pairsOf d (f .s) (f .n) ts))))
 unfolding destroyed
-nodes-collected-first k d c ts = present-removeNodes k (sOf c) (nodeNames (pairsOf d (sOf c) (nOf c) ts)) ts
+nodes-collected-first k d f ts = present-removeNodes k (f .s) (nodeNames (pairsOf d (f .s) (f .n) ts)) ts
 
 -- what DONG, DING and DANG leave
-pub named-nodes-collected-first : (k : Key) (d : Direction) (c : Call) (ts : Tuples)
-    → present k (destroyed (Removal.NG d) c ts)
+pub named-nodes-collected-first : (k : Key) (d : Direction) (f : Fields) (ts : Tuples)
+    → present k (destroyed (Removal.NG d) f ts)
     ≡ (present k ts
-    && not (anyPair (λ (p : Pair). nodeTaken (sOf c) (nodeOf p) k) (nodeNames (withEdge (gOf c) (pairsOf d (sOf c) (nOf c) ts)))))
+    && not (anyPair (λ (p : Pair). nodeTaken (f .s) (nodeOf p) k) (nodeNames (withEdge (f .g) (pairsOf d (f .s) (f .n) ts)))))
 unfolding destroyed
-named-nodes-collected-first k d c ts = present-removeNodes k (sOf c) (nodeNames (withEdge (gOf c) (pairsOf d (sOf c) (nOf c) ts))) ts
+named-nodes-collected-first k d f ts = present-removeNodes k (f .s) (nodeNames (withEdge (f .g) (pairsOf d (f .s) (f .n) ts))) ts

@@ -10,6 +10,7 @@ use lib.Dec.{eqb, ltb, leb}
 use lib.ListN.{length}
 use borrow.Author.Tests.{eqb-false, ltb-false, leb-true}
 use Rattle.model.specs.declared.Call.{Call}
+use Rattle.model.specs.declared.Fields.{Fields}
 use Rattle.model.specs.declared.Space.{Space}
 use Rattle.model.specs.declared.Space.the-variants.{Universe, Numbered, Nothing}
 use Rattle.model.specs.declared.Pair.{Pair}
@@ -25,8 +26,8 @@ use Rattle.model.specs.declared.Operator.{Operator}
 use Rattle.model.specs.declared.Operator.the-variants.{Create, Bind, Value as Values, Exists, Destroy, List as Lists}
 use Rattle.model.specs.declared.Removal.{Removal}
 use Rattle.model.specs.Operators.{table, operatorOf, within, readsOf}
-use Rattle.model.specs.Pairs.{nodeOf, member, pairsOf, nodeNames, withEdge}
-use Rattle.model.specs.Steps.{spaceNumber, nOf, gOf, mOf, vOf, sOf, objectKeys, created, nodeTaken, removeNodes, destroyed, wouldAdd, after}
+use Rattle.model.specs.Pairs.{nodeOf, member, pairsOf, nodeNames, withEdge, EveryPair}
+use Rattle.model.specs.Steps.{spaceNumber, nOf, gOf, mOf, vOf, sOf, fieldsOf, decoded, objectKeys, created, nodeTaken, removeNodes, destroyed, wouldAdd, after}
 use Rattle.model.specs.Refusals.{Stop, first, zeroSpace, isUniverse, isNothing, selectsNothing, noOperator, zeroName, destroysUniverse, spaceAbsent, nodeAbsent, secondAbsent, edgeAbsent, listShort, full, refusalOf}
 use Rattle.model.specs.Machine.{FieldsFit, Outcome, step, idle, outcomeOf, machine}
 use Rattle.model.specs.Numbers.{everyUpTo}
@@ -36,7 +37,7 @@ use Rattle.model.proofs.Bools.{or-cases, or-left, or-right, or-no-left,
 use Rattle.model.proofs.Numbers.{every-up-to}
 use Rattle.model.proofs.Tuples.{same-key, own-key, among, present-addAll, length-addAll, length-remove, length-assign}
 use Rattle.model.proofs.Rules.{has-universe, assignAll-rules, Fitting, addAll-rules, remove-rules}
-use Rattle.model.proofs.Taken.{edges-fair, node-fair, EveryPair, NodeNamed, removeNodes-rules, space-fair}
+use Rattle.model.proofs.Taken.{edges-fair, node-fair, NodeNamed, removeNodes-rules, space-fair}
 use Rattle.model.proofs.Refusals.{either-outcome, looked-up, none≢some}
 use Rattle.model.proofs.Entries.{Member, samePair, own-pair, pairs-sound, nodes-sound, only-sound}
 
@@ -47,12 +48,12 @@ pub record Passed (C : ℕ) (ts : Tuples) (c : Call) (room : ℕ) : Type 0 where
   pub operator : noOperator c ≡ false
   pub names : zeroName c ≡ false
   pub universe : destroysUniverse c ≡ false
-  pub space : spaceAbsent c ts ≡ false
-  pub node : nodeAbsent c ts ≡ false
-  pub second : secondAbsent c ts ≡ false
-  pub edge : edgeAbsent c ts ≡ false
-  pub list : listShort c ts room ≡ false
-  pub records : full C c ts ≡ false
+  pub space : spaceAbsent (decoded c) ts ≡ false
+  pub node : nodeAbsent (decoded c) ts ≡ false
+  pub second : secondAbsent (decoded c) ts ≡ false
+  pub edge : edgeAbsent (decoded c) ts ≡ false
+  pub list : listShort (decoded c) ts room ≡ false
+  pub records : full C (decoded c) ts ≡ false
 
 pub first-passed : (x : Stop) (xs : List Stop) → first (x ∷ xs) ≡ none → (x .applies ≡ false) × (first xs ≡ none)
 unfolding first
@@ -168,21 +169,21 @@ s-named c h e f r o =
 
 -- ---- what is looked up is there
 
-space-there : (c : Call) (ts : Tuples) → spaceAbsent c ts ≡ false → (readsOf (c .operator) .s) ≡ true → spaceTested (c .operator) ≡ true → Has (spaceKey (sOf c)) ts
+space-there : (c : Call) (ts : Tuples) → spaceAbsent (decoded c) ts ≡ false → (readsOf (c .operator) .s) ≡ true → spaceTested (c .operator) ≡ true → Has (spaceKey (sOf c)) ts
 unfolding spaceAbsent
 space-there c ts e r t =
     not-no (present (spaceKey (sOf c)) ts)
     (and-no (readsOf (c .operator) .s && spaceTested (c .operator)) (not (present (spaceKey (sOf c)) ts)) e
     (and-both (readsOf (c .operator) .s) (spaceTested (c .operator)) r t))
 
-node-there : (c : Call) (ts : Tuples) → nodeAbsent c ts ≡ false → within 1 44 (c .operator) ≡ true → Has (nodeKey (sOf c) (nOf c)) ts
+node-there : (c : Call) (ts : Tuples) → nodeAbsent (decoded c) ts ≡ false → within 1 44 (c .operator) ≡ true → Has (nodeKey (sOf c) (nOf c)) ts
 unfolding nodeAbsent
 node-there c ts e w =
     not-no (present (nodeKey (sOf c) (nOf c)) ts)
     (and-no (within 1 44 (c .operator) || within 46 47 (c .operator)) (not (present (nodeKey (sOf c) (nOf c)) ts)) (or-no-left _ _ e)
     (or-left (within 1 44 (c .operator)) (within 46 47 (c .operator)) w))
 
-second-there : (c : Call) (ts : Tuples) → secondAbsent c ts ≡ false → (readsOf (c .operator) .m) ≡ true → Has (nodeKey (sOf c) (mOf c)) ts
+second-there : (c : Call) (ts : Tuples) → secondAbsent (decoded c) ts ≡ false → (readsOf (c .operator) .m) ≡ true → Has (nodeKey (sOf c) (mOf c)) ts
 unfolding secondAbsent
 second-there c ts e r =
     not-no (present (nodeKey (sOf c) (mOf c)) ts) (and-no (readsOf (c .operator) .m) (not (present (nodeKey (sOf c) (mOf c)) ts)) e r)
@@ -234,7 +235,7 @@ there k j ks e = or-right (sameKey k j) (among k ks) e
 
 -- ---- creating
 
-module _ (ts : Tuples) (R : TupleRules ts) (c : Call) (F : FieldsFit c) where
+module _ (ts : Tuples) (R : TupleRules ts) (f : Fields) (F : FieldsFit f) where
   add-fitting : (ks : List Key) → EveryKey (Fitting (addAll ks ts)) ks → TupleRules (addAll ks ts)
   add-fitting ks h = addAll-rules ks ts R (every-among (Fitting (addAll ks ts)) ks h)
 
@@ -247,45 +248,45 @@ module _ (ts : Tuples) (R : TupleRules ts) (c : Call) (F : FieldsFit c) where
   zero-small : 0 ≤ mostName
   zero-small = omega arith
 
-  module _ (hn : nOf c ≢ 0) where
+  module _ (hn : f .n ≢ 0) where
     -- a node that is in s is in 0
-    in-universe : (n : ℕ) → n ≢ 0 → Has (nodeKey (sOf c) n) ts → Has (nodeKey 0 n) ts
-    in-universe n h e = R .nothingMissing (nodeKey (sOf c) n) e .node h refl .1
+    in-universe : (n : ℕ) → n ≢ 0 → Has (nodeKey (f .s) n) ts → Has (nodeKey 0 n) ts
+    in-universe n h e = R .nothingMissing (nodeKey (f .s) n) e .node h refl .1
 
-    module _ (hg : gOf c ≢ 0) (hm : mOf c ≢ 0) (Hn : Has (nodeKey (sOf c) (nOf c)) ts) (Hm : Has (nodeKey (sOf c) (mOf c)) ts) where
+    module _ (hg : f .g ≢ 0) (hm : f .m ≢ 0) (Hn : Has (nodeKey (f .s) (f .n)) ts) (Hm : Has (nodeKey (f .s) (f .m)) ts) where
       abbrev edgeHere : Key
-      edgeHere = edgeKey (sOf c) (nOf c) (gOf c) (mOf c)
+      edgeHere = edgeKey (f .s) (f .n) (f .g) (f .m)
 
       abbrev backHere : Key
-      backHere = edgeKey (sOf c) (mOf c) (gOf c) (nOf c)
+      backHere = edgeKey (f .s) (f .m) (f .g) (f .n)
 
       abbrev edgeThere : Key
-      edgeThere = edgeKey 0 (nOf c) (gOf c) (mOf c)
+      edgeThere = edgeKey 0 (f .n) (f .g) (f .m)
 
       abbrev backThere : Key
-      backThere = edgeKey 0 (mOf c) (gOf c) (nOf c)
+      backThere = edgeKey 0 (f .m) (f .g) (f .n)
 
       fits-here : (ks : List Key) → among edgeThere ks ≡ true → Fitting (addAll ks ts) edgeHere
       fits-here ks e =
-          edge-fits (addAll ks ts) (sOf c) (nOf c) (gOf c) (mOf c) (record { s = F .s; n = F .n; g = F .g; m = F .m }) hn hg hm (kept ks _ Hn)
+          edge-fits (addAll ks ts) (f .s) (f .n) (f .g) (f .m) (record { s = F .s; n = F .n; g = F .g; m = F .m }) hn hg hm (kept ks _ Hn)
           (kept ks _ Hm) (new ks edgeThere e)
 
       fits-back : (ks : List Key) → among backThere ks ≡ true → Fitting (addAll ks ts) backHere
       fits-back ks e =
-          edge-fits (addAll ks ts) (sOf c) (mOf c) (gOf c) (nOf c) (record { s = F .s; n = F .m; g = F .g; m = F .n }) hm hg hn (kept ks _ Hm)
+          edge-fits (addAll ks ts) (f .s) (f .m) (f .g) (f .n) (record { s = F .s; n = F .m; g = F .g; m = F .n }) hm hg hn (kept ks _ Hm)
           (kept ks _ Hn) (new ks backThere e)
 
       fits-there : (ks : List Key) → among edgeThere ks ≡ true → Fitting (addAll ks ts) edgeThere
       fits-there ks e =
-          edge-fits (addAll ks ts) 0 (nOf c) (gOf c) (mOf c) (record { s = zero-small; n = F .n; g = F .g; m = F .m }) hn hg hm
-          (kept ks _ (in-universe (nOf c) hn Hn)) (kept ks _ (in-universe (mOf c) hm Hm)) (new ks edgeThere e)
+          edge-fits (addAll ks ts) 0 (f .n) (f .g) (f .m) (record { s = zero-small; n = F .n; g = F .g; m = F .m }) hn hg hm
+          (kept ks _ (in-universe (f .n) hn Hn)) (kept ks _ (in-universe (f .m) hm Hm)) (new ks edgeThere e)
 
       fits-back-there : (ks : List Key) → among backThere ks ≡ true → Fitting (addAll ks ts) backThere
       fits-back-there ks e =
-          edge-fits (addAll ks ts) 0 (mOf c) (gOf c) (nOf c) (record { s = zero-small; n = F .m; g = F .g; m = F .n }) hm hg hn
-          (kept ks _ (in-universe (mOf c) hm Hm)) (kept ks _ (in-universe (nOf c) hn Hn)) (new ks backThere e)
+          edge-fits (addAll ks ts) 0 (f .m) (f .g) (f .n) (record { s = zero-small; n = F .m; g = F .g; m = F .n }) hm hg hn
+          (kept ks _ (in-universe (f .m) hm Hm)) (kept ks _ (in-universe (f .n) hn Hn)) (new ks backThere e)
 
-      pair-rules : (d : Direction) → TupleRules (addAll (created (Object.P d) c) ts)
+      pair-rules : (d : Direction) → TupleRules (addAll (created (Object.P d) f) ts)
       unfolding created objectKeys
       pair-rules Outpointing =
           let ks = edgeHere ∷ edgeThere ∷ [] in
@@ -301,25 +302,25 @@ module _ (ts : Tuples) (R : TupleRules ts) (c : Call) (F : FieldsFit c) where
           let f = there backThere edgeHere _ (there backThere backHere _ (there backThere edgeThere _ (here backThere []))) in
           add-fitting ks (fits-here ks e, (fits-back ks f, (fits-there ks e, (fits-back-there ks f, tt))))
 
-    node-rules : Has (spaceKey (sOf c)) ts → TupleRules (addAll (created Object.UN c) ts)
+    node-rules : Has (spaceKey (f .s)) ts → TupleRules (addAll (created Object.UN f) ts)
     unfolding created objectKeys
     node-rules Hs =
-        let k = nodeKey (sOf c) (nOf c) in
-        let j = nodeKey 0 (nOf c) in
+        let k = nodeKey (f .s) (f .n) in
+        let j = nodeKey 0 (f .n) in
         let ks = k ∷ j ∷ [] in
         let e = there j k (j ∷ []) (here j []) in
         let S : Small k = record { s = F .s; n = F .n; g = zero-small; m = zero-small } in
         let S₀ : Small j = record { s = zero-small; n = F .n; g = zero-small; m = zero-small } in
         add-fitting ks (
-          node-fits (addAll ks ts) (sOf c) (nOf c) S hn (kept ks _ Hs) (new ks j e),
-          (node-fits (addAll ks ts) 0 (nOf c) S₀ hn (kept ks _ (has-universe ts R)) (new ks j e), tt),
+          node-fits (addAll ks ts) (f .s) (f .n) S hn (kept ks _ Hs) (new ks j e),
+          (node-fits (addAll ks ts) 0 (f .n) S₀ hn (kept ks _ (has-universe ts R)) (new ks j e), tt),
         )
 
-  space-rules : TupleRules (addAll (created Object.US c) ts)
+  space-rules : TupleRules (addAll (created Object.US f) ts)
   unfolding created objectKeys
   space-rules =
-      let ks = spaceKey (sOf c) ∷ [] in
-      add-fitting ks (space-fits (addAll ks ts) (sOf c) (record { s = F .s; n = zero-small; g = zero-small; m = zero-small }), tt)
+      let ks = spaceKey (f .s) ∷ [] in
+      add-fitting ks (space-fits (addAll ks ts) (f .s) (record { s = F .s; n = zero-small; g = zero-small; m = zero-small }), tt)
 
 -- ---- removing nodes that were collected
 
@@ -350,8 +351,8 @@ names-named ps h =
 
 -- ---- every step
 
-pub after-rules : (op : Operator) (C : ℕ) (ts : Tuples) (c : Call) (room : ℕ) → TupleRules ts → FieldsFit c → Passed C ts c room
-    → agrees op (c .operator) ≡ true → TupleRules (after op c ts)
+pub after-rules : (op : Operator) (C : ℕ) (ts : Tuples) (c : Call) (room : ℕ) → TupleRules ts → FieldsFit (fieldsOf c) → Passed C ts c room
+    → agrees op (c .operator) ≡ true → TupleRules (after op (fieldsOf c) ts)
 unfolding after destroyed
 after-rules (Create (Object.P d)) C ts c room R F P a =
     let a₁ = and-right (readsOf (c .operator) .n) _ a in
@@ -359,14 +360,14 @@ after-rules (Create (Object.P d)) C ts c room R F P a =
     let a₃ = and-right (readsOf (c .operator) .m) _ a₂ in
     let a₄ = and-right (readsOf (c .operator) .s) _ a₃ in
     let m-read = and-left (readsOf (c .operator) .m) _ a₂ in
-    pair-rules ts R c F (n-named c (P .names) (and-left (readsOf (c .operator) .n) _ a)) (g-named c (P .names) (and-left (readsOf (c .operator) .g) _ a₁))
+    pair-rules ts R (fieldsOf c) F (n-named c (P .names) (and-left (readsOf (c .operator) .n) _ a)) (g-named c (P .names) (and-left (readsOf (c .operator) .g) _ a₁))
     (m-named c (P .names) m-read) (node-there c ts (P .node) (and-left (within 1 44 (c .operator)) _ a₄)) (second-there c ts (P .second) m-read) d
 after-rules (Create Object.UN) C ts c room R F P a =
     let a₁ = and-right (readsOf (c .operator) .n) _ a in
-    node-rules ts R c F (n-named c (P .names) (and-left (readsOf (c .operator) .n) _ a))
+    node-rules ts R (fieldsOf c) F (n-named c (P .names) (and-left (readsOf (c .operator) .n) _ a))
     (space-there c ts (P .space) (and-left (readsOf (c .operator) .s) _ a₁) (and-right (readsOf (c .operator) .s) _ a₁))
-after-rules (Create Object.US) C ts c room R F P a = space-rules ts R c F
-after-rules (Bind o) C ts c room R F P a = assignAll-rules (objectKeys o (sOf c) c) (vOf c) ts R
+after-rules (Create Object.US) C ts c room R F P a = space-rules ts R (fieldsOf c) F
+after-rules (Bind o) C ts c room R F P a = assignAll-rules (objectKeys o (sOf c) (fieldsOf c)) (vOf c) ts R
 after-rules (Values o) C ts c room R F P a = R
 after-rules (Exists o) C ts c room R F P a = R
 after-rules (Destroy (Removal.P d)) C ts c room R F P a = remove-rules _ ts (edges-fair d (sOf c) (nOf c) _) R
@@ -400,27 +401,27 @@ length-removeNodes s [] ts = omega arith
 length-removeNodes s (p ∷ ps) ts =
     omega (arith, length-removeNodes s ps (remove (nodeTaken s (nodeOf p)) ts), length-remove (nodeTaken s (nodeOf p)) ts)
 
-length-destroyed : (r : Removal) (c : Call) (ts : Tuples) → length (destroyed r c ts) ≤ length ts
+length-destroyed : (r : Removal) (f : Fields) (ts : Tuples) → length (destroyed r f ts) ≤ length ts
 unfolding destroyed
-length-destroyed (Removal.P d) c ts = length-remove _ ts
-length-destroyed (Removal.G d) c ts = length-remove _ ts
-length-destroyed (Removal.GG d) c ts = length-remove _ ts
-length-destroyed (Removal.GN d) c ts = length-remove _ ts
-length-destroyed (Removal.N d) c ts = length-removeNodes _ _ ts
-length-destroyed (Removal.NG d) c ts = length-removeNodes _ _ ts
-length-destroyed Removal.UN c ts = length-remove _ ts
-length-destroyed Removal.US c ts = length-remove _ ts
+length-destroyed (Removal.P d) f ts = length-remove _ ts
+length-destroyed (Removal.G d) f ts = length-remove _ ts
+length-destroyed (Removal.GG d) f ts = length-remove _ ts
+length-destroyed (Removal.GN d) f ts = length-remove _ ts
+length-destroyed (Removal.N d) f ts = length-removeNodes _ _ ts
+length-destroyed (Removal.NG d) f ts = length-removeNodes _ _ ts
+length-destroyed Removal.UN f ts = length-remove _ ts
+length-destroyed Removal.US f ts = length-remove _ ts
 
-after-length : (op : Operator) (C : ℕ) (ts : Tuples) (c : Call) → TupleRules ts → length ts ≤ C
-    → ltb C (length ts + length (missing (wouldAdd op c) ts)) ≡ false → length (after op c ts) ≤ C
+after-length : (op : Operator) (C : ℕ) (ts : Tuples) (f : Fields) → TupleRules ts → length ts ≤ C
+    → ltb C (length ts + length (missing (wouldAdd op f) ts)) ≡ false → length (after op f ts) ≤ C
 unfolding after wouldAdd
-after-length (Create o) C ts c R h e =
-    omega (arith, length-addAll (created o c) ts (R .ascends), ltb-false C (length ts + length (missing (created o c) ts)) e)
-after-length (Bind o) C ts c R h e = omega (arith, length-assignAll (objectKeys o (sOf c) c) (vOf c) ts)
-after-length (Values o) C ts c R h e = h
-after-length (Exists o) C ts c R h e = h
-after-length (Destroy r) C ts c R h e = omega (arith, length-destroyed r c ts)
-after-length (Lists l) C ts c R h e = h
+after-length (Create o) C ts f R h e =
+    omega (arith, length-addAll (created o f) ts (R .ascends), ltb-false C (length ts + length (missing (created o f) ts)) e)
+after-length (Bind o) C ts f R h e = omega (arith, length-assignAll (objectKeys o (f .s) f) (f .v) ts)
+after-length (Values o) C ts f R h e = h
+after-length (Exists o) C ts f R h e = h
+after-length (Destroy r) C ts f R h e = omega (arith, length-destroyed r f ts)
+after-length (Lists l) C ts f R h e = h
 
 -- ---- the theorem
 
@@ -430,7 +431,7 @@ pub record Good (C : ℕ) (ts : Tuples) : Type 0 where
   pub fits : length ts ≤ C
 
 -- every step keeps the state good
-pub machine-good : (C : ℕ) (ts : Tuples) (c : Call) (room : ℕ) → FieldsFit c → Good C ts → Good C (machine C ts c room .state)
+pub machine-good : (C : ℕ) (ts : Tuples) (c : Call) (room : ℕ) → FieldsFit (fieldsOf c) → Good C ts → Good C (machine C ts c room .state)
 unfolding machine outcomeOf full
 machine-good C ts c room F G = go (refusalOf C ts c room) refl
   where
@@ -443,5 +444,5 @@ machine-good C ts c room F G = go (refusalOf C ts c room) refl
             let P = passed C ts c room t e in
             record {
               rules = after-rules (operatorOf (c .operator)) C ts c room (G .rules) F P (agree c (P .operator));
-              fits = after-length (operatorOf (c .operator)) C ts c (G .rules) (G .fits) (P .records);
+              fits = after-length (operatorOf (c .operator)) C ts (fieldsOf c) (G .rules) (G .fits) (P .records);
             }

@@ -12,7 +12,7 @@ use Rattle.model.specs.Keys.{spaceKey, nodeKey, edgeKey}
 use Rattle.model.specs.Tuples.{Tuples, remove}
 use Rattle.model.specs.declared.Direction.{Direction}
 use Rattle.model.specs.declared.Direction.the-variants.{Outpointing, Inpointing, Adjacent}
-use Rattle.model.specs.Pairs.{nodeOf, outPair, inPair, pairsAt, anyPair}
+use Rattle.model.specs.Pairs.{nodeOf, outPair, inPair, pairsAt, anyPair, EveryPair}
 use Rattle.model.specs.Steps.{reaches, edgesTaken, nodeTaken, removeNodes, spaceTaken}
 use Rattle.model.specs.Rules.{TupleRules}
 use Rattle.model.proofs.Bools.{or-cases, or-left, or-right, and-left, and-right, and-both, neither, clash}
@@ -114,11 +114,6 @@ node-fair s n h =
                 (and-right (reaches s j) (eqb (k .n) n || eqb (k .m) n) t),
           );
     }
-
--- each of the pairs has such a property
-abbrev pub EveryPair : (Pair → Type 0) → List Pair → Type 0
-EveryPair P [] = Unit {0}
-EveryPair P (p ∷ ps) = P p × EveryPair P ps
 
 abbrev pub NodeNamed : Pair → Type 0
 NodeNamed p = nodeOf p ≢ 0

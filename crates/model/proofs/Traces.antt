@@ -1,5 +1,5 @@
 -- Laws of steps one after the other (specs/Traces.antt).
-use mathlib.Core.List.{List, [], _∷_, _++_, map}
+use mathlib.Core.List.{List, _++_, map}
 use mathlib.Core.Path.{_≡_, refl, _∙_}
 use Rattle.model.specs.Traces.{Trace, end, then}
 

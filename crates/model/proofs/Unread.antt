@@ -9,7 +9,7 @@ use lib.Dec.{eqb, leb}
 use borrow.Author.Tests.{eqb-true, eqb-false, leb-true}
 use Rattle.model.specs.declared.Call.{Call}
 use Rattle.model.specs.Operators.{table, operatorOf, within, readsOf}
-use Rattle.model.specs.Steps.{Reply, refusal, objectKeys, created, destroyed, listed, firstArgument, wouldList, wouldAdd, reply, idleReply, after}
+use Rattle.model.specs.Steps.{Reply, refusal, decoded, objectKeys, created, destroyed, listed, firstArgument, wouldList, wouldAdd, reply, idleReply, after}
 use Rattle.model.specs.Refusals.{Stop, first, selectsNothing, noOperator, zeroName, lacksSpace, destroysUniverse, spaceAbsent, nodeAbsent, secondAbsent, workedOn, edgeAbsent, listShort, full, ofCall, ofTuples, ifLookedUp, earlier, refusalOf}
 use Rattle.model.specs.Machine.{State, outcomeOf, machine}
 use Rattle.model.specs.Unread.{readable}
@@ -62,7 +62,7 @@ call-unread c = refl
 
 -- the answer with nothing
 abbrev idleAnswer : Call → Reply
-idleAnswer c = idleReply (operatorOf (c .operator)) c
+idleAnswer c = idleReply (operatorOf (c .operator)) (firstArgument (decoded c))
 
 idle-unread : (c : Call) → AllUnread idleAnswer c
 unfolding readable table operatorOf readsOf firstArgument idleReply
@@ -71,7 +71,7 @@ idle-unread c = refl
 module _ (C : ℕ) (ts : State) (room : ℕ) where
   -- conditions 5 to 9
   abbrev stops : Call → List Stop
-  stops c = ofTuples ts c room
+  stops c = ofTuples ts (decoded c) room
 
   stops-unread : (c : Call) → AllUnread stops c
   unfolding readable table operatorOf readsOf objectKeys listed wouldList spaceAbsent nodeAbsent secondAbsent workedOn edgeAbsent listShort ofTuples
@@ -79,7 +79,7 @@ module _ (C : ℕ) (ts : State) (room : ℕ) where
 
   -- condition 10
   abbrev filled : Call → Bool
-  filled c = full C c ts
+  filled c = full C (decoded c) ts
 
   filled-unread : (c : Call) → AllUnread filled c
   unfolding readable table operatorOf readsOf objectKeys created wouldAdd full
@@ -87,7 +87,7 @@ module _ (C : ℕ) (ts : State) (room : ℕ) where
 
   -- the answer of the step
   abbrev answered : Call → Reply
-  answered c = reply (operatorOf (c .operator)) c ts
+  answered c = reply (operatorOf (c .operator)) (firstArgument (decoded c)) (decoded c .fields) ts
 
   answered-unread : (c : Call) → AllUnread answered c
   unfolding readable table operatorOf readsOf objectKeys listed firstArgument reply
@@ -95,7 +95,7 @@ module _ (C : ℕ) (ts : State) (room : ℕ) where
 
   -- the state after the step
   abbrev left : Call → State
-  left c = after (operatorOf (c .operator)) c ts
+  left c = after (operatorOf (c .operator)) (decoded c .fields) ts
 
   left-unread : (c : Call) → AllUnread left c
   unfolding readable table operatorOf readsOf objectKeys created destroyed after

@@ -12,10 +12,9 @@ use Rattle.model.specs.Ordered.{Ascending}
 use Rattle.model.specs.declared.Key.{Key}
 use Rattle.model.specs.Keys.{keyOf, compareKeys}
 use Rattle.model.specs.Tuples.{fresh, missing}
-use Rattle.model.specs.Operators.{operatorOf}
-use Rattle.model.specs.Steps.{Reply, refusal, wouldAdd}
+use Rattle.model.specs.Steps.{Reply, refusal, decoded, wouldAdd}
 use Rattle.model.specs.Refusals.{selectsNothing, first, earlier}
-use Rattle.model.specs.Machine.{State, Request, machine, answers, final}
+use Rattle.model.specs.Machine.{State, Request, calling, serve, answers, final}
 use Rattle.model.specs.Rules.{NothingMissing}
 use Rattle.model.specs.Layouts.{Layout}
 use Rattle.model.specs.Traces.{Trace}
@@ -52,7 +51,7 @@ pub record Exchange : Type 0 where
   pub reply : Reply
 
 abbrev pub exchangeOf : CallMade → Exchange
-exchangeOf x = record { request = record { call = x .call; room = length (x .lent) }; reply = observed (x .answer) (x .left) }
+exchangeOf x = record { request = calling (record { call = x .call; room = length (x .lent) }); reply = observed (x .answer) (x .left) }
 
 abbrev pub requests : List Exchange → List Request
 requests xs = map (λ (x : Exchange). x .request) xs
@@ -64,11 +63,11 @@ replies xs = map (λ (x : Exchange). x .reply) xs
 
 -- "the keys that the step would add"; with no selection "C, B and D change nothing" (request 1)
 unfoldable pub toAdd : Call → List Key
-toAdd c = cond (selectsNothing c) [] (wouldAdd (operatorOf (c .operator)) c)
+toAdd c = cond (selectsNothing c) [] (wouldAdd (decoded c .operator) (decoded c .fields))
 
 -- demand 3: "no earlier refusal applies and tuples present plus to add exceed C"
 abbrev pub Exceeds : ℕ → State → Request → Type 0
-Exceeds C ts r =
+Exceeds C ts (calling r) =
     (first (earlier ts (r .call) (r .room)) ≡ none)
     × (C < length ts + length (missing (toAdd (r .call)) ts))
 
@@ -76,7 +75,7 @@ Exceeds C ts r =
 abbrev pub FullExactly : ℕ → State → List Exchange → Type 0
 FullExactly C ts [] = Unit {0}
 FullExactly C ts (x ∷ xs) =
-    ((x .reply ≡ refusal 10) ↔ Exceeds C ts (x .request)) × FullExactly C (machine C ts (x .request .call) (x .request .room) .state) xs
+    ((x .reply ≡ refusal 10) ↔ Exceeds C ts (x .request)) × FullExactly C (serve C ts (x .request) .state) xs
 
 -- what is claimed of a list of calls made from a store of C records that holds the tuples ts, to the buffer b
 pub record WholeList (Y : Layout) (C : ℕ) (ts : State) (xs : List Exchange) (b : List ℕ) : Type 0 where

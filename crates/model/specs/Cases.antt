@@ -12,16 +12,16 @@ use Rattle.model.specs.Keys.{Value, NIL, Tuple, spaceKey, nodeKey, edgeK
 use Rattle.model.specs.Tuples.{fresh}
 use Rattle.model.specs.Pairs.{pair}
 use Rattle.model.specs.Steps.{Reply, refusal, name, valued, yesNo, pairs}
-use Rattle.model.specs.Machine.{State, Request, answers, final}
+use Rattle.model.specs.Machine.{State, Request, calling, answers, final}
 
 -- ---- calls as a script writes them, with an answer list of so many places
 
 abbrev pub callWith : ℕ → ℕ → ℕ → ℕ → Value → Space → Request
 callWith operator n g m v s =
-    record {
+    calling (record {
       call = record { operator = operator; n = record { 0 = n }; g = record { 0 = g }; m = record { 0 = m }; v = v; s = s };
       room = 2048;
-    }
+    })
 
 abbrev pub call : ℕ → ℕ → ℕ → ℕ → Space → Request
 call operator n g m s = callWith operator n g m 0 s
@@ -63,7 +63,7 @@ abbrev pub DUS : Space → Request
 DUS s = call 55 0 0 0 s
 
 abbrev pub withRoom : ℕ → Request → Request
-withRoom room r = record { call = r .call; room = room }
+withRoom room (calling r) = calling (record { call = r .call; room = room })
 
 -- a tuple whose value is NIL
 abbrev pub new : Key → Tuple

@@ -2,7 +2,7 @@
 use mathlib.Core.Logic.{_⊎_, _≢_}
 use mathlib.Core.Path.{_≡_}
 use Prim.Native.Nat.{ℕ}
-use Rattle.model.specs.declared.Call.{Call}
+use Rattle.model.specs.declared.Fields.{Fields}
 use Rattle.model.specs.declared.Pair.{Pair}
 use Rattle.model.specs.Keys.{spaceKey, nodeKey, edgeKey}
 use Rattle.model.specs.Tuples.{Tuples}
@@ -10,7 +10,6 @@ use Rattle.model.specs.declared.Direction.{Direction}
 use Rattle.model.specs.declared.Direction.the-variants.{Outpointing, Inpointing, Adjacent}
 use Rattle.model.specs.declared.Listing.{Listing}
 use Rattle.model.specs.Pairs.{pair, edgeOf, nodeOf}
-use Rattle.model.specs.Steps.{nOf, gOf, mOf, sOf}
 use Rattle.model.specs.Rules.{Has}
 
 -- "outpointing, each (g,m) with (s,n,g,m) present"
@@ -28,12 +27,12 @@ IsPair Inpointing s n ts p = PointsIn s n ts p
 IsPair Adjacent s n ts p = PointsOut s n ts p ⊎ PointsIn s n ts p
 
 -- is q an entry of the list that the operator answers
-abbrev pub Entry : Listing → Call → Tuples → Pair → Type 0
-Entry (Listing.P d) c ts q = IsPair d (sOf c) (nOf c) ts q
-Entry (Listing.G d) c ts q = (p : Pair) × IsPair d (sOf c) (nOf c) ts p × (q ≡ pair (edgeOf p) 0)
-Entry (Listing.GN d) c ts q = (p : Pair) × IsPair d (sOf c) (nOf c) ts p × (nodeOf p ≡ mOf c) × (q ≡ pair (edgeOf p) 0)
-Entry (Listing.N d) c ts q = (p : Pair) × IsPair d (sOf c) (nOf c) ts p × (q ≡ pair 0 (nodeOf p))
-Entry (Listing.NG d) c ts q = (p : Pair) × IsPair d (sOf c) (nOf c) ts p × (edgeOf p ≡ gOf c) × (q ≡ pair 0 (nodeOf p))
-Entry Listing.UN c ts q = (n : ℕ) × (n ≢ 0) × Has (nodeKey (sOf c) n) ts × (q ≡ pair 0 n)
-Entry Listing.US c ts q = (s : ℕ) × Has (spaceKey s) ts × (q ≡ pair 0 s)
-Entry Listing.USn c ts q = (s : ℕ) × (nOf c ≢ 0) × Has (nodeKey s (nOf c)) ts × (q ≡ pair 0 s)
+abbrev pub Entry : Listing → Fields → Tuples → Pair → Type 0
+Entry (Listing.P d) f ts q = IsPair d (f .s) (f .n) ts q
+Entry (Listing.G d) f ts q = (p : Pair) × IsPair d (f .s) (f .n) ts p × (q ≡ pair (edgeOf p) 0)
+Entry (Listing.GN d) f ts q = (p : Pair) × IsPair d (f .s) (f .n) ts p × (nodeOf p ≡ f .m) × (q ≡ pair (edgeOf p) 0)
+Entry (Listing.N d) f ts q = (p : Pair) × IsPair d (f .s) (f .n) ts p × (q ≡ pair 0 (nodeOf p))
+Entry (Listing.NG d) f ts q = (p : Pair) × IsPair d (f .s) (f .n) ts p × (edgeOf p ≡ f .g) × (q ≡ pair 0 (nodeOf p))
+Entry Listing.UN f ts q = (n : ℕ) × (n ≢ 0) × Has (nodeKey (f .s) n) ts × (q ≡ pair 0 n)
+Entry Listing.US f ts q = (s : ℕ) × Has (spaceKey s) ts × (q ≡ pair 0 s)
+Entry Listing.USn f ts q = (s : ℕ) × (f .n ≢ 0) × Has (nodeKey s (f .n)) ts × (q ≡ pair 0 s)

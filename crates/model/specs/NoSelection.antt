@@ -9,9 +9,8 @@ use Rattle.model.specs.declared.Call.{Call}
 use Rattle.model.specs.declared.Space.{Space}
 use Rattle.model.specs.declared.Space.the-variants.{Universe, Nothing}
 use Rattle.model.specs.Tuples.{fresh}
-use Rattle.model.specs.Operators.{operatorOf}
 use Rattle.model.specs.Pairs.{pair}
-use Rattle.model.specs.Steps.{Reply, refusal, name, valued, yesNo, pairs, idleReply}
+use Rattle.model.specs.Steps.{decoded, firstArgument, Reply, refusal, name, valued, yesNo, pairs, idleReply}
 use Rattle.model.specs.Refusals.{first, ofCall}
 use Rattle.model.specs.Machine.{State, Request, answers, final}
 use Rattle.model.specs.Layouts.{Layout}
@@ -25,12 +24,12 @@ refusalOr r none = r
 
 -- what a call with nothing answers: the call alone decides it, not the tuples, nor C, nor the length of the answer list
 unfoldable pub nothingReply : Call → Reply
-nothingReply c = refusalOr (idleReply (operatorOf (c .operator)) c) (first (ofCall c))
+nothingReply c = refusalOr (idleReply (decoded c .operator) (firstArgument (decoded c))) (first (ofCall c))
 
 -- two lists of calls made from one store of C records that holds the tuples ts: zs to the buffer b″, and the same calls with x among them to b.
--- The answer of x is that of the call alone; all other answers, and the tuples at the end, are the same
-pub record WithoutEffect (Y : Layout) (C : ℕ) (ts : State) (xs : List Exchange) (x : Exchange) (ys : List Exchange) (b : List ℕ) (zs : List Exchange) (b″ : List ℕ) : Type 0 where
-  pub withIt : replies (xs ++ (x ∷ ys)) ≡ answers C ts (requests xs) ++ (nothingReply (x .request .call) ∷ answers C (final C ts (requests xs)) (requests ys))
+-- The answer of x is that of its call alone; all other answers, and the tuples at the end, are the same
+pub record WithoutEffect (Y : Layout) (C : ℕ) (ts : State) (xs : List Exchange) (x : Exchange) (c : Call) (ys : List Exchange) (b : List ℕ) (zs : List Exchange) (b″ : List ℕ) : Type 0 where
+  pub withIt : replies (xs ++ (x ∷ ys)) ≡ answers C ts (requests xs) ++ (nothingReply c ∷ answers C (final C ts (requests xs)) (requests ys))
   pub withoutIt : replies zs ≡ answers C ts (requests xs) ++ answers C (final C ts (requests xs)) (requests ys)
   pub sameState : Y .stateOf b ≡ Y .stateOf b″
 

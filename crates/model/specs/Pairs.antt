@@ -108,3 +108,8 @@ pairKeys Adjacent s n g m = edgeKey s n g m ∷ edgeKey s m g n ∷ []
 unfoldable pub anyPair : (Pair → Bool) → List Pair → Bool
 anyPair p [] = false
 anyPair p (q ∷ qs) = p q || anyPair p qs
+
+-- each of the pairs has such a property
+abbrev pub EveryPair : (Pair → Type 0) → List Pair → Type 0
+EveryPair P [] = Unit {0}
+EveryPair P (p ∷ ps) = P p × EveryPair P ps

@@ -8,6 +8,8 @@ use Prim.Native.Nat.{ℕ, _+_}
 use lib.Dec.{eqb, ltb}
 use lib.ListN.{length}
 use Rattle.model.specs.declared.Call.{Call}
+use Rattle.model.specs.declared.Decoded.{Decoded}
+use Rattle.model.specs.declared.Fields.{Fields}
 use Rattle.model.specs.declared.Space.{Space}
 use Rattle.model.specs.declared.Space.the-variants.{Universe, Numbered, Nothing}
 use Rattle.model.specs.declared.Key.{Key}
@@ -15,8 +17,8 @@ use Rattle.model.specs.Keys.{spaceKey, nodeKey}
 use Rattle.model.specs.Tuples.{Tuples, present, anyPresent, missing}
 use Rattle.model.specs.declared.Operator.{Operator}
 use Rattle.model.specs.declared.Operator.the-variants.{Create, Bind, Value as Values, Exists, Destroy, List as Lists}
-use Rattle.model.specs.Operators.{operatorOf, rowOf}
-use Rattle.model.specs.Steps.{nOf, gOf, mOf, sOf, objectKeys, wouldList, wouldAdd}
+use Rattle.model.specs.Operators.{rowOf}
+use Rattle.model.specs.Steps.{nOf, gOf, mOf, decoded, objectKeys, wouldList, wouldAdd}
 
 -- the number of a condition, and whether it applies
 pub record Stop : Type 0 where
@@ -72,52 +74,52 @@ unfoldable pub destroysUniverse : Call → Bool
 destroysUniverse c = (rowOf (c .operator) .asks .number) && isUniverse (c .s)
 
 -- 5, space: "s absent (not for 51, 54, 55)"
-unfoldable pub spaceAbsent : Call → Tuples → Bool
-spaceAbsent c ts = (rowOf (c .operator) .asks .space) && not (present (spaceKey (sOf c)) ts)
+unfoldable pub spaceAbsent : Decoded → Tuples → Bool
+spaceAbsent d ts = (d .row .asks .space) && not (present (spaceKey (d .fields .s)) ts)
 
 -- 6, node: "n absent from s (1–44, 46, 47), or from 0 (57)"
-unfoldable pub nodeAbsent : Call → Tuples → Bool
-nodeAbsent c ts =
-    ((rowOf (c .operator) .asks .node) && not (present (nodeKey (sOf c) (nOf c)) ts))
-    || ((rowOf (c .operator) .asks .universe) && not (present (nodeKey 0 (nOf c)) ts))
+unfoldable pub nodeAbsent : Decoded → Tuples → Bool
+nodeAbsent d ts =
+    ((d .row .asks .node) && not (present (nodeKey (d .fields .s) (d .fields .n)) ts))
+    || ((d .row .asks .universe) && not (present (nodeKey 0 (d .fields .n)) ts))
 
 -- 7, node: "m, where it is read, absent from s"
-unfoldable pub secondAbsent : Call → Tuples → Bool
-secondAbsent c ts = (rowOf (c .operator) .reads .m) && not (present (nodeKey (sOf c) (mOf c)) ts)
+unfoldable pub secondAbsent : Decoded → Tuples → Bool
+secondAbsent d ts = (d .row .reads .m) && not (present (nodeKey (d .fields .s) (d .fields .m)) ts)
 
 -- the keys in s that C, B, V and X work on
-unfoldable pub workedOn : Operator → Call → List Key
-workedOn (Create o) c = objectKeys o (sOf c) c
-workedOn (Bind o) c = objectKeys o (sOf c) c
-workedOn (Values o) c = objectKeys o (sOf c) c
-workedOn (Exists o) c = objectKeys o (sOf c) c
-workedOn (Destroy r) c = []
-workedOn (Lists l) c = []
+unfoldable pub workedOn : Operator → Fields → List Key
+workedOn (Create o) f = objectKeys o (f .s) f
+workedOn (Bind o) f = objectKeys o (f .s) f
+workedOn (Values o) f = objectKeys o (f .s) f
+workedOn (Exists o) f = objectKeys o (f .s) f
+workedOn (Destroy r) f = []
+workedOn (Lists l) f = []
 
 -- 8, pair: "4–8: no such edge; 6 only if both are absent"
-unfoldable pub edgeAbsent : Call → Tuples → Bool
-edgeAbsent c ts = (rowOf (c .operator) .asks .edge) && not (anyPresent (workedOn (operatorOf (c .operator)) c) ts)
+unfoldable pub edgeAbsent : Decoded → Tuples → Bool
+edgeAbsent d ts = (d .row .asks .edge) && not (anyPresent (workedOn (d .operator) (d .fields)) ts)
 
 -- 9, answer list: "shorter than k"
-unfoldable pub listShort : Call → Tuples → ℕ → Bool
-listShort c ts room = ltb room (length (wouldList (operatorOf (c .operator)) c ts))
+unfoldable pub listShort : Decoded → Tuples → ℕ → Bool
+listShort d ts room = ltb room (length (wouldList (d .operator) (d .fields) ts))
 
 -- 10, records: "full: tuples present + tuples to add > C"
-unfoldable pub full : ℕ → Call → Tuples → Bool
-full C c ts = ltb C (length ts + length (missing (wouldAdd (operatorOf (c .operator)) c) ts))
+unfoldable pub full : ℕ → Decoded → Tuples → Bool
+full C d ts = ltb C (length ts + length (missing (wouldAdd (d .operator) (d .fields)) ts))
 
 -- the conditions on the call alone
 unfoldable pub ofCall : Call → List Stop
 ofCall c = stop 2 (noOperator c) ∷ stop 3 (zeroName c) ∷ stop 12 (lacksSpace c) ∷ stop 4 (destroysUniverse c) ∷ []
 
 -- the conditions on what is present; room is the length of the call's answer list
-unfoldable pub ofTuples : Tuples → Call → ℕ → List Stop
-ofTuples ts c room =
-    stop 5 (spaceAbsent c ts)
-    ∷ stop 6 (nodeAbsent c ts)
-    ∷ stop 7 (secondAbsent c ts)
-    ∷ stop 8 (edgeAbsent c ts)
-    ∷ stop 9 (listShort c ts room)
+unfoldable pub ofTuples : Tuples → Decoded → ℕ → List Stop
+ofTuples ts d room =
+    stop 5 (spaceAbsent d ts)
+    ∷ stop 6 (nodeAbsent d ts)
+    ∷ stop 7 (secondAbsent d ts)
+    ∷ stop 8 (edgeAbsent d ts)
+    ∷ stop 9 (listShort d ts room)
     ∷ []
 
 -- request 1: "nothing is looked up in the graph, so conditions 5 to 10 are not tested"
@@ -126,8 +128,8 @@ ifLookedUp c xs = cond (selectsNothing c) [] xs
 
 -- conditions 2 to 9 and 12, those earlier than "full", in their order
 unfoldable pub earlier : Tuples → Call → ℕ → List Stop
-earlier ts c room = ofCall c ++ ifLookedUp c (ofTuples ts c room)
+earlier ts c room = ofCall c ++ ifLookedUp c (ofTuples ts (decoded c) room)
 
 -- the number of the refusal, or none where the call is not stopped
 unfoldable pub refusalOf : ℕ → Tuples → Call → ℕ → Option ℕ
-refusalOf C ts c room = first (earlier ts c room ++ ifLookedUp c (stop 10 (full C c ts) ∷ []))
+refusalOf C ts c room = first (earlier ts c room ++ ifLookedUp c (stop 10 (full C (decoded c) ts) ∷ []))

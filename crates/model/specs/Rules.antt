@@ -1,11 +1,11 @@
 -- Document 01, the rules of a store that are about its tuples: as tests that compute, and as statements.
 -- proofs/Sound.antt proves that the tests say yes exactly when the statements hold.
 use mathlib.Core.Bool.{Bool, true, false, cond, not, _&&_, _||_}
-use mathlib.Core.List.{List, [], _∷_}
+use mathlib.Core.List.{[], _∷_}
 use mathlib.Core.Logic.{_↔_, _≢_}
 use mathlib.Core.Option.{Option, none, some}
 use mathlib.Core.Path.{_≡_}
-use Prim.Native.Nat.{ℕ, _≤_}
+use Prim.Native.Nat.{_≤_}
 use lib.Dec.{eqb, leb}
 use Rattle.model.specs.Ordered.{ascendsFrom, Ascending}
 use Rattle.model.specs.declared.Key.{Key}

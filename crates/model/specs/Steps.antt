@@ -5,6 +5,8 @@ use Prim.Native.Nat.{ℕ}
 use lib.Dec.{eqb}
 use lib.ListN.{length}
 use Rattle.model.specs.declared.Call.{Call}
+use Rattle.model.specs.declared.Decoded.{Decoded}
+use Rattle.model.specs.declared.Fields.{Fields}
 use Rattle.model.specs.declared.Space.{Space}
 use Rattle.model.specs.declared.Space.the-variants.{Universe, Numbered, Nothing}
 use Rattle.model.specs.declared.Pair.{Pair}
@@ -17,7 +19,7 @@ use Rattle.model.specs.declared.Object.{Object}
 use Rattle.model.specs.declared.Operator.{Operator}
 use Rattle.model.specs.declared.Operator.the-variants.{Create, Bind, Value as Values, Exists, Destroy, List as Lists}
 use Rattle.model.specs.declared.Removal.{Removal}
-use Rattle.model.specs.Operators.{rowOf}
+use Rattle.model.specs.Operators.{operatorOf, rowOf}
 use Rattle.model.specs.Pairs.{edgeOf, nodeOf, pairsAt, pairsOf, edgeNames, nodeNames, withEdge, withNode, nodesIn, spacesIn, spacesWith, pairKeys, anyPair}
 
 -- "In tuples and answers UNIVERSE is written 0." No tuple and no answer is made with nothing; what stands here for it has no effect.
@@ -42,17 +44,25 @@ vOf c = c .v
 abbrev pub sOf : Call → ℕ
 sOf c = spaceNumber (c .s)
 
+-- the call's fields as numbers, together
+abbrev pub fieldsOf : Call → Fields
+fieldsOf c = record { n = nOf c; g = gOf c; m = mOf c; v = vOf c; s = sOf c }
+
+-- what is read of a call: the row of its number, its operator, its fields
+abbrev pub decoded : Call → Decoded
+decoded c = record { row = rowOf (c .operator); operator = operatorOf (c .operator); fields = fieldsOf c }
+
 -- the keys in space s that C, B, V and X work on
-unfoldable pub objectKeys : Object → ℕ → Call → List Key
-objectKeys (Object.P d) s c = pairKeys d s (nOf c) (gOf c) (mOf c)
-objectKeys Object.UN s c = nodeKey s (nOf c) ∷ []
-objectKeys Object.US s c = spaceKey s ∷ []
+unfoldable pub objectKeys : Object → ℕ → Fields → List Key
+objectKeys (Object.P d) s f = pairKeys d s (f .n) (f .g) (f .m)
+objectKeys Object.UN s f = nodeKey s (f .n) ∷ []
+objectKeys Object.US s f = spaceKey s ∷ []
 
 -- C: "add the edge .. in s and in 0"; "add n to s and to 0"; "add s"
-unfoldable pub created : Object → Call → List Key
-created (Object.P d) c = objectKeys (Object.P d) (sOf c) c ++ objectKeys (Object.P d) 0 c
-created Object.UN c = objectKeys Object.UN (sOf c) c ++ objectKeys Object.UN 0 c
-created Object.US c = objectKeys Object.US (sOf c) c
+unfoldable pub created : Object → Fields → List Key
+created (Object.P d) f = objectKeys (Object.P d) (f .s) f ++ objectKeys (Object.P d) 0 f
+created Object.UN f = objectKeys Object.UN (f .s) f ++ objectKeys Object.UN 0 f
+created Object.US f = objectKeys Object.US (f .s) f
 
 -- the value of the first of some keys
 unfoldable pub firstValue : List Key → Tuples → Value
@@ -81,31 +91,31 @@ unfoldable pub spaceTaken : ℕ → Key → Bool
 spaceTaken s k = eqb (k .s) s
 
 -- D: what is left
-unfoldable pub destroyed : Removal → Call → Tuples → Tuples
-destroyed (Removal.P d) c ts =
-    remove (edgesTaken d (sOf c) (nOf c) (λ (p : Pair). eqb (edgeOf p) (gOf c) && eqb (nodeOf p) (mOf c))) ts
-destroyed (Removal.G d) c ts = remove (edgesTaken d (sOf c) (nOf c) (λ (p : Pair). true)) ts
-destroyed (Removal.GG d) c ts = remove (edgesTaken d (sOf c) (nOf c) (λ (p : Pair). eqb (edgeOf p) (gOf c))) ts
-destroyed (Removal.GN d) c ts = remove (edgesTaken d (sOf c) (nOf c) (λ (p : Pair). eqb (nodeOf p) (mOf c))) ts
-destroyed (Removal.N d) c ts = removeNodes (sOf c) (nodeNames (pairsOf d (sOf c) (nOf c) ts)) ts
-destroyed (Removal.NG d) c ts = removeNodes (sOf c) (nodeNames (withEdge (gOf c) (pairsOf d (sOf c) (nOf c) ts))) ts
-destroyed Removal.UN c ts = remove (nodeTaken (sOf c) (nOf c)) ts
-destroyed Removal.US c ts = remove (spaceTaken (sOf c)) ts
+unfoldable pub destroyed : Removal → Fields → Tuples → Tuples
+destroyed (Removal.P d) f ts =
+    remove (edgesTaken d (f .s) (f .n) (λ (p : Pair). eqb (edgeOf p) (f .g) && eqb (nodeOf p) (f .m))) ts
+destroyed (Removal.G d) f ts = remove (edgesTaken d (f .s) (f .n) (λ (p : Pair). true)) ts
+destroyed (Removal.GG d) f ts = remove (edgesTaken d (f .s) (f .n) (λ (p : Pair). eqb (edgeOf p) (f .g))) ts
+destroyed (Removal.GN d) f ts = remove (edgesTaken d (f .s) (f .n) (λ (p : Pair). eqb (nodeOf p) (f .m))) ts
+destroyed (Removal.N d) f ts = removeNodes (f .s) (nodeNames (pairsOf d (f .s) (f .n) ts)) ts
+destroyed (Removal.NG d) f ts = removeNodes (f .s) (nodeNames (withEdge (f .g) (pairsOf d (f .s) (f .n) ts))) ts
+destroyed Removal.UN f ts = remove (nodeTaken (f .s) (f .n)) ts
+destroyed Removal.US f ts = remove (spaceTaken (f .s)) ts
 
 -- S: the pairs that it lists
-unfoldable pub listed : Listing → Call → Tuples → List Pair
-listed (Listing.P d) c ts = pairsOf d (sOf c) (nOf c) ts
-listed (Listing.G d) c ts = edgeNames (pairsOf d (sOf c) (nOf c) ts)
-listed (Listing.GN d) c ts = edgeNames (withNode (mOf c) (pairsOf d (sOf c) (nOf c) ts))
-listed (Listing.N d) c ts = nodeNames (pairsOf d (sOf c) (nOf c) ts)
-listed (Listing.NG d) c ts = nodeNames (withEdge (gOf c) (pairsOf d (sOf c) (nOf c) ts))
-listed Listing.UN c ts = nodesIn (sOf c) ts
-listed Listing.US c ts = spacesIn ts
-listed Listing.USn c ts = spacesWith (nOf c) ts
+unfoldable pub listed : Listing → Fields → Tuples → List Pair
+listed (Listing.P d) f ts = pairsOf d (f .s) (f .n) ts
+listed (Listing.G d) f ts = edgeNames (pairsOf d (f .s) (f .n) ts)
+listed (Listing.GN d) f ts = edgeNames (withNode (f .m) (pairsOf d (f .s) (f .n) ts))
+listed (Listing.N d) f ts = nodeNames (pairsOf d (f .s) (f .n) ts)
+listed (Listing.NG d) f ts = nodeNames (withEdge (f .g) (pairsOf d (f .s) (f .n) ts))
+listed Listing.UN f ts = nodesIn (f .s) ts
+listed Listing.US f ts = spacesIn ts
+listed Listing.USn f ts = spacesWith (f .n) ts
 
 -- "C, B and D return the first argument (51, 52, 55: the space)"
-unfoldable pub firstArgument : Call → ℕ
-firstArgument c = cond (rowOf (c .operator) .first) (sOf c) (nOf c)
+unfoldable pub firstArgument : Decoded → ℕ
+firstArgument d = cond (d .row .first) (d .fields .s) (d .fields .n)
 
 -- "Answers are equal when they are of the same kind (refusal, name, value, yes or no, list) and carry the same; a list carries k and its k pairs in order."
 pub data Reply : Type 0 where
@@ -116,47 +126,47 @@ pub data Reply : Type 0 where
   pairs : ℕ → List Pair → Reply
 
 -- "k (how many pairs the step would list)": the pairs; none but for S
-unfoldable pub wouldList : Operator → Call → Tuples → List Pair
-wouldList (Create o) c ts = []
-wouldList (Bind o) c ts = []
-wouldList (Values o) c ts = []
-wouldList (Exists o) c ts = []
-wouldList (Destroy r) c ts = []
-wouldList (Lists l) c ts = listed l c ts
+unfoldable pub wouldList : Operator → Fields → Tuples → List Pair
+wouldList (Create o) f ts = []
+wouldList (Bind o) f ts = []
+wouldList (Values o) f ts = []
+wouldList (Exists o) f ts = []
+wouldList (Destroy r) f ts = []
+wouldList (Lists l) f ts = listed l f ts
 
 -- "the keys that the step would add": none but for C
-unfoldable pub wouldAdd : Operator → Call → List Key
-wouldAdd (Create o) c = created o c
-wouldAdd (Bind o) c = []
-wouldAdd (Values o) c = []
-wouldAdd (Exists o) c = []
-wouldAdd (Destroy r) c = []
-wouldAdd (Lists l) c = []
+unfoldable pub wouldAdd : Operator → Fields → List Key
+wouldAdd (Create o) f = created o f
+wouldAdd (Bind o) f = []
+wouldAdd (Values o) f = []
+wouldAdd (Exists o) f = []
+wouldAdd (Destroy r) f = []
+wouldAdd (Lists l) f = []
 
--- what the step answers
-unfoldable pub reply : Operator → Call → Tuples → Reply
-reply (Create o) c ts = name (firstArgument c)
-reply (Bind o) c ts = name (firstArgument c)
-reply (Values o) c ts = valued (firstValue (objectKeys o (sOf c) c) ts)
-reply (Exists o) c ts = yesNo (anyPresent (objectKeys o (sOf c) c) ts)
-reply (Destroy r) c ts = name (firstArgument c)
-reply (Lists l) c ts = pairs (length (listed l c ts)) (listed l c ts)
+-- what the step answers; `first` is the call's first argument
+unfoldable pub reply : Operator → ℕ → Fields → Tuples → Reply
+reply (Create o) first f ts = name first
+reply (Bind o) first f ts = name first
+reply (Values o) first f ts = valued (firstValue (objectKeys o (f .s) f) ts)
+reply (Exists o) first f ts = yesNo (anyPresent (objectKeys o (f .s) f) ts)
+reply (Destroy r) first f ts = name first
+reply (Lists l) first f ts = pairs (length (listed l f ts)) (listed l f ts)
 
 -- request 1, what a call with nothing answers: "C, B and D change nothing and return the first argument; X says no; S, SUN included, answers an empty list."
 -- A V operator with nothing is stopped by condition 12; what stands here for it has no effect.
-unfoldable pub idleReply : Operator → Call → Reply
-idleReply (Create o) c = name (firstArgument c)
-idleReply (Bind o) c = name (firstArgument c)
-idleReply (Values o) c = valued NIL
-idleReply (Exists o) c = yesNo false
-idleReply (Destroy r) c = name (firstArgument c)
-idleReply (Lists l) c = pairs 0 []
+unfoldable pub idleReply : Operator → ℕ → Reply
+idleReply (Create o) first = name first
+idleReply (Bind o) first = name first
+idleReply (Values o) first = valued NIL
+idleReply (Exists o) first = yesNo false
+idleReply (Destroy r) first = name first
+idleReply (Lists l) first = pairs 0 []
 
 -- the state after the step; "set the pair's value in s to v; A sets whichever are present"
-unfoldable pub after : Operator → Call → Tuples → Tuples
-after (Create o) c ts = addAll (created o c) ts
-after (Bind o) c ts = assignAll (objectKeys o (sOf c) c) (vOf c) ts
-after (Values o) c ts = ts
-after (Exists o) c ts = ts
-after (Destroy r) c ts = destroyed r c ts
-after (Lists l) c ts = ts
+unfoldable pub after : Operator → Fields → Tuples → Tuples
+after (Create o) f ts = addAll (created o f) ts
+after (Bind o) f ts = assignAll (objectKeys o (f .s) f) (f .v) ts
+after (Values o) f ts = ts
+after (Exists o) f ts = ts
+after (Destroy r) f ts = destroyed r f ts
+after (Lists l) f ts = ts

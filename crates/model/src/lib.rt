@@ -144,6 +144,22 @@ pub struct Row {
     pub optional: bool,
 }
 
+// The fields of a call as numbers; UNIVERSE is 0.
+pub struct Fields {
+    pub n: u32,
+    pub g: u32,
+    pub m: u32,
+    pub v: u32,
+    pub s: u32,
+}
+
+// What the store reads of a call: the row of its number, its operator, and its fields as numbers.
+pub struct Decoded {
+    pub row: Row,
+    pub operator: Operator,
+    pub fields: Fields,
+}
+
 // "C, B and D return the first argument; V a value; X yes or no; S a count k"; a call that is stopped, its refusal's number.
 pub enum Answer {
     // The number of the condition that stopped the call.

@@ -1,7 +1,9 @@
 // A number's row and its operator, and the refusals that depend on the call alone.
 use model::Asks;
 use model::Call;
+use model::Decoded;
 use model::Direction;
+use model::Fields;
 use model::Listing;
 use model::Object;
 use model::Operator;
@@ -14,7 +16,10 @@ ghost use mathlib.Core.Bool.{not, _&&_, _||_};
 ghost use lib.Dec.{eqb};
 ghost use Prim.Native.Nat.{_-_, _<_, _≤_};
 ghost use Rattle.model.specs.Operators.{within, operatorOf, readsOf, asksOf, rowOf};
-ghost use Rattle.model.specs.Refusals.{zeroSpace, isUniverse, isNothing, selectsNothing, zeroName, destroysUniverse};
+ghost use Rattle.model.specs.Keys.{mostName};
+ghost use Rattle.model.specs.Steps.{spaceNumber, fieldsOf, decoded, firstArgument};
+ghost use Rattle.model.specs.Refusals.{zeroSpace, isUniverse, isNothing, selectsNothing, zeroName, lacksSpace, destroysUniverse};
+ghost use Rattle.model.specs.Machine.{FieldsFit};
 ghost use Rattle.operators.specs.Decode.{turn};
 
 // For each field, whether it is read.
@@ -233,15 +238,16 @@ fn is_nothing(s: Space) -> bool
 }
 
 // Is the space of the call read, and nothing.
-pub fn selects_nothing(c: Call) -> bool
+pub fn selects_nothing(c: Call, row: Row) -> bool
+    requires { ⌜ row ≡ rowOf (c .operator) ⌝ }
     ensures { λ r. ⌜ r ≡ selectsNothing c ⌝ }
 {
-    let s = c.s;
-    if !is_nothing(s) {
+    let reads = row.reads;
+    if !reads.s {
         return false;
     }
-    let reads = reads_of(c.operator);
-    reads.s
+    let s = c.s;
+    is_nothing(s)
 }
 
 // Is the name read, and 0.
@@ -269,6 +275,17 @@ pub fn zero_name(c: Call, r: Reads) -> bool
     r.s && zero_space(s)
 }
 
+// Condition 12: the operator asks for a selection, and there is none.
+pub fn lacks_space(c: Call, asks: Asks, nothing: bool) -> bool
+    requires { ⌜ (asks ≡ asksOf (c .operator)) × (nothing ≡ selectsNothing c) ⌝ }
+    ensures { λ r. ⌜ r ≡ lacksSpace c ⌝ }
+{
+    if !nothing {
+        return false;
+    }
+    asks.selection
+}
+
 // Condition 4: the operator asks for a numbered space, and the space is UNIVERSE.
 pub fn destroys_universe(c: Call, asks: Asks) -> bool
     requires { ⌜ asks ≡ asksOf (c .operator) ⌝ }
@@ -279,4 +296,67 @@ pub fn destroys_universe(c: Call, asks: Asks) -> bool
     }
     let s = c.s;
     is_universe(s)
+}
+
+// ---- the fields of a call
+
+// A name as a word.
+fn name_word(x: u16) -> u32
+    ensures { λ r. ⌜ r ≡ x ⌝ }
+    ensures fit { λ _. ⌜ x ≤ mostName ⌝ }
+{
+    x as u32
+}
+
+// The name of a space; 0 for UNIVERSE, and for nothing, without effect: no tuple and no answer is made with it.
+fn space_name(s: Space) -> u16
+    ensures { λ r. ⌜ r ≡ spaceNumber s ⌝ }
+{
+    match s {
+        Space::Universe => 0,
+        Space::Numbered(x) => x.0,
+        Space::Nothing => 0,
+    }
+}
+
+// The fields of a call as numbers; their types keep every name to 16 bits.
+fn fields_of(c: Call) -> Fields
+    ensures { λ r. ⌜ r ≡ fieldsOf c ⌝ }
+    ensures fit { λ _. ⌜ FieldsFit (fieldsOf c) ⌝ }
+{
+    let s = c.s;
+    Fields {
+        n: name_word(c.n.0),
+        g: name_word(c.g.0),
+        m: name_word(c.m.0),
+        v: c.v,
+        s: name_word(space_name(s)),
+    }
+}
+
+// What the store reads of a call.
+pub fn decode(c: Call, row: Row) -> Decoded
+    requires { ⌜ row ≡ rowOf (c .operator) ⌝ }
+    ensures { λ r. ⌜ r ≡ decoded c ⌝ }
+    ensures fit { λ _. ⌜ FieldsFit (fieldsOf c) ⌝ }
+{
+    let operator = operator_of(c.operator);
+    let fields = fields_of(c);
+    Decoded {
+        row,
+        operator,
+        fields,
+    }
+}
+
+// What C, B and D return.
+pub fn first_argument(c: Call, row: Row) -> u16
+    requires { ⌜ row ≡ rowOf (c .operator) ⌝ }
+    ensures { λ r. ⌜ r ≡ firstArgument (decoded c) ⌝ }
+{
+    if row.first {
+        let s = c.s;
+        return space_name(s);
+    }
+    c.n.0
 }

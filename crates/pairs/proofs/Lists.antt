@@ -16,8 +16,8 @@ use Rattle.model.specs.declared.Call.{Call}
 use Rattle.model.specs.declared.Pair.{Pair}
 use Rattle.model.specs.declared.Preparation.the-variants.{Capacity}
 use Rattle.model.specs.Tuples.{fresh}
-use Rattle.model.specs.Steps.{Reply, pairs, listed}
-use Rattle.model.specs.Machine.{State, Outcome, machine}
+use Rattle.model.specs.Steps.{Reply, pairs, fieldsOf, listed}
+use Rattle.model.specs.Machine.{State, Outcome, machine, serve}
 use Rattle.model.specs.Traces.{Trace}
 use Rattle.model.specs.OneCall.{answerOf, pack}
 use Rattle.model.specs.CallLists.{MeetsDemand1, WholeList}
@@ -65,7 +65,7 @@ unfolding observedInPairs answerOf pairsAfter
 observed-in-pairs C ts c room l =
     answer-form (λ (r : Reply). observedInPairs (answerOf r) (pairsAfter r l) ≡ r) C ts c room (λ number. refl) (λ x. refl) (λ v. refl) (λ b. refl) refl
     (λ x.
-    let ps : List Pair = listed x c ts in
+    let ps : List Pair = listed x (fieldsOf c) ts in
     ap (pairs (length ps)) (take-at ps (drop (length ps) l) (length ps) refl))
 
 -- ---- one call
@@ -83,6 +83,7 @@ module _ (b b′ : List ℕ) (x : PairsMade) (P : OneInPairs b x b′) where
 
   -- what demand 3 needs of it
   pub pairs-machine : MachineStep stored b (exchangeInPairs x) b′
+  unfolding serve
   pairs-machine e =
       let O = P .call .onStore e in
       record {

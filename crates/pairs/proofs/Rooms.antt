@@ -8,9 +8,10 @@ use lib.Dec.{ltb}
 use lib.ListN.{length}
 use borrow.Author.Tests.{ltb-true, ltb-false, le-ltb}
 use Rattle.model.specs.declared.Call.{Call}
+use Rattle.model.specs.declared.Decoded.{Decoded}
 use Rattle.model.specs.Tuples.{Tuples}
 use Rattle.model.specs.Operators.{operatorOf}
-use Rattle.model.specs.Steps.{wouldList}
+use Rattle.model.specs.Steps.{fieldsOf, decoded, wouldList}
 use Rattle.model.specs.Refusals.{stop, first, spaceAbsent, nodeAbsent, secondAbsent, edgeAbsent, listShort, full, ofCall, ofTuples, ifLookedUp, earlier, refusalOf}
 use Rattle.model.specs.Machine.{outcomeOf, machine}
 use Rattle.layouts.specs.Buffer.{tuplesOf, isStore}
@@ -42,15 +43,15 @@ lent-in-words ws room lent enough L = omega (arith, enough, L, lent-within room 
 -- ---- the same call
 
 module _ (b : List ℕ) (e : isStore b ≡ true) (c : Call) (room : ℕ) where
-  same-short : listShort c (tuplesOf b) (lentWords room) ≡ listShort c (tuplesOf b) room
+  same-short : listShort (decoded c) (tuplesOf b) (lentWords room) ≡ listShort (decoded c) (tuplesOf b) room
   unfolding listShort
   same-short = go (ltb room mostListed) refl
     where
       k : ℕ
-      k = length (wouldList (operatorOf (c .operator)) c (tuplesOf b))
+      k = length (wouldList (operatorOf (c .operator)) (fieldsOf c) (tuplesOf b))
 
       most : k ≤ mostListed
-      most = omega (arith, would-most stored stored-lawful b e (operatorOf (c .operator)) c)
+      most = omega (arith, would-most stored stored-lawful b e (operatorOf (c .operator)) (fieldsOf c))
 
       go : (t : Bool) → ltb room mostListed ≡ t → ltb (lentWords room) k ≡ ltb room k
       go true h = ap (λ (n : ℕ). ltb n k) (sym (lent-least room h))
@@ -62,13 +63,14 @@ module _ (b : List ℕ) (e : isStore b ≡ true) (c : Call) (room : ℕ) where
   unfolding refusalOf earlier ofTuples
   same-refusal C =
       let ts : Tuples = tuplesOf b in
+      let d : Decoded = decoded c in
       ap
       (λ (t : Bool).
       first
       ((ofCall c
       ++ ifLookedUp c
-      (stop 5 (spaceAbsent c ts) ∷ stop 6 (nodeAbsent c ts) ∷ stop 7 (secondAbsent c ts) ∷ stop 8 (edgeAbsent c ts) ∷ stop 9 t ∷ []))
-      ++ ifLookedUp c (stop 10 (full C c ts) ∷ [])))
+      (stop 5 (spaceAbsent d ts) ∷ stop 6 (nodeAbsent d ts) ∷ stop 7 (secondAbsent d ts) ∷ stop 8 (edgeAbsent d ts) ∷ stop 9 t ∷ []))
+      ++ ifLookedUp c (stop 10 (full C d ts) ∷ [])))
       same-short
 
   pub same-machine : (C : ℕ) → machine C (tuplesOf b) c (lentWords room) ≡ machine C (tuplesOf b) c room

@@ -9,7 +9,7 @@ use Rattle.model.specs.declared.Answer.{Answer}
 use Rattle.model.specs.declared.Answer.the-variants.{Refusal, Name, Value, YesNo, List as Listed}
 use Rattle.model.specs.declared.Pair.{Pair}
 use Rattle.model.specs.Steps.{Reply, refusal, name, valued, yesNo, pairs}
-use Rattle.model.specs.Machine.{machine}
+use Rattle.model.specs.Machine.{calling, machine}
 use Rattle.model.specs.OneCall.{pack, unpack, OneCall}
 use Rattle.model.specs.CallLists.{Made, Exchange}
 use Rattle.layouts.specs.Stored.{stored}
@@ -55,4 +55,4 @@ OneInPairs b x b′ = CallInPairs b (x .lent) (x .call) (x .answer) b′ (x .lef
 
 -- what the machine is fed of it, and what its caller observes
 abbrev pub exchangeInPairs : PairsMade → Exchange
-exchangeInPairs x = record { request = record { call = x .call; room = length (x .lent) }; reply = observedInPairs (x .answer) (x .left) }
+exchangeInPairs x = record { request = calling (record { call = x .call; room = length (x .lent) }); reply = observedInPairs (x .answer) (x .left) }

@@ -1,94 +1,121 @@
 -- The step of each family of operators (specs/Perform.antt).
-use mathlib.Core.Bool.{Bool, true, false, cond, true≢false}
+use mathlib.Core.Bool.{Bool, false, true≢false}
 use mathlib.Core.List.{List}
-use mathlib.Core.Path.{_≡_, refl, sym, ap, ap₂, _∙_, subst}
-use Prim.Native.Nat.{ℕ}
+use mathlib.Core.Logic.{_≢_}
+use mathlib.Core.Path.{_≡_, refl, sym, ap, _∙_, subst}
+use Prim.Native.Nat.{ℕ, _≤_}
 use lib.ListN.{length}
 use Rattle.model.specs.declared.Answer.{Answer}
 use Rattle.model.specs.declared.Answer.the-variants.{Name, Value, YesNo, List as Listed}
-use Rattle.model.specs.declared.Call.{Call}
+use Rattle.model.specs.declared.Direction.{Direction}
+use Rattle.model.specs.declared.Fields.{Fields}
 use Rattle.model.specs.declared.Object.{Object}
 use Rattle.model.specs.declared.Listing.{Listing}
 use Rattle.model.specs.declared.Operator.{Operator}
 use Rattle.model.specs.declared.Operator.the-variants.{Create, Bind, Value as Values, Exists, Destroy, List as Lists}
 use Rattle.model.specs.declared.Removal.{Removal}
-use Rattle.model.specs.declared.Row.{Row}
-use Rattle.model.specs.Operators.{rowOf}
-use Rattle.model.specs.Tuples.{anyPresent, addAll, assignAll}
+use Rattle.model.specs.Tuples.{anyPresent, addAll}
 use Rattle.layouts.specs.Buffer.{tuplesOf}
-use Rattle.model.specs.Steps.{nOf, sOf, vOf, objectKeys, created, firstValue, destroyed, listed, firstArgument, reply, idleReply, after}
+use Rattle.model.specs.Steps.{objectKeys, created, firstValue, destroyed, listed, reply, idleReply, after}
 use Rattle.model.specs.OneCall.{answerOf, listAfter, writes}
 use Rattle.chain.specs.Links.{Linked, Edited}
 use Rattle.edit.proofs.Built.{unedited}
 use Rattle.entries.specs.Queries.{written}
-use Rattle.perform.specs.Perform.{NamesRead, Ready, Performed}
-
--- ---- the first argument
-
-pub first-is-space : (c : Call) (row : Row) (x : ℕ) → row ≡ rowOf (c .operator) → row .first ≡ true → x ≡ sOf c → x ≡ firstArgument c
-unfolding firstArgument
-first-is-space c row x R e h = h ∙ ap (λ (y : Bool). cond y (sOf c) (nOf c)) (sym e ∙ ap (λ (r : Row). r .first) R)
-
-pub first-is-node : (c : Call) (row : Row) → row ≡ rowOf (c .operator) → row .first ≡ false → nOf c ≡ firstArgument c
-unfolding firstArgument
-first-is-node c row R e = ap (λ (y : Bool). cond y (sOf c) (nOf c)) (sym e ∙ ap (λ (r : Row). r .first) R)
+use Rattle.listings.specs.Lists.{NamesAsked}
+use Rattle.steps.specs.Objects.{Room, Bound}
+use Rattle.perform.specs.Perform.{NamesIn, NamesRead, ReadyFor, Ready, Performed}
 
 -- ---- D
 
-pub names-as : {r x : Removal} (c : Call) → r ≡ x → NamesRead r c → NamesRead x c
-names-as c e h = subst (λ (y : Removal). NamesRead y c) e h
+module _ (r : Removal) (f : Fields) (h : NamesRead r f) where
+  names-of : {x : Removal} → r ≡ x → NamesIn x f
+  names-of e = subst (λ (y : Removal). NamesIn y f) e (h .named)
 
-pub removed-as : {r x : Removal} {b b′ : List ℕ} (c : Call) → r ≡ x → Edited b b′ (destroyed x c (tuplesOf b)) → Edited b b′ (destroyed r c (tuplesOf b))
-removed-as {b = b} {b′ = b′} c e E = subst (λ (y : Removal). Edited b b′ (destroyed y c (tuplesOf b))) (sym e) E
+  pub pair-edge : (d : Direction) → r ≡ Removal.P d → f .g ≢ 0
+  pair-edge d e = names-of e .0
+
+  pub pair-second : (d : Direction) → r ≡ Removal.P d → f .m ≢ 0
+  pair-second d e = names-of e .1
+
+  pub named-edge : (d : Direction) → r ≡ Removal.GG d → f .g ≢ 0
+  named-edge d e = names-of e
+
+  pub named-second : (d : Direction) → r ≡ Removal.GN d → f .m ≢ 0
+  named-second d e = names-of e
+
+  pub named-edge-of-nodes : (d : Direction) → r ≡ Removal.NG d → f .g ≢ 0
+  named-edge-of-nodes d e = names-of e
+
+  pub named-node : r ≡ Removal.UN → f .n ≢ 0
+  named-node e = names-of e
+
+  pub named-space : r ≡ Removal.US → f .s ≢ 0
+  named-space e = names-of e
+
+pub removed-as : (r x : Removal) (f : Fields) {b b′ : List ℕ} → r ≡ x → Edited b b′ (destroyed x f (tuplesOf b)) → Edited b b′ (destroyed r f (tuplesOf b))
+removed-as r x f {b = b} {b′ = b′} e E = subst (λ (y : Removal). Edited b b′ (destroyed y f (tuplesOf b))) (sym e) E
+
+-- ---- what each family of operators requires
+
+module _ (op : Operator) (f : Fields) (b : List ℕ) (room : ℕ) (h : Ready op f b room) where
+  ready-of : {x : Operator} → op ≡ x → ReadyFor x f b room
+  ready-of e = subst (λ (y : Operator). ReadyFor y f b room) e (h .ready)
+
+  pub ready-create : (o : Object) → op ≡ Create o → Room b (created o f)
+  ready-create o e = ready-of e
+
+  pub ready-destroy : (r : Removal) → op ≡ Destroy r → NamesRead r f
+  ready-destroy r e = ready-of e
+
+  pub ready-names : (l : Listing) → op ≡ Lists l → NamesAsked l f
+  ready-names l e = ready-of e .0
+
+  pub ready-room : (l : Listing) → op ≡ Lists l → length (listed l f (tuplesOf b)) ≤ room
+  ready-room l e = ready-of e .1
 
 -- ---- an operator's step
 
-pub ready-as : {op x : Operator} (c : Call) (b : List ℕ) (room : ℕ) → op ≡ x → Ready op c b room → Ready x c b room
-ready-as c b room e h = subst (λ (y : Operator). Ready y c b room) e h
+module _ (op : Operator) (x : ℕ) (f : Fields) (b l : List ℕ) where
+  pub create-performed : (o : Object) (b′ : List ℕ) → op ≡ Create o → Edited b b′ (addAll (created o f) (tuplesOf b)) → Performed op x f b l (Name x) b′ l
+  unfolding reply after answerOf listAfter writes
+  create-performed o b′ e E =
+      subst (λ (y : Operator). Performed y x f b l (Name x) b′ l) (sym e)
+      (record { answer = refl; list = refl; edited = E; reading = λ w. absurd (true≢false w) })
 
-pub create-performed : {op : Operator} (o : Object) (c : Call) (b b′ l : List ℕ) (x : ℕ) → op ≡ Create o → x ≡ firstArgument c
-    → Edited b b′ (addAll (created o c) (tuplesOf b)) → Performed op c b l (Name x) b′ l
-unfolding reply after answerOf listAfter writes
-create-performed o c b b′ l x e h E =
-    subst (λ (y : Operator). Performed y c b l (Name x) b′ l) (sym e)
-    (record { answer = ap Name h; list = refl; edited = E; reading = λ w. absurd (true≢false w) })
+  pub bind-performed : (o : Object) (b′ : List ℕ) → op ≡ Bind o → Bound b (objectKeys o (f .s) f) (f .v) b′ → Performed op x f b l (Name x) b′ l
+  unfolding reply after answerOf listAfter writes
+  bind-performed o b′ e B =
+      subst (λ (y : Operator). Performed y x f b l (Name x) b′ l) (sym e)
+      (record { answer = refl; list = refl; edited = B .edited; reading = λ w. absurd (true≢false w) })
 
-pub bind-performed : {op : Operator} (o : Object) (c : Call) (b b′ l : List ℕ) (x : ℕ) → op ≡ Bind o → x ≡ firstArgument c
-    → Edited b b′ (assignAll (objectKeys o (sOf c) c) (vOf c) (tuplesOf b)) → Performed op c b l (Name x) b′ l
-unfolding reply after answerOf listAfter writes
-bind-performed o c b b′ l x e h E =
-    subst (λ (y : Operator). Performed y c b l (Name x) b′ l) (sym e)
-    (record { answer = ap Name h; list = refl; edited = E; reading = λ w. absurd (true≢false w) })
+  pub destroy-performed : (r : Removal) (b′ : List ℕ) → op ≡ Destroy r → Edited b b′ (destroyed r f (tuplesOf b)) → Performed op x f b l (Name x) b′ l
+  unfolding reply after answerOf listAfter writes
+  destroy-performed r b′ e E =
+      subst (λ (y : Operator). Performed y x f b l (Name x) b′ l) (sym e)
+      (record { answer = refl; list = refl; edited = E; reading = λ w. absurd (true≢false w) })
 
-pub destroy-performed : {op : Operator} (r : Removal) (c : Call) (b b′ l : List ℕ) (x : ℕ) → op ≡ Destroy r → x ≡ firstArgument c
-    → Edited b b′ (destroyed r c (tuplesOf b)) → Performed op c b l (Name x) b′ l
-unfolding reply after answerOf listAfter writes
-destroy-performed r c b b′ l x e h E =
-    subst (λ (y : Operator). Performed y c b l (Name x) b′ l) (sym e)
-    (record { answer = ap Name h; list = refl; edited = E; reading = λ w. absurd (true≢false w) })
+  pub value-performed : (o : Object) (v : ℕ) → op ≡ Values o → Linked b → v ≡ firstValue (objectKeys o (f .s) f) (tuplesOf b)
+      → Performed op x f b l (Value v) b l
+  unfolding reply after answerOf listAfter
+  value-performed o v e L h =
+      subst (λ (y : Operator). Performed y x f b l (Value v) b l) (sym e)
+      (record { answer = ap Value h; list = refl; edited = unedited b (tuplesOf b) L refl; reading = λ w. refl })
 
-pub value-performed : {op : Operator} (o : Object) (c : Call) (b l : List ℕ) (v : ℕ) → op ≡ Values o → Linked b
-    → v ≡ firstValue (objectKeys o (sOf c) c) (tuplesOf b) → Performed op c b l (Value v) b l
-unfolding reply after answerOf listAfter
-value-performed o c b l v e L h =
-    subst (λ (y : Operator). Performed y c b l (Value v) b l) (sym e)
-    (record { answer = ap Value h; list = refl; edited = unedited b (tuplesOf b) L refl; reading = λ w. refl })
+  pub exists-performed : (o : Object) (t : Bool) → op ≡ Exists o → Linked b → t ≡ anyPresent (objectKeys o (f .s) f) (tuplesOf b)
+      → Performed op x f b l (YesNo t) b l
+  unfolding reply after answerOf listAfter
+  exists-performed o t e L h =
+      subst (λ (y : Operator). Performed y x f b l (YesNo t) b l) (sym e)
+      (record { answer = ap YesNo h; list = refl; edited = unedited b (tuplesOf b) L refl; reading = λ w. refl })
 
-pub exists-performed : {op : Operator} (o : Object) (c : Call) (b l : List ℕ) (x : Bool) → op ≡ Exists o → Linked b
-    → x ≡ anyPresent (objectKeys o (sOf c) c) (tuplesOf b) → Performed op c b l (YesNo x) b l
-unfolding reply after answerOf listAfter
-exists-performed o c b l x e L h =
-    subst (λ (y : Operator). Performed y c b l (YesNo x) b l) (sym e)
-    (record { answer = ap YesNo h; list = refl; edited = unedited b (tuplesOf b) L refl; reading = λ w. refl })
-
-pub list-performed : {op : Operator} (x : Listing) (c : Call) (b l l′ : List ℕ) (k : ℕ) → op ≡ Lists x → Linked b
-    → k ≡ length (listed x c (tuplesOf b)) → l′ ≡ written (listed x c (tuplesOf b)) l → Performed op c b l (Listed k) b l′
-unfolding reply after answerOf listAfter written
-list-performed x c b l l′ k e L h w =
-    subst (λ (y : Operator). Performed y c b l (Listed k) b l′) (sym e)
-    (record { answer = ap Listed h; list = w; edited = unedited b (tuplesOf b) L refl; reading = λ z. refl })
+  pub list-performed : (q : Listing) (l′ : List ℕ) (k : ℕ) → op ≡ Lists q → Linked b → k ≡ length (listed q f (tuplesOf b))
+      → l′ ≡ written (listed q f (tuplesOf b)) l → Performed op x f b l (Listed k) b l′
+  unfolding reply after answerOf listAfter written
+  list-performed q l′ k e L h w =
+      subst (λ (y : Operator). Performed y x f b l (Listed k) b l′) (sym e)
+      (record { answer = ap Listed h; list = w; edited = unedited b (tuplesOf b) L refl; reading = λ z. refl })
 
 -- ---- with nothing as the space
 
-pub idle-as : (op known : Operator) (c : Call) (a : Answer) → op ≡ known → a ≡ answerOf (idleReply known c) → a ≡ answerOf (idleReply op c)
-idle-as op known c a e A = A ∙ ap (λ (o : Operator). answerOf (idleReply o c)) (sym e)
+pub idle-as : (op known : Operator) (x : ℕ) (a : Answer) → op ≡ known → a ≡ answerOf (idleReply known x) → a ≡ answerOf (idleReply op x)
+idle-as op known x a e A = A ∙ ap (λ (o : Operator). answerOf (idleReply o x)) (sym e)

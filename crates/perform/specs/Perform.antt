@@ -6,40 +6,46 @@ use mathlib.Core.Path.{_≡_}
 use Prim.Native.Nat.{ℕ, _≤_}
 use lib.ListN.{length}
 use Rattle.model.specs.declared.Answer.{Answer}
-use Rattle.model.specs.declared.Call.{Call}
+use Rattle.model.specs.declared.Fields.{Fields}
 use Rattle.model.specs.declared.Operator.{Operator}
 use Rattle.model.specs.declared.Operator.the-variants.{Create, Bind, Value as Values, Exists, Destroy, List as Lists}
 use Rattle.model.specs.declared.Removal.{Removal}
 use Rattle.layouts.specs.Buffer.{tuplesOf}
-use Rattle.model.specs.Steps.{nOf, gOf, mOf, sOf, created, listed, reply, after}
+use Rattle.model.specs.Steps.{created, listed, reply, after}
 use Rattle.model.specs.OneCall.{answerOf, listAfter, writes}
 use Rattle.chain.specs.Links.{Edited}
 use Rattle.listings.specs.Lists.{NamesAsked}
-use Rattle.steps.specs.Operate.{Room}
+use Rattle.steps.specs.Objects.{Room}
 
 -- names that a removal reads are not 0
-abbrev pub NamesRead : Removal → Call → Type 0
-NamesRead (Removal.P d) c = (gOf c ≢ 0) × (mOf c ≢ 0)
-NamesRead (Removal.G d) c = Unit {0}
-NamesRead (Removal.GG d) c = gOf c ≢ 0
-NamesRead (Removal.GN d) c = mOf c ≢ 0
-NamesRead (Removal.N d) c = Unit {0}
-NamesRead (Removal.NG d) c = gOf c ≢ 0
-NamesRead Removal.UN c = nOf c ≢ 0
-NamesRead Removal.US c = sOf c ≢ 0
+abbrev pub NamesIn : Removal → Fields → Type 0
+NamesIn (Removal.P d) f = (f .g ≢ 0) × (f .m ≢ 0)
+NamesIn (Removal.G d) f = Unit {0}
+NamesIn (Removal.GG d) f = f .g ≢ 0
+NamesIn (Removal.GN d) f = f .m ≢ 0
+NamesIn (Removal.N d) f = Unit {0}
+NamesIn (Removal.NG d) f = f .g ≢ 0
+NamesIn Removal.UN f = f .n ≢ 0
+NamesIn Removal.US f = f .s ≢ 0
+
+pub record NamesRead (r : Removal) (f : Fields) : Type 0 where
+  pub named : NamesIn r f
 
 -- what conditions 3, 4, 9 and 10 have left of a call that they do not stop
-abbrev pub Ready : Operator → Call → List ℕ → ℕ → Type 0
-Ready (Create o) c b room = Room b (created o c)
-Ready (Bind o) c b room = Unit {0}
-Ready (Values o) c b room = Unit {0}
-Ready (Exists o) c b room = Unit {0}
-Ready (Destroy r) c b room = NamesRead r c
-Ready (Lists l) c b room = NamesAsked l c × (length (listed l c (tuplesOf b)) ≤ room)
+abbrev pub ReadyFor : Operator → Fields → List ℕ → ℕ → Type 0
+ReadyFor (Create o) f b room = Room b (created o f)
+ReadyFor (Bind o) f b room = Unit {0}
+ReadyFor (Values o) f b room = Unit {0}
+ReadyFor (Exists o) f b room = Unit {0}
+ReadyFor (Destroy r) f b room = NamesRead r f
+ReadyFor (Lists l) f b room = NamesAsked l f × (length (listed l f (tuplesOf b)) ≤ room)
 
--- the step's answer, the list and the buffer after it
-pub record Performed (op : Operator) (c : Call) (b l : List ℕ) (a : Answer) (b′ l′ : List ℕ) : Type 0 where
-  pub answer : a ≡ answerOf (reply op c (tuplesOf b))
-  pub list : l′ ≡ listAfter (reply op c (tuplesOf b)) l
-  pub edited : Edited b b′ (after op c (tuplesOf b))
+pub record Ready (op : Operator) (f : Fields) (b : List ℕ) (room : ℕ) : Type 0 where
+  pub ready : ReadyFor op f b room
+
+-- the step's answer, the list and the buffer after it; `first` is the call's first argument
+pub record Performed (op : Operator) (first : ℕ) (f : Fields) (b l : List ℕ) (a : Answer) (b′ l′ : List ℕ) : Type 0 where
+  pub answer : a ≡ answerOf (reply op first f (tuplesOf b))
+  pub list : l′ ≡ listAfter (reply op first f (tuplesOf b)) l
+  pub edited : Edited b b′ (after op f (tuplesOf b))
   pub reading : writes op ≡ false → b′ ≡ b

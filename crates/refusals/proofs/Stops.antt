@@ -3,26 +3,35 @@ use mathlib.Core.Bool.{Bool, true, false, cond, not}
 use mathlib.Core.List.{List, [], _∷_, _++_}
 use mathlib.Core.Logic.{_↔_, _≢_}
 use mathlib.Core.Option.{Option, none, some}
-use mathlib.Core.Path.{_≡_, refl, sym, ap, ap₂, _∙_}
+use mathlib.Core.Path.{_≡_, refl, sym, ap, ap₂, _∙_, subst}
 use Prim.Native.Nat.{ℕ, _+_, _-_, _≤_}
 use native.Mathlib.Omega.{arith}
 use lib.Dec.{eqb, ltb}
 use lib.ListN.{length}
 use borrow.Author.Tests.{ltb-true, lt-ltb, eqb-false, le-ltb}
 use Rattle.model.specs.declared.Call.{Call}
+use Rattle.model.specs.declared.Decoded.{Decoded}
+use Rattle.model.specs.declared.Key.{Key}
+use Rattle.model.specs.declared.Listing.{Listing}
 use Rattle.model.specs.declared.Operator.{Operator}
+use Rattle.model.specs.declared.Operator.the-variants.{List as Lists}
+use Rattle.model.specs.declared.Fields.{Fields}
 use Rattle.model.specs.declared.Pair.{Pair}
-use Rattle.model.specs.Operators.{operatorOf}
+use Rattle.model.specs.declared.Row.{Row}
+use Rattle.model.specs.Operators.{readsOf, asksOf, rowOf}
 use Rattle.model.specs.Tuples.{Tuples, missing}
 use Rattle.layouts.specs.Buffer.{word, capacityOf, tuplesOf}
-use Rattle.model.specs.Steps.{wouldList, wouldAdd}
-use Rattle.model.specs.Refusals.{Stop, stop, first, selectsNothing, noOperator, zeroName, destroysUniverse, spaceAbsent, nodeAbsent, secondAbsent, edgeAbsent, listShort, full, ofCall, ofTuples, ifLookedUp, earlier, refusalOf}
+use Rattle.model.specs.Steps.{decoded, listed, wouldList, wouldAdd}
+use Rattle.model.specs.Refusals.{Stop, stop, first, selectsNothing, noOperator, listShort, full, ofCall, ofTuples, ifLookedUp, earlier, refusalOf}
 use Rattle.model.proofs.Bools.{equal, not-yes}
 use Rattle.layouts.proofs.Store.{tuples-fit}
-use Rattle.model.proofs.Refusals.{everyNumber, first-number, asked, looked-up}
+use Rattle.model.proofs.Refusals.{everyNumber, first-number, first-none, first-some, not-looked-up}
+use Rattle.model.proofs.Steps.{first-passed}
 use Rattle.chain.specs.Links.{Linked}
 use Rattle.edit.proofs.Built.{length-tuples}
-use Rattle.refusals.specs.Numbers.{stopNumber}
+use Rattle.refusals.specs.Numbers.{stopNumber, ofStore, Unstopped}
+use Rattle.listings.specs.Lists.{NamesAsked}
+use Rattle.listings.proofs.Stores.{names-asked}
 
 -- ---- the first condition that applies, one after the other
 
@@ -41,41 +50,9 @@ passes number applies x xs r X e R = R ∙ ap (λ (b : Bool). stopNumber (cond b
 pub tested : (applies x t : Bool) → x ≡ applies → x ≡ t → applies ≡ t
 tested applies x t X e = sym X ∙ e
 
--- the first condition that applies, where those before it do not
-pub stops-here : (number : ℕ) (applies : Bool) (xs : List Stop) → applies ≡ true → number ≡ stopNumber (first (stop number applies ∷ xs))
-stops-here number applies xs e = stops number applies applies xs refl e
-
-pub goes-on : (number : ℕ) (applies : Bool) (xs : List Stop) (r : ℕ) → applies ≡ false → r ≡ stopNumber (first xs)
-    → r ≡ stopNumber (first (stop number applies ∷ xs))
-goes-on number applies xs r e R = passes number applies applies xs r refl e R
-
 pub nothing-left : 0 ≡ stopNumber (first [])
 unfolding stopNumber first
 nothing-left = refl
-
--- where the space is looked up, conditions 2 to 10 decide
-pub as-asked : (C : ℕ) (ts : Tuples) (c : Call) (room r : ℕ) → selectsNothing c ≡ false → r ≡ stopNumber (first (asked C ts c room))
-    → r ≡ stopNumber (refusalOf C ts c room)
-as-asked C ts c room r e R = R ∙ ap stopNumber (sym (looked-up C ts c room e))
-
--- conditions 2 to 7 do not apply
-pub record NamesPassed (c : Call) (ts : Tuples) : Type 0 where
-  pub known : noOperator c ≡ false
-  pub names : zeroName c ≡ false
-  pub universe : destroysUniverse c ≡ false
-  pub space : spaceAbsent c ts ≡ false
-  pub node : nodeAbsent c ts ≡ false
-  pub second : secondAbsent c ts ≡ false
-
--- conditions 8 to 10 then decide
-pub after-names : (C : ℕ) (ts : Tuples) (c : Call) (room r : ℕ) → NamesPassed c ts → selectsNothing c ≡ false
-    → r ≡ stopNumber (first (stop 8 (edgeAbsent c ts) ∷ stop 9 (listShort c ts room) ∷ stop 10 (full C c ts) ∷ []))
-    → r ≡ stopNumber (refusalOf C ts c room)
-after-names C ts c room r P e R =
-    as-asked C ts c room r e
-    (goes-on 2 _ _ r (P .known)
-    (goes-on 3 _ _ r (P .names)
-    (goes-on 4 _ _ r (P .universe) (goes-on 5 _ _ r (P .space) (goes-on 6 _ _ r (P .node) (goes-on 7 _ _ r (P .second) R))))))
 
 -- ---- what the number says
 
@@ -103,33 +80,104 @@ some-exactly r number h = (λ e. go r e, λ e. ap stopNumber e)
     go none e = absurd (h (sym e))
     go (some k) e = ap some e
 
--- a call that is let pass
-pub not-refused : (C : ℕ) (ts : Tuples) (c : Call) (room : ℕ) → stopNumber (refusalOf C ts c room) ≡ 0 → refusalOf C ts c room ≡ none
-unfolding refusalOf ofCall ofTuples ifLookedUp earlier
-not-refused C ts c room e = none-exactly _ (numbers (selectsNothing c)) .0 e
+-- ---- the conditions in two parts
+
+no-zero : (xs : List Stop) → everyNumber notZero xs ≡ true → stopNumber (first xs) ≡ 0 → first xs ≡ none
+no-zero xs h = none-exactly xs h .0
+
+-- no condition on the call applies
+pub call-passes : (c : Call) (x : ℕ) → x ≡ stopNumber (first (ofCall c)) → x ≡ 0 → first (ofCall c) ≡ none
+call-passes c x X e = no-zero (ofCall c) numbers (sym X ∙ e)
   where
-    numbers : (t : Bool) → everyNumber notZero ((ofCall c ++ cond t [] (ofTuples ts c room)) ++ cond t [] (stop 10 (full C c ts) ∷ [])) ≡ true
-    numbers true = refl
-    numbers false = refl
+    numbers : everyNumber notZero (ofCall c) ≡ true
+    numbers = unfold ofCall in refl
+
+-- none on what the store holds does
+pub store-passes : (C : ℕ) (ts : Tuples) (d : Decoded) (room x : ℕ) → x ≡ stopNumber (first (ofStore C ts d room)) → x ≡ 0 → first (ofStore C ts d room) ≡ none
+store-passes C ts d room x X e = no-zero (ofStore C ts d room) numbers (sym X ∙ e)
+  where
+    numbers : everyNumber notZero (ofStore C ts d room) ≡ true
+    numbers = unfold ofStore ofTuples in refl
+
+-- what is read of a call that passes
+pub unstopped : (c : Call) (d : Decoded) → d ≡ decoded c → first (ofCall c) ≡ none → Unstopped d
+unfolding ofCall
+unstopped c d e p =
+    let known = first-passed _ _ p in
+    record { call = c; same = e; known = known .0; named = first-passed _ _ (known .1) .0 }
+
+-- a condition on the call stops it
+pub call-stops : (C : ℕ) (ts : Tuples) (c : Call) (room x : ℕ) → x ≡ stopNumber (first (ofCall c)) → x ≢ 0 → refusalOf C ts c room ≡ some x
+unfolding refusalOf earlier ofCall
+call-stops C ts c room x X h = first-some (ofCall c) _ x (some-exactly (first (ofCall c)) x h .0 (sym X))
+
+-- where none does, and the space is looked up, those on what the store holds decide
+pub store-decides : (C : ℕ) (ts : Tuples) (c : Call) (room : ℕ) → first (ofCall c) ≡ none → selectsNothing c ≡ false
+    → refusalOf C ts c room ≡ first (ofStore C ts (decoded c) room)
+unfolding refusalOf earlier ofCall ifLookedUp ofStore
+store-decides C ts c room p e =
+    let looked : List Stop = cond (selectsNothing c) [] (ofTuples ts (decoded c) room) ++ cond (selectsNothing c) [] (stop 10 (full C (decoded c) ts) ∷ []) in
+    first-none (ofCall c) looked p
+    ∙ ap (λ (t : Bool). first (cond t [] (ofTuples ts (decoded c) room) ++ cond t [] (stop 10 (full C (decoded c) ts) ∷ []))) e
+
+-- with nothing as the space nothing else is asked
+pub nothing-passes : (C : ℕ) (ts : Tuples) (c : Call) (room : ℕ) → first (ofCall c) ≡ none → selectsNothing c ≡ true → refusalOf C ts c room ≡ none
+nothing-passes C ts c room p e = not-looked-up C ts c room e ∙ p
+
+-- a call that passes all
+pub all-pass : (C : ℕ) (ts : Tuples) (c : Call) (room x : ℕ) → first (ofCall c) ≡ none → selectsNothing c ≡ false
+    → x ≡ stopNumber (first (ofStore C ts (decoded c) room)) → x ≡ 0 → refusalOf C ts c room ≡ none
+all-pass C ts c room x p e X z = store-decides C ts c room p e ∙ store-passes C ts (decoded c) room x X z
+
+pub store-stops : (C : ℕ) (ts : Tuples) (c : Call) (room x : ℕ) → first (ofCall c) ≡ none → selectsNothing c ≡ false
+    → x ≡ stopNumber (first (ofStore C ts (decoded c) room)) → x ≢ 0 → refusalOf C ts c room ≡ some x
+store-stops C ts c room x p e X h =
+    store-decides C ts c room p e ∙ some-exactly (first (ofStore C ts (decoded c) room)) x h .0 (sym X)
+
+-- ---- the row of a call
+
+module _ (c : Call) (row : Row) (R : row ≡ rowOf (c .operator)) where
+  pub row-known : not (row .known) ≡ noOperator c
+  unfolding noOperator
+  row-known = ap (λ (r : Row). not (r .known)) R
+
+  pub row-reads : row .reads ≡ readsOf (c .operator)
+  row-reads = ap (λ (r : Row). r .reads) R
+
+  pub row-asks : row .asks ≡ asksOf (c .operator)
+  row-asks = ap (λ (r : Row). r .asks) R
 
 -- ---- 9
 
-pub short-as : (op known : Operator) (c : Call) (ts : Tuples) (room : ℕ) (x : Bool) → op ≡ operatorOf (c .operator) → op ≡ known
-    → x ≡ ltb room (length (wouldList known c ts)) → x ≡ listShort c ts room
+pub short-counted : (l : Listing) (f : Fields) (ts : Tuples) (room k : ℕ) → k ≡ length (listed l f ts) → ltb room k ≡ ltb room (length (listed l f ts))
+short-counted l f ts room k K = ap (ltb room) K
+
+pub short-as : (d : Decoded) (op : Operator) (ts : Tuples) (room : ℕ) (x : Bool) → d .operator ≡ op
+    → x ≡ ltb room (length (wouldList op (d .fields) ts)) → x ≡ listShort d ts room
 unfolding listShort
-short-as op known c ts room x O K X = X ∙ ap (λ (o : Operator). ltb room (length (wouldList o c ts))) (sym K ∙ O)
+short-as d op ts room x K X = X ∙ ap (λ (o : Operator). ltb room (length (wouldList o (d .fields) ts))) (sym K)
 
 -- an operator that lists nothing
-pub never-short : (op known : Operator) (c : Call) (ts : Tuples) (room : ℕ) → op ≡ operatorOf (c .operator) → op ≡ known → wouldList known c ts ≡ []
-    → false ≡ listShort c ts room
-never-short op known c ts room O K e =
-    short-as op known c ts room false O K (sym (ap (λ (ps : List Pair). ltb room (length ps)) e ∙ le-ltb room 0 (omega arith)))
+pub never-short : (d : Decoded) (op : Operator) (ts : Tuples) (room : ℕ) → d .operator ≡ op → wouldList op (d .fields) ts ≡ [] → false ≡ listShort d ts room
+never-short d op ts room K e =
+    short-as d op ts room false K (sym (ap (λ (ps : List Pair). ltb room (length ps)) e ∙ le-ltb room 0 (omega arith)))
+
+-- the names that an S operator asks for
+pub short-names : (d : Decoded) (l : Listing) → Unstopped d → d .operator ≡ Lists l → NamesAsked l (d .fields)
+short-names d l U K =
+    subst (λ (x : Decoded). NamesAsked l (x .fields)) (sym (U .same))
+    (names-asked l (U .call) (U .known) (U .named) (sym (ap (λ (x : Decoded). x .operator) (U .same)) ∙ K))
 
 -- ---- 10
 
-pub would-add : (op known : Operator) (c : Call) (ts : Tuples) (x : ℕ) → op ≡ operatorOf (c .operator) → op ≡ known
-    → x ≡ length (missing (wouldAdd known c) ts) → x ≡ length (missing (wouldAdd (operatorOf (c .operator)) c) ts)
-would-add op known c ts x O K X = X ∙ ap (λ (o : Operator). length (missing (wouldAdd o c) ts)) (sym K ∙ O)
+pub would-add : (d : Decoded) (op : Operator) (ts : Tuples) (x : ℕ) → d .operator ≡ op
+    → x ≡ length (missing (wouldAdd op (d .fields)) ts) → x ≡ length (missing (wouldAdd (d .operator) (d .fields)) ts)
+would-add d op ts x K X = X ∙ ap (λ (o : Operator). length (missing (wouldAdd o (d .fields)) ts)) (sym K)
+
+-- an operator that adds nothing
+pub adds-none : (d : Decoded) (op : Operator) (ts : Tuples) → d .operator ≡ op → wouldAdd op (d .fields) ≡ [] → 0 ≡ length (missing (wouldAdd (d .operator) (d .fields)) ts)
+unfolding missing
+adds-none d op ts K e = would-add d op ts 0 K (sym (ap (λ (ks : List Key). length (missing ks ts)) e))
 
 pub used-fits : (b : List ℕ) (x y : ℕ) → Linked b → x ≡ word b 0 → y ≡ word b 3 → y ≤ x
 used-fits b x y L X Y = omega (arith, X, Y, L .chains .capacity, L .chains .counted, length-tuples b, tuples-fit b (L .chains))
@@ -143,7 +191,7 @@ left-over C t a h =
     equal (ltb (C - t) a) (ltb C (t + a)) (λ e. lt-ltb C (t + a) (omega (arith, h, ltb-true (C - t) a e)))
     (λ e. lt-ltb (C - t) a (omega (arith, h, ltb-true C (t + a) e)))
 
-pub full-told : (b : List ℕ) (c : Call) (f a : ℕ) → Linked b → f ≡ capacityOf b - length (tuplesOf b)
-    → a ≡ length (missing (wouldAdd (operatorOf (c .operator)) c) (tuplesOf b)) → ltb f a ≡ full (capacityOf b) c (tuplesOf b)
+pub full-told : (b : List ℕ) (d : Decoded) (r a : ℕ) → Linked b → r ≡ capacityOf b - length (tuplesOf b)
+    → a ≡ length (missing (wouldAdd (d .operator) (d .fields)) (tuplesOf b)) → ltb r a ≡ full (capacityOf b) d (tuplesOf b)
 unfolding full
-full-told b c f a L F A = ap₂ ltb F A ∙ left-over (capacityOf b) (length (tuplesOf b)) _ (tuples-fit b (L .chains))
+full-told b d r a L F A = ap₂ ltb F A ∙ left-over (capacityOf b) (length (tuplesOf b)) _ (tuples-fit b (L .chains))

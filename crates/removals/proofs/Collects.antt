@@ -1,28 +1,28 @@
 -- Nodes removed one after the other (specs/Collected.antt).
+use mathlib.Core.Bool.{true}
 use mathlib.Core.List.{List, [], _∷_, _++_, map}
 use mathlib.Core.Logic.{_≢_}
 use mathlib.Core.Path.{_≡_, refl, sym, ap, _∙_, subst}
 use Prim.Native.Nat.{ℕ, zero, suc, _+_, _*_, _≤_, _<_}
 use native.Mathlib.Omega.{arith}
 use lib.ListN.{length, take, drop, getD, length-append, length-map}
-use Rattle.model.specs.declared.Call.{Call}
+use Rattle.model.specs.declared.Fields.{Fields}
 use Rattle.model.specs.declared.Direction.{Direction}
 use Rattle.model.specs.declared.Listing.{Listing}
 use Rattle.model.specs.declared.Pair.{Pair}
 use Rattle.model.specs.Pairs.{edgeOf, nodeOf, pairsOf, nodeNames, withEdge}
 use Rattle.model.specs.OneCall.{nameCount, pack}
 use Rattle.model.specs.Tuples.{Tuples, remove}
-use Rattle.layouts.specs.Buffer.{tuplesOf}
+use Rattle.layouts.specs.Buffer.{tuplesOf, isStore}
 use Rattle.model.specs.Rules.{TupleRules}
-use Rattle.model.specs.Steps.{nOf, gOf, sOf, nodeTaken, removeNodes, listed}
+use Rattle.model.specs.Steps.{nodeTaken, removeNodes, listed}
 use Rattle.model.proofs.Entries.{Member, pairs-sound, nodes-sound, only-sound}
 use Rattle.model.proofs.Steps.{every-member, pair-named}
 use Rattle.chain.specs.Links.{Linked, Edited}
-use Rattle.edit.proofs.Built.{unedited}
+use Rattle.edit.proofs.Built.{unedited, store-tuples}
 use Rattle.entries.specs.Queries.{Readable, written}
 use Rattle.entries.proofs.Counted.{entries-most}
-use Rattle.steps.specs.declared.Fields.{Fields}
-use Rattle.steps.specs.Operate.{fieldsOf}
+use Rattle.model.specs.declared.Fields.{Fields}
 use Rattle.steps.proofs.Named.{edited-twice}
 use Rattle.listings.specs.Lists.{queryOf, NamesAsked}
 use Rattle.listings.proofs.Asked.{asked-listed}
@@ -105,16 +105,19 @@ unfolding written
 collected-named ps l₀ l count e f h i low z =
     named-written ps (drop (length ps) l₀) h i (omega (arith, low, f)) (ap (λ (xs : List ℕ). getD xs i 0) (sym e) ∙ z)
 
-pub collected-removed : {b b′ : List ℕ} (ps : List Pair) (l₀ l : List ℕ) (count : ℕ) (c : Call) (f : Fields)
-    → l ≡ written ps l₀ → count ≡ length ps → NodesListed ps → f ≡ fieldsOf c
-    → Edited b b′ (removeEach (f .s) (take count l) (tuplesOf b)) → Edited b b′ (removeNodes (sOf c) ps (tuplesOf b))
+pub collected-removed : {b b′ : List ℕ} (ps : List Pair) (l₀ l : List ℕ) (count s : ℕ)
+    → l ≡ written ps l₀ → count ≡ length ps → NodesListed ps
+    → Edited b b′ (removeEach s (take count l) (tuplesOf b)) → Edited b b′ (removeNodes s ps (tuplesOf b))
 unfolding written
-collected-removed {b} {b′} ps l₀ l count c f e n h F E =
-    subst (Edited b b′)
-    ((λ i. removeEach (F i .s) (take (n i) (e i)) (tuplesOf b)) ∙ each-node (sOf c) ps (drop (length ps) l₀) (tuplesOf b) h) E
+collected-removed {b} {b′} ps l₀ l count s e n h E =
+    subst (Edited b b′) ((λ i. removeEach s (take (n i) (e i)) (tuplesOf b)) ∙ each-node s ps (drop (length ps) l₀) (tuplesOf b) h) E
 
-pub listed-most : {b : List ℕ} (l : Listing) (c : Call) → Readable b → NamesAsked l c → length (listed l c (tuplesOf b)) ≤ 4096
-listed-most {b} l c R asked = subst (λ (ps : List Pair). length ps ≤ 4096) (asked-listed l c (tuplesOf b) asked) (entries-most b (queryOf l c) R)
+pub listed-most : {b : List ℕ} (l : Listing) (f : Fields) → Readable b → NamesAsked l f → length (listed l f (tuplesOf b)) ≤ 4096
+listed-most {b} l f R asked = subst (λ (ps : List Pair). length ps ≤ 4096) (asked-listed l f (tuplesOf b) asked) (entries-most b (queryOf l f) R)
+
+-- that many fit the local list, and the count is no greater
+pub collected-most : {b : List ℕ} (l : Listing) (f : Fields) (count : ℕ) → Readable b → NamesAsked l f → count ≡ length (listed l f (tuplesOf b)) → count ≤ 4096
+collected-most {b} l f count R asked e = subst (λ (n : ℕ). n ≤ 4096) (sym e) (listed-most l f R asked)
 
 -- ---- the nodes of pairs
 
@@ -124,13 +127,20 @@ names-listed ps h =
     (λ q e.
     let r = nodes-sound ps q e in (ap edgeOf (r .2), subst (λ (p : Pair). nodeOf p ≢ 0) (sym (r .2)) (h (r .0) (r .1))))
 
-pub neighbours-listed : (d : Direction) (c : Call) (ts : Tuples) → TupleRules ts → NodesListed (listed (Listing.N d) c ts)
+pub neighbours-listed : (d : Direction) (f : Fields) (ts : Tuples) → TupleRules ts → NodesListed (listed (Listing.N d) f ts)
 unfolding listed
-neighbours-listed d c ts R =
-    names-listed (pairsOf d (sOf c) (nOf c) ts) (λ p e. pair-named d (sOf c) (nOf c) ts R p (pairs-sound d (sOf c) (nOf c) ts p e))
+neighbours-listed d f ts R =
+    names-listed (pairsOf d (f .s) (f .n) ts) (λ p e. pair-named d (f .s) (f .n) ts R p (pairs-sound d (f .s) (f .n) ts p e))
 
-pub neighbours-by-edge : (d : Direction) (c : Call) (ts : Tuples) → TupleRules ts → NodesListed (listed (Listing.NG d) c ts)
+pub neighbours-by-edge : (d : Direction) (f : Fields) (ts : Tuples) → TupleRules ts → NodesListed (listed (Listing.NG d) f ts)
 unfolding listed
-neighbours-by-edge d c ts R =
-    names-listed (withEdge (gOf c) (pairsOf d (sOf c) (nOf c) ts))
-    (λ p e. pair-named d (sOf c) (nOf c) ts R p (pairs-sound d (sOf c) (nOf c) ts p (only-sound _ (pairsOf d (sOf c) (nOf c) ts) p e .0)))
+neighbours-by-edge d f ts R =
+    names-listed (withEdge (f .g) (pairsOf d (f .s) (f .n) ts))
+    (λ p e. pair-named d (f .s) (f .n) ts R p (pairs-sound d (f .s) (f .n) ts p (only-sound _ (pairsOf d (f .s) (f .n) ts) p e .0)))
+
+-- what a D operator that collects finds on a store
+pub nodes-of-store : (b : List ℕ) (d : Direction) (f : Fields) → isStore b ≡ true → NodesListed (listed (Listing.N d) f (tuplesOf b))
+nodes-of-store b d f e = neighbours-listed d f (tuplesOf b) (store-tuples b e)
+
+pub nodes-by-edge-of-store : (b : List ℕ) (d : Direction) (f : Fields) → isStore b ≡ true → NodesListed (listed (Listing.NG d) f (tuplesOf b))
+nodes-by-edge-of-store b d f e = neighbours-by-edge d f (tuplesOf b) (store-tuples b e)

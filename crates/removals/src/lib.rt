@@ -1,10 +1,9 @@
 // What the D operators remove from a store.
 // Each function is pub for the crate above, which has proved what it requires.
-use model::Call;
+use located::Near;
 use model::Direction;
+use model::Fields;
 use model::Listing;
-use steps::Fields;
-use steps::Near;
 use taken::EdgesOf;
 use taken::NodeOf;
 use taken::Selection;
@@ -13,16 +12,16 @@ ghost use mathlib.Core.Path.{_≡_};
 ghost use Rattle.model.specs.declared.Removal.{Removal};
 ghost use Rattle.model.specs.Tuples.{remove};
 ghost use Rattle.layouts.specs.Buffer.{tuplesOf, isStore};
-ghost use Rattle.model.specs.Steps.{nOf, gOf, mOf, sOf, edgesTaken, nodeTaken, spaceTaken, destroyed, listed, removeNodes};
+ghost use Rattle.model.specs.Steps.{edgesTaken, nodeTaken, spaceTaken, destroyed, listed, removeNodes};
 ghost use Rattle.chain.specs.Links.{Linked, Hint, Edited};
 ghost use Rattle.taken.specs.Selections.{passes};
-ghost use Rattle.steps.specs.Operate.{NearIn, edgesOf};
+ghost use Rattle.located.specs.Located.{NearIn};
 ghost use mathlib.Core.Bool.{true};
 ghost use Prim.Native.Nat.{_≤_};
 ghost use lib.ListN.{length, take};
 ghost use Rattle.entries.specs.Queries.{Readable};
 ghost use Rattle.listings.specs.Lists.{NamesAsked};
-ghost use Rattle.removals.specs.Collected.{removeEach, NamedBelow, NodesListed};
+ghost use Rattle.removals.specs.Collected.{edgesOf, removeEach, NamedBelow, NodesListed};
 
 // Removes the edges of the pairs of node n in space s with edge g and node m (0: any).
 fn remove_edges(b: &mut [u32], hint: usize, e: EdgesOf)
@@ -62,56 +61,50 @@ fn edges_of(d: Direction, f: Fields, g: u32, m: u32) -> EdgesOf
 }
 
 // D 12–14: removes the edges of the call's pair.
-pub fn destroy_pair(b: &mut [u32], near: Near, d: Direction, c: Call)
-    requires { ⌜ Linked (now b) × NearIn (now b) near × (gOf c ≢ 0) × (mOf c ≢ 0) ⌝ }
-    ensures { λ _. ⌜ Edited (now (b .entry)) (now (b .exit)) (destroyed (Removal.P d) c (tuplesOf (now (b .entry)))) ⌝ }
+pub fn destroy_pair(b: &mut [u32], near: Near, d: Direction, f: Fields)
+    requires { ⌜ Linked (now b) × NearIn (now b) near × (f .g ≢ 0) × (f .m ≢ 0) ⌝ }
+    ensures { λ _. ⌜ Edited (now (b .entry)) (now (b .exit)) (destroyed (Removal.P d) f (tuplesOf (now (b .entry)))) ⌝ }
 {
-    let f = steps::fields_of(c);
     remove_edges(b, near.space, edges_of(d, f, f.g, f.m));
 }
 
 // D 15–17: removes the edges of the pairs of node n.
-pub fn destroy_edges(b: &mut [u32], near: Near, d: Direction, c: Call)
+pub fn destroy_edges(b: &mut [u32], near: Near, d: Direction, f: Fields)
     requires { ⌜ Linked (now b) × NearIn (now b) near ⌝ }
-    ensures { λ _. ⌜ Edited (now (b .entry)) (now (b .exit)) (destroyed (Removal.G d) c (tuplesOf (now (b .entry)))) ⌝ }
+    ensures { λ _. ⌜ Edited (now (b .entry)) (now (b .exit)) (destroyed (Removal.G d) f (tuplesOf (now (b .entry)))) ⌝ }
 {
-    let f = steps::fields_of(c);
     remove_edges(b, near.space, edges_of(d, f, 0, 0));
 }
 
 // D 18–20: removes the edges of the pairs of node n with edge g.
-pub fn destroy_edges_named(b: &mut [u32], near: Near, d: Direction, c: Call)
-    requires { ⌜ Linked (now b) × NearIn (now b) near × (gOf c ≢ 0) ⌝ }
-    ensures { λ _. ⌜ Edited (now (b .entry)) (now (b .exit)) (destroyed (Removal.GG d) c (tuplesOf (now (b .entry)))) ⌝ }
+pub fn destroy_edges_named(b: &mut [u32], near: Near, d: Direction, f: Fields)
+    requires { ⌜ Linked (now b) × NearIn (now b) near × (f .g ≢ 0) ⌝ }
+    ensures { λ _. ⌜ Edited (now (b .entry)) (now (b .exit)) (destroyed (Removal.GG d) f (tuplesOf (now (b .entry)))) ⌝ }
 {
-    let f = steps::fields_of(c);
     remove_edges(b, near.space, edges_of(d, f, f.g, 0));
 }
 
 // D 21–23: removes the edges of the pairs of node n with node m.
-pub fn destroy_edges_between(b: &mut [u32], near: Near, d: Direction, c: Call)
-    requires { ⌜ Linked (now b) × NearIn (now b) near × (mOf c ≢ 0) ⌝ }
-    ensures { λ _. ⌜ Edited (now (b .entry)) (now (b .exit)) (destroyed (Removal.GN d) c (tuplesOf (now (b .entry)))) ⌝ }
+pub fn destroy_edges_between(b: &mut [u32], near: Near, d: Direction, f: Fields)
+    requires { ⌜ Linked (now b) × NearIn (now b) near × (f .m ≢ 0) ⌝ }
+    ensures { λ _. ⌜ Edited (now (b .entry)) (now (b .exit)) (destroyed (Removal.GN d) f (tuplesOf (now (b .entry)))) ⌝ }
 {
-    let f = steps::fields_of(c);
     remove_edges(b, near.space, edges_of(d, f, 0, f.m));
 }
 
 // D 49: removes node n, with its edges.
-pub fn destroy_node(b: &mut [u32], near: Near, c: Call)
-    requires { ⌜ Linked (now b) × NearIn (now b) near × (nOf c ≢ 0) ⌝ }
-    ensures { λ _. ⌜ Edited (now (b .entry)) (now (b .exit)) (destroyed Removal.UN c (tuplesOf (now (b .entry)))) ⌝ }
+pub fn destroy_node(b: &mut [u32], near: Near, f: Fields)
+    requires { ⌜ Linked (now b) × NearIn (now b) near × (f .n ≢ 0) ⌝ }
+    ensures { λ _. ⌜ Edited (now (b .entry)) (now (b .exit)) (destroyed Removal.UN f (tuplesOf (now (b .entry)))) ⌝ }
 {
-    let f = steps::fields_of(c);
     remove_node(b, near.space, NodeOf { s: f.s, n: f.n });
 }
 
 // D 55: removes a space and all in it.
-pub fn destroy_space(b: &mut [u32], near: Near, c: Call)
-    requires { ⌜ Linked (now b) × NearIn (now b) near × (sOf c ≢ 0) ⌝ }
-    ensures { λ _. ⌜ Edited (now (b .entry)) (now (b .exit)) (destroyed Removal.US c (tuplesOf (now (b .entry)))) ⌝ }
+pub fn destroy_space(b: &mut [u32], near: Near, f: Fields)
+    requires { ⌜ Linked (now b) × NearIn (now b) near × (f .s ≢ 0) ⌝ }
+    ensures { λ _. ⌜ Edited (now (b .entry)) (now (b .exit)) (destroyed Removal.US f (tuplesOf (now (b .entry)))) ⌝ }
 {
-    let f = steps::fields_of(c);
     remove_space(b, near.space, f.s);
 }
 
@@ -130,28 +123,27 @@ fn remove_each(b: &mut [u32], s: u32, nodes: &[u32], count: usize)
 }
 
 // Removes from the call's space the nodes that an S operator lists; they are at most two for each tuple.
-fn remove_listed(b: &mut [u32], near: Near, l: Listing, c: Call)
-    requires { ⌜ Readable (now b) × NearIn (now b) near × NamesAsked l c × NodesListed (listed l c (tuplesOf (now b))) ⌝ }
-    ensures { λ _. ⌜ Edited (now (b .entry)) (now (b .exit)) (removeNodes (sOf c) (listed l c (tuplesOf (now (b .entry)))) (tuplesOf (now (b .entry)))) ⌝ }
+fn remove_listed(b: &mut [u32], near: Near, l: Listing, f: Fields)
+    requires { ⌜ Readable (now b) × NearIn (now b) near × NamesAsked l f × NodesListed (listed l f (tuplesOf (now b))) ⌝ }
+    ensures { λ _. ⌜ Edited (now (b .entry)) (now (b .exit)) (removeNodes (f .s) (listed l f (tuplesOf (now (b .entry)))) (tuplesOf (now (b .entry)))) ⌝ }
 {
     let mut nodes: [u32; 4096] = [0; 4096];
-    let count = listings::write_listed(b, near, l, c, &mut nodes);
-    let f = steps::fields_of(c);
+    let count = listings::write_listed(b, near, l, f, &mut nodes);
     remove_each(b, f.s, &nodes, count);
 }
 
 // D 24–26: removes the nodes of the pairs of node n.
-pub fn destroy_nodes(b: &mut [u32], near: Near, d: Direction, c: Call)
+pub fn destroy_nodes(b: &mut [u32], near: Near, d: Direction, f: Fields)
     requires { ⌜ (isStore (now b) ≡ true) × NearIn (now b) near ⌝ }
-    ensures { λ _. ⌜ Edited (now (b .entry)) (now (b .exit)) (destroyed (Removal.N d) c (tuplesOf (now (b .entry)))) ⌝ }
+    ensures { λ _. ⌜ Edited (now (b .entry)) (now (b .exit)) (destroyed (Removal.N d) f (tuplesOf (now (b .entry)))) ⌝ }
 {
-    remove_listed(b, near, Listing::N(d), c);
+    remove_listed(b, near, Listing::N(d), f);
 }
 
 // D 27–29: removes the nodes of the pairs of node n with edge g.
-pub fn destroy_nodes_by_edge(b: &mut [u32], near: Near, d: Direction, c: Call)
-    requires { ⌜ (isStore (now b) ≡ true) × NearIn (now b) near × (gOf c ≢ 0) ⌝ }
-    ensures { λ _. ⌜ Edited (now (b .entry)) (now (b .exit)) (destroyed (Removal.NG d) c (tuplesOf (now (b .entry)))) ⌝ }
+pub fn destroy_nodes_by_edge(b: &mut [u32], near: Near, d: Direction, f: Fields)
+    requires { ⌜ (isStore (now b) ≡ true) × NearIn (now b) near × (f .g ≢ 0) ⌝ }
+    ensures { λ _. ⌜ Edited (now (b .entry)) (now (b .exit)) (destroyed (Removal.NG d) f (tuplesOf (now (b .entry)))) ⌝ }
 {
-    remove_listed(b, near, Listing::NG(d), c);
+    remove_listed(b, near, Listing::NG(d), f);
 }

@@ -8,7 +8,7 @@ use borrow.Author.Tests.{le-leb, leb-true}
 use lib.Dec.{leb}
 use lib.ListN.{length, take, drop, length-drop}
 use lib.Seq.{length-take-le}
-use Rattle.model.specs.Machine.{State, Request, machine}
+use Rattle.model.specs.Machine.{State, CallRequest, Request, calling, machine}
 use Rattle.layouts.specs.Buffer.{capacityOf, tuplesOf, isStore}
 use Rattle.model.specs.CallLists.{exchangeOf, requests}
 use Rattle.model.proofs.Bools.{and-both, and-left, and-right, clash, failed, not-yes, not-no}
@@ -17,14 +17,14 @@ use Rattle.run.specs.Runs.{callMade, callsMade, roomsOf, hasRoom, Left, 
 use Rattle.run.proofs.WordLaws.{calls-length}
 
 -- the calls that are made are those that were asked
-pub requests-made : (C : ℕ) (ts : State) (rs : List Request) (l : List ℕ) → roomsOf rs ≤ length l → requests (map exchangeOf (callsMade C ts rs l)) ≡ rs
+pub requests-made : (C : ℕ) (ts : State) (rs : List CallRequest) (l : List ℕ) → roomsOf rs ≤ length l → requests (map exchangeOf (callsMade C ts rs l)) ≡ map calling rs
 unfolding callsMade callMade roomsOf
 requests-made C ts [] l h = refl
 requests-made C ts (r ∷ rs) l h =
     let size : length (take (r .room) l) ≡ r .room = length-take-le (r .room) l (omega arith) in
-    let rest : requests (map exchangeOf (callsMade C (machine C ts (r .call) (r .room) .state) rs (drop (r .room) l))) ≡ rs
+    let rest : requests (map exchangeOf (callsMade C (machine C ts (r .call) (r .room) .state) rs (drop (r .room) l))) ≡ map calling rs
     = requests-made C (machine C ts (r .call) (r .room) .state) rs (drop (r .room) l) (omega (arith, length-drop (r .room) l)) in
-    ap₂ (λ (n : ℕ) (qs : List Request). record { call = r .call; room = n } ∷ qs) size rest
+    ap₂ (λ (n : ℕ) (qs : List Request). calling (record { call = r .call; room = n }) ∷ qs) size rest
 
 -- the lists fit, as the code tests it
 pub lists-wide : (ws l : List ℕ) (f : Bool) → f ≡ leb (roomsOf (callsFrom ws (callCount ws) 0)) (length l) → not f ≡ false

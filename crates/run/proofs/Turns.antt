@@ -8,7 +8,7 @@ use lib.ListN.{length, take, drop, length-append, length-drop, take-append-drop}
 use lib.Seq.{length-take-le, take-at, drop-at}
 use Rattle.model.specs.declared.Call.{Call}
 use Rattle.model.specs.declared.Answer.{Answer}
-use Rattle.model.specs.Machine.{State, Request, machine}
+use Rattle.model.specs.Machine.{State, CallRequest, machine}
 use Rattle.layouts.specs.Buffer.{capacityOf, tuplesOf, isStore}
 use Rattle.model.specs.Traces.{Trace, end, then}
 use Rattle.model.specs.OneCall.{answerOf, listCount, listAfter, OnStore}
@@ -87,7 +87,7 @@ module _ (ws : List ℕ) (count : ℕ) (b₀ a₀ l₀ : List ℕ) where
   run-start s h =
       let all : callsFrom ws (count - 0) 0 ≡ callsFrom ws count 0 = calls-start ws count in
       let made : restMade ws count b₀ l₀ 0 0 ≡ allMade ws count b₀ l₀
-      = ap (λ (rs : List Request). callsMade (capacityOf b₀) (tuplesOf b₀) rs l₀) all in
+      = ap (λ (rs : List CallRequest). callsMade (capacityOf b₀) (tuplesOf b₀) rs l₀) all in
       record {
         within = omega arith;
         store = s;
@@ -105,7 +105,7 @@ module _ (ws : List ℕ) (count : ℕ) (b₀ a₀ l₀ : List ℕ) where
   unfolding callsMade answersAfter listsAfter
   run-end b a l at i R h =
       let none-left : restMade ws count b l at i ≡ []
-      = ap (λ (rs : List Request). callsMade (capacityOf b) (tuplesOf b) rs (drop at l)) (calls-end ws count i h) in
+      = ap (λ (rs : List CallRequest). callsMade (capacityOf b) (tuplesOf b) rs (drop at l)) (calls-end ws count i h) in
       record {
         trace = R .trace b (subst (λ (xs : List CallMade). Trace (OneMade stored) b xs b) (sym none-left) end);
         answered =
@@ -160,12 +160,12 @@ module _ (ws : List ℕ) (count : ℕ) (b₀ a₀ l₀ : List ℕ) where
     step-made : restMade ws count b l at i ≡ madeAt ws b l at i ∷ restMade ws count b′ (listsWith ws l at i part) (at + roomAt ws i) (i + 1)
     unfolding callsMade
     step-made =
-        let rs : List Request = callsFrom ws (count - (i + 1)) (i + 1) in
+        let rs : List CallRequest = callsFrom ws (count - (i + 1)) (i + 1) in
         let rest : callsMade (capacityOf b′) (tuplesOf b′) rs (drop (at + roomAt ws i) (listsWith ws l at i part))
         ≡ callsMade (capacityOf b) (machine (capacityOf b) (tuplesOf b) (callAt ws i) (roomAt ws i) .state) rs (behind ws l at i)
         = ap₂ (λ (C : ℕ) (ts : State). callsMade C ts rs (drop (at + roomAt ws i) (listsWith ws l at i part))) capacity-same state-next
         ∙ ap (callsMade (capacityOf b) (machine (capacityOf b) (tuplesOf b) (callAt ws i) (roomAt ws i) .state) rs) lists-rest in
-        ap (λ (qs : List Request). callsMade (capacityOf b) (tuplesOf b) qs (drop at l)) (calls-next ws count i more)
+        ap (λ (qs : List CallRequest). callsMade (capacityOf b) (tuplesOf b) qs (drop at l)) (calls-next ws count i more)
         ∙ ap (λ (xs : List CallMade). madeAt ws b l at i ∷ xs) (sym rest)
 
     -- the call as one call of a list of calls

@@ -6,7 +6,7 @@ use mathlib.Core.Path.{_≡_}
 use Prim.Native.Nat.{ℕ, _+_, _*_}
 use lib.Dec.{leb}
 use lib.ListN.{length, take, drop}
-use Rattle.model.specs.Machine.{State, Request, machine}
+use Rattle.model.specs.Machine.{State, CallRequest, calling, machine}
 use Rattle.model.specs.Traces.{Trace}
 use Rattle.model.specs.OneCall.{answerOf, listAfter, OnStore}
 use Rattle.model.specs.CallLists.{CallMade, OneMade, MeetsDemand1, exchangeOf, requests, WholeList}
@@ -16,7 +16,7 @@ use Rattle.run.specs.Words.{answerWords, callsIn, kindOf, numberOf, putA
 -- ---- what the machine makes of a list of calls
 
 -- one call of the machine, with the list that is lent to it
-unfoldable pub callMade : ℕ → State → Request → List ℕ → CallMade
+unfoldable pub callMade : ℕ → State → CallRequest → List ℕ → CallMade
 callMade C ts r l =
     record {
       call = r .call;
@@ -26,7 +26,7 @@ callMade C ts r l =
     }
 
 -- the calls one after the other; their answer lists are parts of one list, one after the other
-unfoldable pub callsMade : ℕ → State → List Request → List ℕ → List CallMade
+unfoldable pub callsMade : ℕ → State → List CallRequest → List ℕ → List CallMade
 callsMade C ts [] ls = []
 callsMade C ts (r ∷ rs) ls =
     callMade C ts r (take (r .room) ls) ∷ callsMade C (machine C ts (r .call) (r .room) .state) rs (drop (r .room) ls)
@@ -44,12 +44,12 @@ listsAfter (x ∷ xs) ls = x .left ++ listsAfter xs (drop (length (x .lent)) ls)
 -- ---- is there room
 
 -- the sum of the lengths of the calls' answer lists
-unfoldable pub roomsOf : List Request → ℕ
+unfoldable pub roomsOf : List CallRequest → ℕ
 roomsOf [] = 0
 roomsOf (r ∷ rs) = r .room + roomsOf rs
 
 -- two words for each answer, and the answer lists
-unfoldable pub hasRoom : List Request → List ℕ → List ℕ → Bool
+unfoldable pub hasRoom : List CallRequest → List ℕ → List ℕ → Bool
 hasRoom rs answers lists = leb (answerWords * length rs) (length answers) && leb (roomsOf rs) (length lists)
 
 -- ---- a run
@@ -71,7 +71,7 @@ pub record Left (xs : List CallMade) (b answers lists b′ answers′ lists′ :
 -- every call was made, in its order and with its own part of the lists
 pub record AllRun (b calls answers lists : List ℕ) (r : ℕ) (b′ answers′ lists′ : List ℕ) : Type 0 where
   pub result : r ≡ 0
-  pub asked : requests (map exchangeOf (callsMade (stored .capacityOf b) (stored .stateOf b) (callsIn calls) lists)) ≡ callsIn calls
+  pub asked : requests (map exchangeOf (callsMade (stored .capacityOf b) (stored .stateOf b) (callsIn calls) lists)) ≡ map calling (callsIn calls)
   pub left : Left (callsMade (stored .capacityOf b) (stored .stateOf b) (callsIn calls) lists) b answers lists b′ answers′ lists′
 
 -- the run of the words `calls` on the buffer b gives r and leaves the buffer b′, the answers and the lists
@@ -94,7 +94,7 @@ pub record RunDemand1 (b calls answers lists : List ℕ) (r : ℕ) (b′ answers
 -- with all that demand 3 claims of them, and the slices hold their answers and their lists
 pub record WholeRun (C : ℕ) (ts : State) (calls answers lists b′ answers′ lists′ : List ℕ) : Type 0 where
   pub whole : WholeList stored C ts (map exchangeOf (callsMade C ts (callsIn calls) lists)) b′
-  pub asked : requests (map exchangeOf (callsMade C ts (callsIn calls) lists)) ≡ callsIn calls
+  pub asked : requests (map exchangeOf (callsMade C ts (callsIn calls) lists)) ≡ map calling (callsIn calls)
   pub answered : answers′ ≡ answersAfter (callsMade C ts (callsIn calls) lists) answers
   pub listed : lists′ ≡ listsAfter (callsMade C ts (callsIn calls) lists) lists
 

@@ -12,7 +12,7 @@ use Rattle.model.specs.declared.Space.{Space}
 use Rattle.model.specs.declared.Space.the-variants.{Universe, Numbered, Nothing}
 use Rattle.model.specs.declared.Answer.{Answer}
 use Rattle.model.specs.declared.Answer.the-variants.{Refusal, Name, Value, YesNo, List as Listed}
-use Rattle.model.specs.Machine.{Request}
+use Rattle.model.specs.Machine.{CallRequest}
 use Rattle.layouts.specs.Buffer.{word}
 use Rattle.model.specs.OneCall.{nameCount}
 
@@ -52,11 +52,11 @@ callAt ws i =
 abbrev pub roomAt : List ℕ → ℕ → ℕ
 roomAt ws i = word ws (callWords * i + 5)
 
-abbrev pub requestAt : List ℕ → ℕ → Request
+abbrev pub requestAt : List ℕ → ℕ → CallRequest
 requestAt ws i = record { call = callAt ws i; room = roomAt ws i }
 
 -- the calls from number i on, so many of them
-unfoldable pub callsFrom : List ℕ → ℕ → ℕ → List Request
+unfoldable pub callsFrom : List ℕ → ℕ → ℕ → List CallRequest
 callsFrom ws zero i = []
 callsFrom ws (suc k) i = requestAt ws i ∷ callsFrom ws k (i + 1)
 
@@ -65,7 +65,7 @@ abbrev pub callCount : List ℕ → ℕ
 callCount ws = length ws / callWords
 
 -- the calls that stand in a list of words
-unfoldable pub callsIn : List ℕ → List Request
+unfoldable pub callsIn : List ℕ → List CallRequest
 callsIn ws = callsFrom ws (callCount ws) 0
 
 -- ---- answers

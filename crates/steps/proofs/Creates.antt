@@ -1,5 +1,5 @@
--- How many tuples C adds, and that there is room for each (specs/Operate.antt).
-use mathlib.Core.Bool.{Bool, true, false, cond, _||_}
+-- How many tuples C adds, and that there is room for each (specs/Objects.antt).
+use mathlib.Core.Bool.{Bool, true, false, cond, not, _||_}
 use mathlib.Core.List.{List, [], _∷_, _++_}
 use mathlib.Core.Logic.{⊎-elim, _≢_}
 use mathlib.Core.Path.{_≡_, refl, sym, ap, ap₂, _∙_, subst}
@@ -8,7 +8,7 @@ use mir.Val.{Fits}
 use Prim.Native.Nat.{ℕ, suc, _+_, _≤_, _<_}
 use native.Mathlib.Omega.{arith}
 use lib.ListN.{length}
-use Rattle.model.specs.declared.Call.{Call}
+use Rattle.model.specs.declared.Fields.{Fields}
 use Rattle.model.specs.declared.Direction.the-variants.{Outpointing, Inpointing, Adjacent}
 use Rattle.model.specs.declared.Key.{Key}
 use Rattle.model.specs.declared.Object.{Object}
@@ -16,15 +16,16 @@ use Rattle.model.specs.Ordered.{Ascending, holds}
 use Rattle.model.specs.Keys.{keyOf, compareKeys, sameKey, edgeKey}
 use Rattle.model.specs.Tuples.{Tuples, present, add, addAll, missing}
 use Rattle.layouts.specs.Buffer.{capacityOf, tuplesOf}
-use Rattle.model.specs.Steps.{sOf, objectKeys, created}
-use Rattle.model.proofs.Bools.{or-cases, or-left, or-right, clash, failed}
+use Rattle.model.specs.Steps.{objectKeys, created}
+use Rattle.model.proofs.Bools.{or-cases, or-left, or-right, not-yes, not-no, clash, failed}
 use Rattle.model.proofs.Tuples.{same-key, own-key, among, present-add, present-addAll, addAll-ascending, length-addAll}
 use Rattle.layouts.proofs.Sizes.{capacity-length}
-use Rattle.chain.specs.Links.{Linked, Edited}
+use Rattle.chain.specs.Links.{Linked, Hint, KeepsHints, Edited}
 use Rattle.edit.specs.Edits.{Adding}
-use Rattle.steps.specs.declared.Fields.{Fields}
-use Rattle.steps.specs.Operate.{fieldsOf, pairKey, mainKey, bothWays, isAdjacent, keysIn, isSpace, Room}
-use Rattle.steps.proofs.Named.{object-keys, edited-twice}
+use Rattle.located.specs.declared.Near.{Near}
+use Rattle.located.specs.Located.{NearIn}
+use Rattle.steps.specs.Objects.{pairKey, mainKey, bothWays, isAdjacent, isSpace, Room}
+use Rattle.steps.proofs.Named.{object-keys, keys-one, keys-two, edited-twice}
 
 -- ---- how many of some keys are missing
 
@@ -78,52 +79,39 @@ two-keys (Object.P Adjacent) s f e = refl
 two-keys Object.UN s f e = absurd (clash e refl)
 two-keys Object.US s f e = absurd (clash e refl)
 
-keys-one : (o : Object) (s : ℕ) (f : Fields) → isAdjacent o ≡ false → keysIn o s f ≡ mainKey o s f ∷ []
-unfolding keysIn
-keys-one o s f e = ap (λ (x : Bool). mainKey o s f ∷ cond x (edgeKey s (f .m) (f .g) (f .n) ∷ []) []) e
-
-keys-two : (o : Object) (s : ℕ) (f : Fields) → isAdjacent o ≡ true → keysIn o s f ≡ mainKey o s f ∷ edgeKey s (f .m) (f .g) (f .n) ∷ []
-unfolding keysIn
-keys-two o s f e = ap (λ (x : Bool). mainKey o s f ∷ cond x (edgeKey s (f .m) (f .g) (f .n) ∷ []) []) e
-
 pub missing-one : (o : Object) (s : ℕ) (f : Fields) (k : Key) (ts : Tuples) (a : Bool) (x : ℕ)
-    → k ≡ mainKey o s f → x ≡ length (missing (k ∷ []) ts) → a ≡ isAdjacent o → a ≡ false → x ≡ length (missing (keysIn o s f) ts)
-missing-one o s f k ts a x K X A e =
-    X ∙ ap (λ (ks : List Key). length (missing ks ts)) (ap (λ (i : Key). i ∷ []) K ∙ sym (keys-one o s f (sym A ∙ e)))
+    → k ≡ mainKey o s f → x ≡ length (missing (k ∷ []) ts) → a ≡ isAdjacent o → not a ≡ true → x ≡ length (missing (objectKeys o s f) ts)
+missing-one o s f k ts a x K X A e = X ∙ ap (λ (ks : List Key). length (missing ks ts)) (keys-one o s f k a K A (not-yes a e))
 
 pub missing-loop : (o : Object) (s : ℕ) (f : Fields) (k : Key) (ts : Tuples) (a : Bool) (x : ℕ)
-    → k ≡ mainKey o s f → x ≡ length (missing (k ∷ []) ts) → a ≡ isAdjacent o → a ≡ true → f .n ≡ f .m
-    → x ≡ length (missing (keysIn o s f) ts)
+    → k ≡ mainKey o s f → x ≡ length (missing (k ∷ []) ts) → a ≡ isAdjacent o → not a ≡ false → f .n ≡ f .m
+    → x ≡ length (missing (objectKeys o s f) ts)
 missing-loop o s f k ts a x K X A e loop =
-    let main : Key = mainKey o s f in
+    let two = not-no a e in
     let second : Key = edgeKey s (f .m) (f .g) (f .n) in
-    let same : second ≡ main = (λ i. edgeKey s (sym loop i) (f .g) (loop i)) ∙ sym (two-keys o s f (sym A ∙ e)) in
-    X ∙ ap (λ (i : Key). length (missing (i ∷ []) ts)) K ∙ both-same main second ts same
-    ∙ ap (λ (ks : List Key). length (missing ks ts)) (sym (keys-two o s f (sym A ∙ e)))
+    let same : second ≡ k = (λ i. edgeKey s (sym loop i) (f .g) (loop i)) ∙ sym (two-keys o s f (sym A ∙ two)) ∙ sym K in
+    X ∙ both-same k second ts same ∙ ap (λ (ks : List Key). length (missing ks ts)) (keys-two o s f k second a K A two refl)
 
 pub missing-two : (o : Object) (s : ℕ) (f : Fields) (k j : Key) (ts : Tuples) (a : Bool) (x y : ℕ)
-    → k ≡ mainKey o s f → x ≡ length (missing (k ∷ []) ts) → a ≡ isAdjacent o → a ≡ true → f .n ≢ f .m
-    → j ≡ edgeKey s (f .m) (f .g) (f .n) → y ≡ length (missing (j ∷ []) ts) → x + y ≡ length (missing (keysIn o s f) ts)
+    → k ≡ mainKey o s f → x ≡ length (missing (k ∷ []) ts) → a ≡ isAdjacent o → not a ≡ false → f .n ≢ f .m
+    → j ≡ edgeKey s (f .m) (f .g) (f .n) → y ≡ length (missing (j ∷ []) ts) → x + y ≡ length (missing (objectKeys o s f) ts)
 missing-two o s f k j ts a x y K X A e apart same Y =
-    let main : Key = mainKey o s f in
-    let second : Key = edgeKey s (f .m) (f .g) (f .n) in
-    let other : sameKey second main ≡ false =
-    failed (sameKey second main) (λ t. apart (sym (ap (λ (i : Key). i .n) (same-key second main t ∙ two-keys o s f (sym A ∙ e))))) in
-    ap₂ _+_ (X ∙ ap (λ (i : Key). length (missing (i ∷ []) ts)) K) (Y ∙ ap (λ (i : Key). length (missing (i ∷ []) ts)) same)
-    ∙ both-apart main second ts other ∙ ap (λ (ks : List Key). length (missing ks ts)) (sym (keys-two o s f (sym A ∙ e)))
+    let two = not-no a e in
+    let other : sameKey j k ≡ false =
+    failed (sameKey j k) (λ t. apart (sym (ap (λ (i : Key). i .n) (sym same ∙ same-key j k t ∙ K ∙ two-keys o s f (sym A ∙ two))))) in
+    ap₂ _+_ X Y ∙ both-apart k j ts other ∙ ap (λ (ks : List Key). length (missing ks ts)) (keys-two o s f k j a K A two same)
 
--- for one key, at most as many as `small-sum` asks
-pub one-key-at-most-two : (k : Key) (ts : Tuples) → length (missing (k ∷ []) ts) ≤ 2
+-- for one key at most one, so that two counts add up without wrapping
+one-at-most : (k : Key) (ts : Tuples) → length (missing (k ∷ []) ts) ≤ 1
 unfolding missing
-one-key-at-most-two k ts = go (present k ts)
+one-at-most k ts = go (present k ts)
   where
-    go : (b : Bool) → length (cond b [] (k ∷ [])) ≤ 2
+    go : (b : Bool) → length (cond b [] (k ∷ [])) ≤ 1
     go true = omega arith
     go false = omega arith
 
--- two counts that are at most 2 add up without wrapping
-pub small-sum : (x y u w : ℕ) → x ≡ u → y ≡ w → u ≤ 2 → w ≤ 2 → Fits w64 (x + y)
-small-sum x y u w e f p q = omega (arith, e, f, p, q)
+pub two-keys-sum : (k j : Key) (ts : Tuples) (x y : ℕ) → x ≡ length (missing (k ∷ []) ts) → y ≡ length (missing (j ∷ []) ts) → Fits w64 (x + y)
+two-keys-sum k j ts x y X Y = omega (arith, X, Y, one-at-most k ts, one-at-most j ts)
 
 -- ---- in s and in 0
 
@@ -173,11 +161,11 @@ main-space (Object.P Adjacent) s f = refl
 main-space Object.UN s f = refl
 main-space Object.US s f = refl
 
-keys-space : (o : Object) (s : ℕ) (f : Fields) (j : Key) → among j (keysIn o s f) ≡ true → j .s ≡ s
-unfolding holds keysIn
+keys-space : (o : Object) (s : ℕ) (f : Fields) (j : Key) → among j (objectKeys o s f) ≡ true → j .s ≡ s
+unfolding holds
 keys-space o s f j e =
     ⊎-elim (λ t. ap (λ (i : Key). i .s) (same-key j (mainKey o s f) t) ∙ main-space o s f) (go (isAdjacent o))
-    (or-cases (sameKey j (mainKey o s f)) (among j (cond (isAdjacent o) (second ∷ []) [])) e)
+    (or-cases (sameKey j (mainKey o s f)) (among j (cond (isAdjacent o) (second ∷ []) [])) (ap (among j) (sym (object-keys o s f)) ∙ e))
   where
     second : Key
     second = edgeKey s (f .m) (f .g) (f .n)
@@ -189,83 +177,75 @@ keys-space o s f j e =
 
 -- what was added in a numbered space is not in 0
 added-elsewhere : (o : Object) (s : ℕ) (f : Fields) (ts : Tuples) → s ≢ 0
-    → missing (keysIn o 0 f) (addAll (keysIn o s f) ts) ≡ missing (keysIn o 0 f) ts
+    → missing (objectKeys o 0 f) (addAll (objectKeys o s f) ts) ≡ missing (objectKeys o 0 f) ts
 added-elsewhere o s f ts h =
-    same-present (keysIn o 0 f) (addAll (keysIn o s f) ts) ts
+    same-present (objectKeys o 0 f) (addAll (objectKeys o s f) ts) ts
     (λ j e.
-    present-addAll j (keysIn o s f) ts
+    present-addAll j (objectKeys o s f) ts
     ∙ ap (λ (b : Bool). b || present j ts)
-    (failed (among j (keysIn o s f)) (λ t. h (sym (keys-space o s f j t) ∙ keys-space o 0 f j e))))
+    (failed (among j (objectKeys o s f)) (λ t. h (sym (keys-space o s f j t) ∙ keys-space o 0 f j e))))
 
 -- what was added is there
 added-already : (ks : List Key) (ts : Tuples) → missing ks (addAll ks ts) ≡ []
 added-already ks ts =
     all-present ks (addAll ks ts) (λ j e. present-addAll j ks ts ∙ or-left (among j ks) (present j ts) e)
 
-keys-named : (o : Object) (s : ℕ) (c : Call) → objectKeys o s c ≡ keysIn o s (fieldsOf c)
-unfolding keysIn
-keys-named o s c = object-keys o s c
-
-pub created-keys : (o : Object) (c : Call)
-    → created o c ≡ cond (isSpace o) (keysIn o (sOf c) (fieldsOf c)) (keysIn o (sOf c) (fieldsOf c) ++ keysIn o 0 (fieldsOf c))
+pub created-keys : (o : Object) (f : Fields) → created o f ≡ cond (isSpace o) (objectKeys o (f .s) f) (objectKeys o (f .s) f ++ objectKeys o 0 f)
 unfolding created isSpace
-created-keys (Object.P d) c = ap₂ _++_ (keys-named (Object.P d) (sOf c) c) (keys-named (Object.P d) 0 c)
-created-keys Object.UN c = ap₂ _++_ (keys-named Object.UN (sOf c) c) (keys-named Object.UN 0 c)
-created-keys Object.US c = keys-named Object.US (sOf c) c
+created-keys (Object.P d) f = refl
+created-keys Object.UN f = refl
+created-keys Object.US f = refl
+
+created-one : (o : Object) (f : Fields) → isSpace o ≡ true → created o f ≡ objectKeys o (f .s) f
+created-one o f e = created-keys o f ∙ ap (λ (b : Bool). cond b (objectKeys o (f .s) f) (objectKeys o (f .s) f ++ objectKeys o 0 f)) e
+
+created-two : (o : Object) (f : Fields) → isSpace o ≡ false → created o f ≡ objectKeys o (f .s) f ++ objectKeys o 0 f
+created-two o f e = created-keys o f ∙ ap (λ (b : Bool). cond b (objectKeys o (f .s) f) (objectKeys o (f .s) f ++ objectKeys o 0 f)) e
 
 -- how many keys C adds, from how many it adds in s and in 0
 abbrev countIn : Object → ℕ → Fields → Tuples → ℕ
-countIn o s f ts = length (missing (keysIn o s f) ts)
+countIn o s f ts = length (missing (objectKeys o s f) ts)
 
-pub count-space : (o : Object) (c : Call) (f : Fields) (ts : Tuples) (a : Bool) (x : ℕ) → f ≡ fieldsOf c
-    → x ≡ countIn o (f .s) f ts → a ≡ isSpace o → a ≡ true → x ≡ length (missing (created o c) ts)
-count-space o c f ts a x F X A e =
-    let here : List Key = keysIn o (sOf c) (fieldsOf c) in
-    X ∙ ap (λ (y : Fields). countIn o (y .s) y ts) F
-    ∙ ap (λ (ks : List Key). length (missing ks ts))
-    (sym (created-keys o c ∙ ap (λ (b : Bool). cond b here (here ++ keysIn o 0 (fieldsOf c))) (sym A ∙ e)))
+pub count-space : (o : Object) (f : Fields) (ts : Tuples) (a : Bool) (x : ℕ) → x ≡ countIn o (f .s) f ts → a ≡ isSpace o → a ≡ true
+    → x ≡ length (missing (created o f) ts)
+count-space o f ts a x X A e = X ∙ ap (λ (ks : List Key). length (missing ks ts)) (sym (created-one o f (sym A ∙ e)))
 
-count-two : (o : Object) (c : Call) (ts : Tuples) → Ascending keyOf compareKeys ts → isSpace o ≡ false
-    → length (missing (created o c) ts)
-    ≡ countIn o (sOf c) (fieldsOf c) ts + length (missing (keysIn o 0 (fieldsOf c)) (addAll (keysIn o (sOf c) (fieldsOf c)) ts))
-count-two o c ts h e =
-    let here : List Key = keysIn o (sOf c) (fieldsOf c) in
-    ap (λ (ks : List Key). length (missing ks ts)) (created-keys o c ∙ ap (λ (b : Bool). cond b here (here ++ keysIn o 0 (fieldsOf c))) e)
-    ∙ missing-append here (keysIn o 0 (fieldsOf c)) ts h
+count-two : (o : Object) (f : Fields) (ts : Tuples) → Ascending keyOf compareKeys ts → isSpace o ≡ false
+    → length (missing (created o f) ts) ≡ countIn o (f .s) f ts + length (missing (objectKeys o 0 f) (addAll (objectKeys o (f .s) f) ts))
+count-two o f ts h e =
+    ap (λ (ks : List Key). length (missing ks ts)) (created-two o f e) ∙ missing-append (objectKeys o (f .s) f) (objectKeys o 0 f) ts h
 
 plus-none : (x : ℕ) → x ≡ x + 0
 plus-none x = omega arith
 
-pub count-universe : (o : Object) (c : Call) (f : Fields) (ts : Tuples) (x : ℕ) → Ascending keyOf compareKeys ts → f ≡ fieldsOf c
-    → x ≡ countIn o (f .s) f ts → f .s ≡ 0 → x ≡ length (missing (created o c) ts)
-count-universe o c f ts x h F X zero = go (isSpace o) refl
+pub count-universe : (b : List ℕ) (o : Object) (f : Fields) (x : ℕ) → Linked b → x ≡ countIn o (f .s) f (tuplesOf b) → f .s ≡ 0
+    → x ≡ length (missing (created o f) (tuplesOf b))
+count-universe b o f x L X zero = go (isSpace o) refl
   where
-    there : sOf c ≡ 0
-    there = sym (ap (λ (y : Fields). y .s) F) ∙ zero
+    ts : Tuples
+    ts = tuplesOf b
 
-    here : List Key
-    here = keysIn o (sOf c) (fieldsOf c)
-
-    go : (a : Bool) → isSpace o ≡ a → x ≡ length (missing (created o c) ts)
-    go true e = count-space o c f ts true x F X (sym e) refl
+    go : (a : Bool) → isSpace o ≡ a → x ≡ length (missing (created o f) ts)
+    go true e = count-space o f ts true x X (sym e) refl
     go false e =
-        X ∙ ap (λ (y : Fields). countIn o (y .s) y ts) F ∙ plus-none (countIn o (sOf c) (fieldsOf c) ts)
-        ∙ ap (λ (ks : List Key). countIn o (sOf c) (fieldsOf c) ts + length ks)
-        (sym (ap (λ (s : ℕ). missing (keysIn o s (fieldsOf c)) (addAll here ts)) (sym there) ∙ added-already here ts))
-        ∙ sym (count-two o c ts h e)
+        X
+        ∙ plus-none (countIn o (f .s) f ts)
+        ∙ ap (λ (ks : List Key). countIn o (f .s) f ts + length ks)
+        (sym (ap (λ (s : ℕ). missing (objectKeys o s f) (addAll (objectKeys o (f .s) f) ts)) (sym zero) ∙ added-already (objectKeys o (f .s) f) ts))
+        ∙ sym (count-two o f ts (L .ascends) e)
 
-pub count-both : (o : Object) (c : Call) (f : Fields) (ts : Tuples) (a : Bool) (x y : ℕ) → Ascending keyOf compareKeys ts → f ≡ fieldsOf c
-    → x ≡ countIn o (f .s) f ts → f .s ≢ 0 → a ≡ isSpace o → a ≡ false → y ≡ countIn o 0 f ts → x + y ≡ length (missing (created o c) ts)
-count-both o c f ts a x y h F X apart A e Y =
-    ap₂ _+_ (X ∙ ap (λ (z : Fields). countIn o (z .s) z ts) F) (Y ∙ ap (λ (z : Fields). countIn o 0 z ts) F)
-    ∙ ap (λ (ks : List Key). countIn o (sOf c) (fieldsOf c) ts + length ks)
-    (sym (added-elsewhere o (sOf c) (fieldsOf c) ts (λ z. apart (ap (λ (w : Fields). w .s) F ∙ z))))
-    ∙ sym (count-two o c ts h (sym A ∙ e))
+pub count-both : (b : List ℕ) (o : Object) (f : Fields) (a : Bool) (x y : ℕ) → Linked b → x ≡ countIn o (f .s) f (tuplesOf b) → f .s ≢ 0
+    → a ≡ isSpace o → a ≡ false → y ≡ countIn o 0 f (tuplesOf b) → x + y ≡ length (missing (created o f) (tuplesOf b))
+count-both b o f a x y L X apart A e Y =
+    ap₂ _+_ X Y
+    ∙ ap (λ (ks : List Key). countIn o (f .s) f (tuplesOf b) + length ks) (sym (added-elsewhere o (f .s) f (tuplesOf b) apart))
+    ∙ sym (count-two o f (tuplesOf b) (L .ascends) (sym A ∙ e))
 
 -- at most two in one space
 pub at-most-two : (o : Object) (s : ℕ) (f : Fields) (ts : Tuples) → countIn o s f ts ≤ 2
-unfolding keysIn missing
-at-most-two o s f ts = go (isAdjacent o) (present (mainKey o s f) ts)
+unfolding missing
+at-most-two o s f ts =
+    subst (λ (ks : List Key). length (missing ks ts) ≤ 2) (sym (object-keys o s f)) (go (isAdjacent o) (present (mainKey o s f) ts))
   where
     second : Key
     second = edgeKey s (f .m) (f .g) (f .n)
@@ -284,6 +264,9 @@ at-most-two o s f ts = go (isAdjacent o) (present (mainKey o s f) ts)
     go true false = two (present second (add (mainKey o s f) ts))
     go false true = omega arith
     go false false = omega arith
+
+pub two-spaces-sum : (o : Object) (s r : ℕ) (f : Fields) (ts : Tuples) (x y : ℕ) → x ≡ countIn o s f ts → y ≡ countIn o r f ts → Fits w64 (x + y)
+two-spaces-sum o s r f ts x y X Y = omega (arith, X, Y, at-most-two o s f ts, at-most-two o r f ts)
 
 -- ---- room for each
 
@@ -321,75 +304,61 @@ room-some {b} xs ys L h =
 
 -- ---- an object's tuples in one space
 
-pub adding-first : {b : List ℕ} (o : Object) (s : ℕ) (f : Fields) (k : Key) → Linked b → Room b (keysIn o s f) → k ≡ mainKey o s f → Adding b k
-unfolding keysIn
+pub adding-first : {b : List ℕ} (o : Object) (s : ℕ) (f : Fields) (k : Key) → Linked b → Room b (objectKeys o s f) → k ≡ mainKey o s f → Adding b k
 adding-first {b} o s f k L h K =
-    subst (Adding b) (sym K) (room-first (mainKey o s f) (cond (isAdjacent o) (edgeKey s (f .m) (f .g) (f .n) ∷ []) []) L h)
+    let rest : List Key = cond (isAdjacent o) (edgeKey s (f .m) (f .g) (f .n) ∷ []) [] in
+    subst (Adding b) (sym K) (room-first (mainKey o s f) rest L (subst (Room b) (object-keys o s f) h))
 
-pub added-one : {b b′ : List ℕ} (o : Object) (s : ℕ) (f : Fields) (k : Key) (a : Bool) → k ≡ mainKey o s f → a ≡ isAdjacent o → a ≡ false
-    → Edited b b′ (add k (tuplesOf b)) → Edited b b′ (addAll (keysIn o s f) (tuplesOf b))
+pub added-one : {b b′ : List ℕ} (o : Object) (s : ℕ) (f : Fields) (k : Key) (a : Bool) → k ≡ mainKey o s f → a ≡ isAdjacent o → not a ≡ true
+    → Edited b b′ (add k (tuplesOf b)) → Edited b b′ (addAll (objectKeys o s f) (tuplesOf b))
 unfolding addAll
-added-one {b} {b′} o s f k a K A e E =
-    subst (Edited b b′)
-    (ap (λ (i : Key). add i (tuplesOf b)) K ∙ sym (ap (λ (ks : List Key). addAll ks (tuplesOf b)) (keys-one o s f (sym A ∙ e)))) E
+added-one {b} {b′} o s f k a K A e E = subst (λ (ks : List Key). Edited b b′ (addAll ks (tuplesOf b))) (keys-one o s f k a K A (not-yes a e)) E
 
-pub adding-second : {b b′ : List ℕ} (o : Object) (s : ℕ) (f : Fields) (k j : Key) (a : Bool) → Linked b → Room b (keysIn o s f)
-    → k ≡ mainKey o s f → a ≡ isAdjacent o → a ≡ true → j ≡ edgeKey s (f .m) (f .g) (f .n)
+pub adding-second : {b b′ : List ℕ} (o : Object) (s : ℕ) (f : Fields) (k j : Key) (a : Bool) → Linked b → Room b (objectKeys o s f)
+    → k ≡ mainKey o s f → a ≡ isAdjacent o → not a ≡ false → j ≡ edgeKey s (f .m) (f .g) (f .n)
     → Edited b b′ (add k (tuplesOf b)) → Adding b′ j
 unfolding addAll
 adding-second {b} {b′} o s f k j a L h K A e same E =
-    let second : Key = edgeKey s (f .m) (f .g) (f .n) in
-    subst (Adding b′) (sym same)
-    (room-first second [] (E .linked)
-    (room-rest (mainKey o s f ∷ []) (second ∷ []) L (subst (Room b) (keys-two o s f (sym A ∙ e)) h)
-    (subst (Edited b b′) (ap (λ (i : Key). add i (tuplesOf b)) K) E)))
+    room-first j [] (E .linked) (room-rest (k ∷ []) (j ∷ []) L (subst (Room b) (sym (keys-two o s f k j a K A (not-no a e) same)) h) E)
 
 pub added-two : {b b′ b″ : List ℕ} (o : Object) (s : ℕ) (f : Fields) (k j : Key) (a : Bool)
-    → k ≡ mainKey o s f → a ≡ isAdjacent o → a ≡ true → j ≡ edgeKey s (f .m) (f .g) (f .n)
-    → Edited b b′ (add k (tuplesOf b)) → Edited b′ b″ (add j (tuplesOf b′)) → Edited b b″ (addAll (keysIn o s f) (tuplesOf b))
+    → k ≡ mainKey o s f → a ≡ isAdjacent o → not a ≡ false → j ≡ edgeKey s (f .m) (f .g) (f .n)
+    → Edited b b′ (add k (tuplesOf b)) → Edited b′ b″ (add j (tuplesOf b′)) → Edited b b″ (addAll (objectKeys o s f) (tuplesOf b))
 unfolding addAll
 added-two {b} {b′} {b″} o s f k j a K A e same E D =
-    subst (Edited b b″)
-    (ap₂ (λ (x y : Key). add y (add x (tuplesOf b))) K same ∙ sym (ap (λ (ks : List Key). addAll ks (tuplesOf b)) (keys-two o s f (sym A ∙ e))))
-    (edited-twice (add j) E D)
+    subst (λ (ks : List Key). Edited b b″ (addAll ks (tuplesOf b))) (keys-two o s f k j a K A (not-no a e) same) (edited-twice (add j) E D)
+
+-- hints that stay hints twice
+pub kept-twice : {b b′ b″ : List ℕ} → KeepsHints b b′ → KeepsHints b′ b″ → KeepsHints b b″
+kept-twice K M = λ i H. M i (K i H)
+
+pub second-kept : {b b′ : List ℕ} (near : Near) → KeepsHints b b′ → NearIn b near → Hint b′ (near .second)
+second-kept near K N = K _ (N .second)
 
 -- ---- in s and in 0
 
-created-two : (o : Object) (c : Call) (f : Fields) (a : Bool) → f ≡ fieldsOf c → a ≡ isSpace o → a ≡ false
-    → created o c ≡ keysIn o (f .s) f ++ keysIn o 0 f
-created-two o c f a F A e =
-    let here : List Key = keysIn o (sOf c) (fieldsOf c) in
-    created-keys o c ∙ ap (λ (b : Bool). cond b here (here ++ keysIn o 0 (fieldsOf c))) (sym A ∙ e)
-    ∙ ap (λ (y : Fields). keysIn o (y .s) y ++ keysIn o 0 y) (sym F)
-
-created-one : (o : Object) (c : Call) (f : Fields) (a : Bool) → f ≡ fieldsOf c → a ≡ isSpace o → a ≡ true → created o c ≡ keysIn o (f .s) f
-created-one o c f a F A e =
-    let here : List Key = keysIn o (sOf c) (fieldsOf c) in
-    created-keys o c ∙ ap (λ (b : Bool). cond b here (here ++ keysIn o 0 (fieldsOf c))) (sym A ∙ e)
-    ∙ ap (λ (y : Fields). keysIn o (y .s) y) (sym F)
-
-pub room-here : {b : List ℕ} (o : Object) (c : Call) (f : Fields) → Linked b → Room b (created o c) → f ≡ fieldsOf c → Room b (keysIn o (f .s) f)
-room-here {b} o c f L h F = go (isSpace o) refl
+pub room-in-space : {b : List ℕ} (o : Object) (f : Fields) → Linked b → Room b (created o f) → Room b (objectKeys o (f .s) f)
+room-in-space {b} o f L h = go (isSpace o) refl
   where
-    go : (a : Bool) → isSpace o ≡ a → Room b (keysIn o (f .s) f)
-    go true e = subst (Room b) (created-one o c f true F (sym e) refl) h
-    go false e = room-some (keysIn o (f .s) f) (keysIn o 0 f) L (subst (Room b) (created-two o c f false F (sym e) refl) h)
+    go : (a : Bool) → isSpace o ≡ a → Room b (objectKeys o (f .s) f)
+    go true e = subst (Room b) (created-one o f e) h
+    go false e = room-some (objectKeys o (f .s) f) (objectKeys o 0 f) L (subst (Room b) (created-two o f e) h)
 
-pub room-there : {b b′ : List ℕ} (o : Object) (c : Call) (f : Fields) (a : Bool) → Linked b → Room b (created o c) → f ≡ fieldsOf c
-    → a ≡ isSpace o → a ≡ false → Edited b b′ (addAll (keysIn o (f .s) f) (tuplesOf b)) → Room b′ (keysIn o 0 f)
-room-there {b} o c f a L h F A e E =
-    room-rest (keysIn o (f .s) f) (keysIn o 0 f) L (subst (Room b) (created-two o c f a F A e) h) E
+pub room-in-universe : {b b′ : List ℕ} (o : Object) (f : Fields) (a : Bool) → Linked b → Room b (created o f) → a ≡ isSpace o → a ≡ false
+    → Edited b b′ (addAll (objectKeys o (f .s) f) (tuplesOf b)) → Room b′ (objectKeys o 0 f)
+room-in-universe {b} o f a L h A e E =
+    room-rest (objectKeys o (f .s) f) (objectKeys o 0 f) L (subst (Room b) (created-two o f (sym A ∙ e)) h) E
 
-pub created-here : {b b′ : List ℕ} (o : Object) (c : Call) (f : Fields) (a : Bool) → f ≡ fieldsOf c → a ≡ isSpace o → a ≡ true
-    → Edited b b′ (addAll (keysIn o (f .s) f) (tuplesOf b)) → Edited b b′ (addAll (created o c) (tuplesOf b))
-created-here {b} {b′} o c f a F A e E =
-    subst (λ (ks : List Key). Edited b b′ (addAll ks (tuplesOf b))) (sym (created-one o c f a F A e)) E
+pub created-space : {b b′ : List ℕ} (o : Object) (f : Fields) (a : Bool) → a ≡ isSpace o → a ≡ true
+    → Edited b b′ (addAll (objectKeys o (f .s) f) (tuplesOf b)) → Edited b b′ (addAll (created o f) (tuplesOf b))
+created-space {b} {b′} o f a A e E =
+    subst (λ (ks : List Key). Edited b b′ (addAll ks (tuplesOf b))) (sym (created-one o f (sym A ∙ e))) E
 
-pub created-both : {b b′ b″ : List ℕ} (o : Object) (c : Call) (f : Fields) (a : Bool) → f ≡ fieldsOf c → a ≡ isSpace o → a ≡ false
-    → Edited b b′ (addAll (keysIn o (f .s) f) (tuplesOf b)) → Edited b′ b″ (addAll (keysIn o 0 f) (tuplesOf b′))
-    → Edited b b″ (addAll (created o c) (tuplesOf b))
-created-both {b} {b′} {b″} o c f a F A e E D =
+pub created-both : {b b′ b″ : List ℕ} (o : Object) (f : Fields) (a : Bool) → a ≡ isSpace o → a ≡ false
+    → Edited b b′ (addAll (objectKeys o (f .s) f) (tuplesOf b)) → Edited b′ b″ (addAll (objectKeys o 0 f) (tuplesOf b′))
+    → Edited b b″ (addAll (created o f) (tuplesOf b))
+created-both {b} {b′} {b″} o f a A e E D =
     subst (Edited b b″)
-    (sym (addAll-append (keysIn o (f .s) f) (keysIn o 0 f) (tuplesOf b))
-    ∙ sym (ap (λ (ks : List Key). addAll ks (tuplesOf b)) (created-two o c f a F A e)))
-    (edited-twice (addAll (keysIn o 0 f)) E D)
+    (sym (addAll-append (objectKeys o (f .s) f) (objectKeys o 0 f) (tuplesOf b))
+    ∙ sym (ap (λ (ks : List Key). addAll ks (tuplesOf b)) (created-two o f (sym A ∙ e))))
+    (edited-twice (addAll (objectKeys o 0 f)) E D)

@@ -1,1 +1,1 @@
-pub mod Operate
+pub mod Objects

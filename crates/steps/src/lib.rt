@@ -1,76 +1,20 @@
 // What V, X, B and C do to a store.
 // Each function is pub for the crate above, which has proved what it requires.
-use model::Call;
+use located::Near;
 use model::Direction;
+use model::Fields;
 use model::Key;
 use model::Object;
-use model::Space;
-ghost use mathlib.Core.Logic.{_≢_};
 ghost use mathlib.Core.Path.{_≡_};
-ghost use mathlib.Core.Bool.{true, _&&_};
-ghost use lib.Dec.{eqb};
 ghost use lib.ListN.{length};
 ghost use mathlib.Core.List.{[], _∷_};
-ghost use Rattle.model.specs.Keys.{mostName, edgeKey};
-ghost use Rattle.model.specs.Machine.{FieldsFit};
-ghost use Prim.Native.Nat.{_≤_};
+ghost use Rattle.model.specs.Keys.{edgeKey};
 ghost use Rattle.model.specs.Tuples.{anyPresent, addAll, missing};
 ghost use Rattle.layouts.specs.Buffer.{tuplesOf};
-ghost use Rattle.model.specs.Steps.{spaceNumber, nOf, gOf, mOf, vOf, sOf, objectKeys, created, firstValue};
+ghost use Rattle.model.specs.Steps.{objectKeys, created, firstValue};
 ghost use Rattle.chain.specs.Links.{Linked, Hint, KeepsHints, Edited};
-ghost use Rattle.steps.specs.Operate.{NearIn, pairHint, mainHint, fieldsOf, pairKey, mainKey, bothWays, isAdjacent, keysIn, isSpace, Room, Bound};
-
-// The fields of a call as words; UNIVERSE is 0.
-pub struct Fields {
-    pub n: u32,
-    pub g: u32,
-    pub m: u32,
-    pub v: u32,
-    pub s: u32,
-}
-
-// Where to look in one space for what a call names: used records before the space, node n and node m, or 0.
-// They are hints: searches start behind them where that is right, and answers do not depend on them.
-pub struct Near {
-    pub space: usize,
-    pub node: usize,
-    pub second: usize,
-}
-
-// A name as a word.
-fn name_word(x: u16) -> u32
-    ensures { λ r. ⌜ r ≡ x ⌝ }
-    ensures fit { λ _. ⌜ x ≤ mostName ⌝ }
-{
-    x as u32
-}
-
-// The number of a space; 0 for UNIVERSE, and for nothing, without effect: here only calls that do not read their space have it.
-pub fn space_number(s: Space) -> u32
-    ensures { λ r. ⌜ r ≡ spaceNumber s ⌝ }
-    ensures fit { λ _. ⌜ spaceNumber s ≤ mostName ⌝ }
-{
-    match s {
-        Space::Universe => 0,
-        Space::Numbered(x) => name_word(x.0),
-        Space::Nothing => 0,
-    }
-}
-
-// The fields of a call; their types keep every name to 16 bits.
-pub fn fields_of(c: Call) -> Fields
-    ensures { λ r. ⌜ r ≡ fieldsOf c ⌝ }
-    ensures fit { λ _. ⌜ FieldsFit c ⌝ }
-{
-    let s = c.s;
-    Fields {
-        n: name_word(c.n.0),
-        g: name_word(c.g.0),
-        m: name_word(c.m.0),
-        v: c.v,
-        s: space_number(s),
-    }
-}
+ghost use Rattle.located.specs.Located.{NearIn};
+ghost use Rattle.steps.specs.Objects.{pairHint, mainHint, pairKey, mainKey, bothWays, isAdjacent, isSpace, Room, Bound};
 
 // The key in space s of the edge from n to m.
 fn edge_key(s: u32, f: Fields) -> Key
@@ -173,20 +117,18 @@ fn is_adjacent(o: Object) -> bool
 }
 
 // V: the value of what the call names.
-pub fn value_of(b: &[u32], near: Near, o: Object, c: Call) -> u32
+pub fn value_of(b: &[u32], near: Near, o: Object, f: Fields) -> u32
     requires { ⌜ Linked (now b) × NearIn (now b) near ⌝ }
-    ensures { λ r. ⌜ r ≡ firstValue (objectKeys o (sOf c) c) (tuplesOf (now (b .entry))) ⌝ }
+    ensures { λ r. ⌜ r ≡ firstValue (objectKeys o (f .s) f) (tuplesOf (now (b .entry))) ⌝ }
 {
-    let f = fields_of(c);
     chain::value_at(b, main_hint(o, near), main_key(o, f.s, f))
 }
 
 // X: is there what the call names.
-pub fn exists(b: &[u32], near: Near, o: Object, c: Call) -> bool
+pub fn exists(b: &[u32], near: Near, o: Object, f: Fields) -> bool
     requires { ⌜ Linked (now b) × NearIn (now b) near ⌝ }
-    ensures { λ r. ⌜ r ≡ anyPresent (objectKeys o (sOf c) c) (tuplesOf (now (b .entry))) ⌝ }
+    ensures { λ r. ⌜ r ≡ anyPresent (objectKeys o (f .s) f) (tuplesOf (now (b .entry))) ⌝ }
 {
-    let f = fields_of(c);
     if chain::has(b, main_hint(o, near), main_key(o, f.s, f)) {
         return true;
     }
@@ -197,11 +139,10 @@ pub fn exists(b: &[u32], near: Near, o: Object, c: Call) -> bool
 }
 
 // B: sets the value of what the call names; of two edges, whichever are present. No word is written but their value words.
-pub fn bind(b: &mut [u32], near: Near, o: Object, c: Call)
+pub fn bind(b: &mut [u32], near: Near, o: Object, f: Fields)
     requires { ⌜ Linked (now b) × NearIn (now b) near ⌝ }
-    ensures { λ _. ⌜ Bound (now (b .entry)) (objectKeys o (sOf c) c) (vOf c) (now (b .exit)) ⌝ }
+    ensures { λ _. ⌜ Bound (now (b .entry)) (objectKeys o (f .s) f) (f .v) (now (b .exit)) ⌝ }
 {
-    let f = fields_of(c);
     edit::assign_value(b, main_hint(o, near), main_key(o, f.s, f), f.v);
     if !is_adjacent(o) {
         return;
@@ -223,7 +164,7 @@ fn count_absent(b: &[u32], hint: usize, k: Key) -> usize
 // How many tuples an object would add in space s; a loop has one edge.
 fn missing_in(b: &[u32], near: Near, o: Object, s: u32, f: Fields) -> usize
     requires { ⌜ Linked (now b) × NearIn (now b) near ⌝ }
-    ensures { λ r. ⌜ r ≡ length (missing (keysIn o s f) (tuplesOf (now (b .entry)))) ⌝ }
+    ensures { λ r. ⌜ r ≡ length (missing (objectKeys o s f) (tuplesOf (now (b .entry)))) ⌝ }
 {
     let first = count_absent(b, main_hint(o, near), main_key(o, s, f));
     if !is_adjacent(o) {
@@ -247,11 +188,10 @@ fn is_space(o: Object) -> bool
 }
 
 // C: how many tuples it would add.
-pub fn count_created(b: &[u32], near: Near, universe: Near, o: Object, c: Call) -> usize
+pub fn count_created(b: &[u32], near: Near, universe: Near, o: Object, f: Fields) -> usize
     requires { ⌜ Linked (now b) × NearIn (now b) near × NearIn (now b) universe ⌝ }
-    ensures { λ r. ⌜ r ≡ length (missing (created o c) (tuplesOf (now (b .entry)))) ⌝ }
+    ensures { λ r. ⌜ r ≡ length (missing (created o f) (tuplesOf (now (b .entry)))) ⌝ }
 {
-    let f = fields_of(c);
     let here = missing_in(b, near, o, f.s, f);
     if f.s == 0 {
         return here;
@@ -264,8 +204,8 @@ pub fn count_created(b: &[u32], near: Near, universe: Near, o: Object, c: Call) 
 
 // Adds an object's tuples in space s, NIL where they are missing.
 fn add_in(b: &mut [u32], near: Near, o: Object, s: u32, f: Fields)
-    requires { ⌜ Linked (now b) × NearIn (now b) near × Room (now b) (keysIn o s f) ⌝ }
-    ensures { λ _. ⌜ Edited (now (b .entry)) (now (b .exit)) (addAll (keysIn o s f) (tuplesOf (now (b .entry)))) ⌝ }
+    requires { ⌜ Linked (now b) × NearIn (now b) near × Room (now b) (objectKeys o s f) ⌝ }
+    ensures { λ _. ⌜ Edited (now (b .entry)) (now (b .exit)) (addAll (objectKeys o s f) (tuplesOf (now (b .entry)))) ⌝ }
     ensures hints { λ _. ⌜ KeepsHints (now (b .entry)) (now (b .exit)) ⌝ }
 {
     edit::add_missing(b, main_hint(o, near), main_key(o, s, f));
@@ -276,11 +216,10 @@ fn add_in(b: &mut [u32], near: Near, o: Object, s: u32, f: Fields)
 }
 
 // C: adds what the call names in s and in 0, where there is room for all of it.
-pub fn create(b: &mut [u32], near: Near, universe: Near, o: Object, c: Call)
-    requires { ⌜ Linked (now b) × NearIn (now b) near × NearIn (now b) universe × Room (now b) (created o c) ⌝ }
-    ensures { λ _. ⌜ Edited (now (b .entry)) (now (b .exit)) (addAll (created o c) (tuplesOf (now (b .entry)))) ⌝ }
+pub fn create(b: &mut [u32], near: Near, universe: Near, o: Object, f: Fields)
+    requires { ⌜ Linked (now b) × NearIn (now b) near × NearIn (now b) universe × Room (now b) (created o f) ⌝ }
+    ensures { λ _. ⌜ Edited (now (b .entry)) (now (b .exit)) (addAll (created o f) (tuplesOf (now (b .entry)))) ⌝ }
 {
-    let f = fields_of(c);
     add_in(b, near, o, f.s, f);
     if is_space(o) {
         return;

@@ -1,5 +1,5 @@
-use Rattle.located.proofs.Nearby.{universe-none, universe-spared, universe-too}
 use Rattle.chain.proofs.Hints.{no-hint}
+use Rattle.located.proofs.Nearby.{universe-none, universe-spared, universe-too}
 use borrow.Author.Needs.{needs}
 use Rattle.located.proofs.locate_universe.Statement.{statement}
 use Rattle.located.proofs.locate_universe.Tie as tie
@@ -7,13 +7,11 @@ use Rattle.located.proofs.locate_universe.Reads as reads
 use Rattle.located.proofs.locate_universe.Lts as lts
 use Rattle.located.proofs.near_nodes.Reads as near-nodes-reads
 use Rattle.located.proofs.nowhere.Reads as nowhere-reads
-use Rattle.steps.proofs.fields_of.Reads as fields-of-reads
 
 pub locate-universe-spec : {M : Type 1} → statement M
 locate-universe-spec =
     tie.close
     (tie.spec
-    (λ c κs. search needs)
     (λ c κs. search needs)
     (λ c. search universe-none)
     (λ c κs. search needs)

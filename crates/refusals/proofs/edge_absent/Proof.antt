@@ -5,13 +5,11 @@ use Rattle.refusals.proofs.edge_absent.Tie as tie
 use Rattle.refusals.proofs.edge_absent.Reads as reads
 use Rattle.refusals.proofs.edge_absent.Lts as lts
 use Rattle.refusals.proofs.object_absent.Reads as object-absent-reads
-use Rattle.operators.proofs.operator_of.Reads as operator-of-reads
 
 pub edge-absent-spec : {M : Type 1} → statement M
 edge-absent-spec =
     tie.close
     (tie.spec
     (λ c. search edge-unasked)
-    (λ c κs. search needs)
     (λ c κs. search needs)
     (λ c. search edge-asked))

@@ -1,5 +1,4 @@
 use Rattle.refusals.proofs.Absent.{second-unread, second-read}
-use borrow.Author.Needs.{needs}
 use Rattle.refusals.proofs.second_absent.Statement.{statement}
 use Rattle.refusals.proofs.second_absent.Tie as tie
 use Rattle.refusals.proofs.second_absent.Reads as reads

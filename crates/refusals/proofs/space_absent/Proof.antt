@@ -1,5 +1,4 @@
 use Rattle.refusals.proofs.Absent.{space-unasked, space-asked}
-use borrow.Author.Needs.{needs}
 use Rattle.refusals.proofs.space_absent.Statement.{statement}
 use Rattle.refusals.proofs.space_absent.Tie as tie
 use Rattle.refusals.proofs.space_absent.Reads as reads

@@ -1,4 +1,4 @@
-use Rattle.steps.specs.Operate.{bothWays}
+use Rattle.steps.specs.Objects.{bothWays}
 use mathlib.Core.Path.{sym, ap}
 use borrow.Author.Needs.{needs}
 use Rattle.steps.proofs.both_ways.Statement.{statement}

@@ -1,4 +1,4 @@
-use Rattle.steps.specs.Operate.{isAdjacent}
+use Rattle.steps.specs.Objects.{isAdjacent}
 use mathlib.Core.Path.{sym, ap, _∙_}
 use borrow.Author.Needs.{needs}
 use Rattle.steps.proofs.is_adjacent.Statement.{statement}

@@ -1,4 +1,4 @@
-use Rattle.steps.specs.Operate.{isSpace}
+use Rattle.steps.specs.Objects.{isSpace}
 use mathlib.Core.Path.{sym, ap}
 use borrow.Author.Needs.{needs}
 use Rattle.steps.proofs.is_space.Statement.{statement}

@@ -1,4 +1,4 @@
-use Rattle.steps.specs.Operate.{mainHint}
+use Rattle.steps.specs.Objects.{mainHint}
 use Rattle.model.specs.declared.Object.{Object}
 use mathlib.Core.Path.{sym, ap, _∙_}
 use borrow.Author.Needs.{needs}

@@ -1,4 +1,4 @@
-use Rattle.steps.specs.Operate.{mainKey}
+use Rattle.steps.specs.Objects.{mainKey}
 use Rattle.model.specs.declared.Object.{Object}
 use mathlib.Core.Path.{sym, ap, _∙_}
 use borrow.Author.Needs.{needs}

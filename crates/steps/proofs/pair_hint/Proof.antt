@@ -1,4 +1,4 @@
-use Rattle.steps.specs.Operate.{pairHint}
+use Rattle.steps.specs.Objects.{pairHint}
 use Rattle.model.specs.declared.Direction.{Direction}
 use mathlib.Core.Path.{sym, ap}
 use borrow.Author.Needs.{needs}

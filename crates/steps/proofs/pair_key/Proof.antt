@@ -1,4 +1,4 @@
-use Rattle.steps.specs.Operate.{pairKey}
+use Rattle.steps.specs.Objects.{pairKey}
 use Rattle.model.specs.declared.Direction.{Direction}
 use mathlib.Core.Path.{sym, ap, _∙_}
 use borrow.Author.Needs.{needs}

@@ -1,10 +1,10 @@
 use mathlib.Core.Path.{sym, ap}
 use Rattle.model.specs.Steps.{spaceNumber}
 use borrow.Author.Needs.{needs}
-use Rattle.perform.proofs.space_name.Statement.{statement}
-use Rattle.perform.proofs.space_name.Tie as tie
-use Rattle.perform.proofs.space_name.Reads as reads
-use Rattle.perform.proofs.space_name.Lts as lts
+use Rattle.operators.proofs.space_name.Statement.{statement}
+use Rattle.operators.proofs.space_name.Tie as tie
+use Rattle.operators.proofs.space_name.Reads as reads
+use Rattle.operators.proofs.space_name.Lts as lts
 
 -- src/lib.rt:36:28
 enum-told : tie.Need-enum-told

@@ -1,10 +1,10 @@
--- The fields of a call as words, and the keys of what it names.
-use mathlib.Core.Bool.{Bool, true, false, cond}
+-- The keys of what C, B, V and X work on, one by one, and where they are to be sought.
+use mathlib.Core.Bool.{Bool, true, false}
 use mathlib.Core.List.{List, [], _∷_}
 use mathlib.Core.Path.{_≡_}
 use Prim.Native.Nat.{ℕ, _+_, _≤_}
 use lib.ListN.{length}
-use Rattle.model.specs.declared.Call.{Call}
+use Rattle.model.specs.declared.Fields.{Fields}
 use Rattle.model.specs.declared.Direction.{Direction}
 use Rattle.model.specs.declared.Direction.the-variants.{Outpointing, Inpointing, Adjacent}
 use Rattle.model.specs.declared.Key.{Key}
@@ -12,23 +12,11 @@ use Rattle.model.specs.declared.Object.{Object}
 use Rattle.model.specs.Keys.{Value, spaceKey, nodeKey, edgeKey}
 use Rattle.model.specs.Tuples.{missing, assignAll}
 use Rattle.layouts.specs.Buffer.{capacityOf, tuplesOf}
-use Rattle.model.specs.Steps.{nOf, gOf, mOf, vOf, sOf}
-use Rattle.steps.specs.declared.Fields.{Fields}
-use Rattle.steps.specs.declared.Near.{Near}
-use Rattle.taken.specs.declared.EdgesOf.{EdgesOf}
-use Rattle.chain.specs.Links.{Hint, Edited}
+use Rattle.located.specs.declared.Near.{Near}
+use Rattle.chain.specs.Links.{Edited}
 use Rattle.edit.specs.Edits.{assignIn}
 
--- the fields of a call, UNIVERSE written 0
-abbrev pub fieldsOf : Call → Fields
-fieldsOf c = record { n = nOf c; g = gOf c; m = mOf c; v = vOf c; s = sOf c }
-
 -- ---- hints
-
-pub record NearIn (b : List ℕ) (near : Near) : Type 0 where
-  pub space : Hint b (near .space)
-  pub node : Hint b (near .node)
-  pub second : Hint b (near .second)
 
 -- the hint for the first of a pair's keys
 unfoldable pub pairHint : Direction → Near → ℕ
@@ -67,19 +55,11 @@ isAdjacent (Object.P d) = bothWays d
 isAdjacent Object.UN = false
 isAdjacent Object.US = false
 
--- an object's keys in space s, from the fields as words (`objectKeys`)
-unfoldable pub keysIn : Object → ℕ → Fields → List Key
-keysIn o s f = mainKey o s f ∷ cond (isAdjacent o) (edgeKey s (f .m) (f .g) (f .n) ∷ []) []
-
 -- C 51 adds s alone; all other C add to s and to 0 (`created`)
 unfoldable pub isSpace : Object → Bool
 isSpace (Object.P d) = false
 isSpace Object.UN = false
 isSpace Object.US = true
-
--- the edges that a D operator means: those of the pairs of node n with edge g and node m (0: any)
-abbrev pub edgesOf : Direction → Fields → ℕ → ℕ → EdgesOf
-edgesOf d f g m = record { d = d; s = f .s; n = f .n; g = g; m = m }
 
 -- the records suffice for the tuples with these keys added: not "tuples present + tuples to add > C"
 abbrev pub Room : List ℕ → List Key → Type 0
