@@ -1,15 +1,15 @@
 -- "Output, a line each": no byte of an answer's text is a line feed, so an answer is one line.
 use mathlib.Core.Bool.{Bool, true, false, cond, not, _&&_}
 use mathlib.Core.List.{List, [], _∷_, _++_}
-use mathlib.Core.Path.{_≡_, refl, sym, ap, _∙_}
-use Prim.Native.Nat.{ℕ, zero, suc, _+_, _/_, _%_}
+use mathlib.Core.Path.{_≡_, refl, ap}
+use Prim.Native.Nat.{ℕ, zero, suc, _/_, _%_}
 use native.Mathlib.Omega.{arith}
 use lib.Dec.{eqb, ltb}
 use borrow.Author.Tests.{ne-eqb}
 use Rattle.model.specs.declared.Pair.{Pair}
 use Rattle.model.specs.Pairs.{edgeOf, nodeOf}
 use Rattle.model.specs.Steps.{Reply, refusal, name, valued, yesNo, pairs}
-use Rattle.text.specs.Bytes.{Text, lineFeed, blank, colon}
+use Rattle.text.specs.Bytes.{Text, lineFeed, colon}
 use Rattle.text.specs.Numerals.{digit, printedIn, printedNumber}
 use Rattle.print.specs.Answers.{yesOrNo, entryText, entriesText, answerText}
 
