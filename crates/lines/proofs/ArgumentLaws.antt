@@ -148,16 +148,16 @@ field-fits false most line end x e a f g =
 -- the words that an argument takes
 
 -- the first of some words ends so that the others are behind it
-abbrev Linked : Text → ℕ → List Text → Type 0
-Linked line end [] = Unit {0}
-Linked line end (w ∷ ws) = ws ≡ wordsBehind line (end + 1 + length w)
+abbrev Followed : Text → ℕ → List Text → Type 0
+Followed line end [] = Unit {0}
+Followed line end (w ∷ ws) = ws ≡ wordsBehind line (end + 1 + length w)
 
-linked : (line : Text) (end : ℕ) → Linked line end (wordsBehind line end)
-linked line end = go (ltb end (length line)) refl
+followed : (line : Text) (end : ℕ) → Followed line end (wordsBehind line end)
+followed line end = go (ltb end (length line)) refl
   where
-    go : (b : Bool) → ltb end (length line) ≡ b → Linked line end (wordsBehind line end)
-    go true e = subst (λ (ws : List Text). Linked line end ws) (sym (word-behind line end (ltb-true _ _ e))) refl
-    go false e = subst (λ (ws : List Text). Linked line end ws) (sym (behind-end line end (ltb-false _ _ e))) tt
+    go : (b : Bool) → ltb end (length line) ≡ b → Followed line end (wordsBehind line end)
+    go true e = subst (λ (ws : List Text). Followed line end ws) (sym (word-behind line end (ltb-true _ _ e))) refl
+    go false e = subst (λ (ws : List Text). Followed line end ws) (sym (behind-end line end (ltb-false _ _ e))) tt
 
 -- U is no number
 u-no-number : (most : ℕ) (w : Text) → sameText w (U ∷ []) ≡ true → readNumber most w ≡ none
@@ -212,9 +212,9 @@ takes-number false most line end x e a then f g =
     let p : 0 ≡ x = cc in
     let q : end ≡ e = cc in
     ap (λ (y : ℕ). then y (wordsBehind line end)) p ∙ ap (λ (y : ℕ). then x (wordsBehind line y)) q
-takes-number true most line end x e a then f g = go (wordsBehind line end) (linked line end) (sym f ∙ g)
+takes-number true most line end x e a then f g = go (wordsBehind line end) (followed line end) (sym f ∙ g)
   where
-    go : (ws : List Text) → Linked line end ws → firstOf most ws end ≡ Number x e → takeNumber true most ws then ≡ then x (wordsBehind line e)
+    go : (ws : List Text) → Followed line end ws → firstOf most ws end ≡ Number x e → takeNumber true most ws then ≡ then x (wordsBehind line e)
     go [] l h =
         let z : _≡_ {A = ℕ} 0 1 = cc in
         absurd (omega arith)
@@ -247,7 +247,7 @@ no-number a k x e f = go (subst NoNumber f k)
 
 -- the words that a space takes
 
-space-behind : (optional : Bool) (line : Text) (end : ℕ) (s : Space) (e : ℕ) (then : Space → List Text → Reading) (ws : List Text) → wordsBehind line end ≡ ws → Linked line end ws
+space-behind : (optional : Bool) (line : Text) (end : ℕ) (s : Space) (e : ℕ) (then : Space → List Text → Reading) (ws : List Text) → wordsBehind line end ≡ ws → Followed line end ws
     → spaceOf optional end (firstOf mostName ws end) ≡ Given s e → takeSpace optional ws then ≡ then s (wordsBehind line e)
 unfolding firstOf ofWord asNumber spaceOf takeSpace withNumber
 space-behind true line end s e then [] k l h =
@@ -281,7 +281,7 @@ space-behind optional line end s e then (w ∷ ws) k l h = go (sameText w (U ∷
 pub takes-space : (optional : Bool) (line : Text) (end : ℕ) (s : Space) (e : ℕ) (r : SpaceArgument) (then : Space → List Text → Reading) → r ≡ spaceOf optional end (argumentAt mostName line end)
     → r ≡ Given s e → takeSpace optional (wordsBehind line end) then ≡ then s (wordsBehind line e)
 unfolding argumentAt
-takes-space optional line end s e r then f g = space-behind optional line end s e then (wordsBehind line end) refl (linked line end) (sym f ∙ g)
+takes-space optional line end s e r then f g = space-behind optional line end s e then (wordsBehind line end) refl (followed line end) (sym f ∙ g)
 
 no-space-behind : (optional : Bool) (end : ℕ) (then : Space → List Text → Reading) (ws : List Text) → spaceOf optional end (firstOf mostName ws end) ≡ NotASpace → takeSpace optional ws then ≡ refused
 unfolding firstOf ofWord asNumber spaceOf takeSpace withNumber

@@ -1,5 +1,5 @@
 -- Numbers printed in base ten: they read back, and how long they are.
-use mathlib.Core.Bool.{Bool, true, false, not, _&&_, and-true, true≢false}
+use mathlib.Core.Bool.{Bool, true, false, _&&_, and-true, true≢false}
 use mathlib.Core.List.{[], _∷_, _++_}
 use mathlib.Core.Option.{some}
 use mathlib.Core.Path.{_≡_, refl, sym, ap, _∙_, subst}

@@ -23,9 +23,9 @@ pub before-stop : (end b : ℕ) (bs : Text) → b ≡ end → before end (b ∷ 
 unfolding before
 before-stop end b bs e = ap (λ (t : Bool). cond t [] (b ∷ before end bs)) (eq-eqb b end e)
 
-pub before-on : (end b : ℕ) (bs : Text) → (b ≡ end → ⊥) → before end (b ∷ bs) ≡ b ∷ before end bs
+pub before-other : (end b : ℕ) (bs : Text) → (b ≡ end → ⊥) → before end (b ∷ bs) ≡ b ∷ before end bs
 unfolding before
-before-on end b bs n = ap (λ (t : Bool). cond t [] (b ∷ before end bs)) (ne-eqb b end n)
+before-other end b bs n = ap (λ (t : Bool). cond t [] (b ∷ before end bs)) (ne-eqb b end n)
 
 -- how long the part before a byte is: nothing at the end of the text or at the byte, one more at any other
 pub none-at-end : (end : ℕ) (t : Text) (at : ℕ) → length t ≤ at → length (before end (drop at t)) ≡ 0
@@ -36,7 +36,7 @@ pub none-at-stop : (end : ℕ) (t : Text) (at : ℕ) → at < length t → getD 
 none-at-stop end t at h e = ap (λ (x : Text). length (before end x)) (rest t at h) ∙ ap length (before-stop end _ _ e)
 
 pub one-more : (end : ℕ) (t : Text) (at : ℕ) → at < length t → (getD t at 0 ≡ end → ⊥) → length (before end (drop at t)) ≡ suc (length (before end (drop (at + 1) t)))
-one-more end t at h n = ap (λ (x : Text). length (before end x)) (rest t at h) ∙ ap length (before-on end _ _ n)
+one-more end t at h n = ap (λ (x : Text). length (before end x)) (rest t at h) ∙ ap length (before-other end _ _ n)
 
 -- the part before a byte is as many of the first bytes
 pub before-take : (end : ℕ) (t : Text) → take (length (before end t)) t ≡ before end t
