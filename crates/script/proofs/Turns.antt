@@ -5,7 +5,7 @@ use mathlib.Core.Path.{_≡_, refl, sym, _∙_, ap, ap₂, subst}
 use Prim.Native.Nat.{ℕ, _+_, _-_, _≤_, _<_, min}
 use native.Mathlib.Omega.{arith}
 use borrow.Author.Tests.{le-leb, lt-leb, ltb-true, ltb-false}
-use lib.Dec.{leb, ltb}
+use lib.Dec.{ltb}
 use lib.ListN.{length, drop, length-append}
 use Rattle.model.specs.Machine.{State}
 use Rattle.layouts.specs.Buffer.{tuplesOf}
@@ -17,7 +17,6 @@ use Rattle.lines.specs.Lines.{linesOf}
 use Rattle.lines.specs.Calls.{readLine}
 use Rattle.lines.proofs.LineLaws.{no-lines, next-line, line-within}
 use Rattle.print.specs.Answers.{answerLine, Put, mostLine}
-use Rattle.script.specs.declared.Block.{Block}
 use Rattle.script.specs.Scripts.{lineOutcome}
 use Rattle.script.specs.Runs.{Ready, LineStep, LineRun, Run, unrun, linesLength, lineList, runBefore, runLines, nextLine, BlockRun}
 use Rattle.script.proofs.LineRuns.{LineLeft, line-left}
