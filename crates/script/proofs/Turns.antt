@@ -139,10 +139,10 @@ module _ (b₀ l₀ : List ℕ) (script : Text) (from : ℕ) (out₀ : Text) whe
       }
 
   -- one more line
-  pub run-line-on : (b l : List ℕ) (at size : ℕ) (out line : Text) (b′ l′ : List ℕ) (stop : ℕ) (out′ : Text) (next : ℕ)
+  pub run-next-line : (b l : List ℕ) (at size : ℕ) (out line : Text) (b′ l′ : List ℕ) (stop : ℕ) (out′ : Text) (next : ℕ)
       → Running b₀ l₀ script from out₀ b l at size out → mostLine ≤ length out - size
       → NextLine script at line next → LineRun b l line out size b′ l′ stop out′ → Running b₀ l₀ script from out₀ b′ l′ next stop out′
-  run-line-on b l at size out line b′ l′ stop out′ next S wide X L =
+  run-next-line b l at size out line b′ l′ stop out′ next S wide X L =
       let left : LineLeft b l line b′ l′ = line-left b l (S .ready) line out size b′ l′ stop out′ L in
       let a : Text = answerLine (lineOutcome (tuplesOf b) line .answer) in
       let sized : length out ≡ length out₀

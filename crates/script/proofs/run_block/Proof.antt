@@ -1,5 +1,5 @@
 use Rattle.lines.proofs.LineLaws.{line-within}
-use Rattle.script.proofs.Turns.{Running, run-start, run-line-on, run-sized, run-short, run-whole, next-of}
+use Rattle.script.proofs.Turns.{Running, run-start, run-next-line, run-sized, run-short, run-whole, next-of}
 use lib.ListN.{length as size}
 use Prim.Native.Nat.{_-_}
 use native.Mathlib.Omega.{arith}
@@ -43,7 +43,7 @@ run-block-spec =
     (λ c. omega arith)
     (λ c κs. search (needs, line-within))
     loop-less
-    (λ c. search (run-line-on, next-of))
+    (λ c. search (run-next-line, next-of))
     (λ c. search needs)
     (λ c. search needs)
     (λ c. search run-sized)
