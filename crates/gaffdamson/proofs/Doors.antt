@@ -12,7 +12,6 @@ use Rattle.model.specs.Traces.{Trace, end, then}
 use Rattle.model.specs.CallLists.{CallMade, Exchange, exchangeOf, WholeList}
 use Rattle.layouts.specs.Stored.{stored}
 use Rattle.layouts.proofs.Stored.{stored-lawful}
-use Rattle.model.proofs.Bools.{clash}
 use Rattle.model.proofs.Traces.{trace-append}
 use Rattle.model.proofs.CallLists.{MachineStep, one-call-machine, machine-trace, whole-list, whole-prepared}
 use Rattle.calls.proofs.Lists.{PreparedBy, prepared-by, ExecutedBy, executed-one}

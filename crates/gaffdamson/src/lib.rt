@@ -67,10 +67,7 @@ pub extern "C" fn gaffdamson_prepare(store: &mut [u32]) -> u64
 pub extern "C" fn gaffdamson_is_store(store: &[u32]) -> u32
     ensures { λ r. ⌜ r ≡ bitOf (stored .isStore (now (store .entry))) ⌝ }
 {
-    if verify::is_store(store) {
-        return 1;
-    }
-    0
+    run::bit_of(verify::is_store(store))
 }
 
 // One call on any buffer; pairs stand in the answer list as edge × 65,536 + node.

@@ -6,7 +6,7 @@ use Prim.Native.Nat.{ℕ, zero, suc, _+_, _≤_, _<_}
 use native.Mathlib.Omega.{arith}
 use lib.Dec.{eqb, ltb}
 use lib.ListN.{length, getD}
-use borrow.Author.Tests.{eq-eqb, ne-eqb, eqb-true, lt-ltb}
+use borrow.Author.Tests.{eq-eqb, ne-eqb, eqb-true, lt-ltb, ltb-true}
 use Rattle.model.proofs.Bools.{and-left, and-right, and-both, no-not, failed}
 use Rattle.text.specs.Bytes.{Text, sameText, A, B, C, D, I, O, S, U, «V», X}
 use Rattle.text.proofs.Reading.{same-text}
@@ -39,8 +39,8 @@ pub each-number : (i : ℕ) → i < length operatorWords → operatorNumber (get
 each-number i h = numbered-at 1 operatorWords all-numbered i h
 
 -- a word that is the same as an entry has its number
-pub told : (i : ℕ) → i < length operatorWords → (w x : Text) (r : Bool) → x ≡ getD operatorWords i [] → r ≡ sameText w x → r ≡ true → 1 + i ≡ operatorNumber w
-told i h w x r k e f = sym (ap operatorNumber (same-text w x (sym e ∙ f) ∙ k) ∙ each-number i h)
+pub entry : (i : ℕ) → ltb i (length operatorWords) ≡ true → (w : Text) (r : Bool) → r ≡ sameText w (getD operatorWords i []) → r ≡ true → 1 + i ≡ operatorNumber w
+entry i h w r e f = sym (ap operatorNumber (same-text w (getD operatorWords i []) (sym e ∙ f)) ∙ each-number i (ltb-true i (length operatorWords) h))
 
 -- the words that pass a test
 abbrev pub passing : (Text → Bool) → List Text → List Text
@@ -101,6 +101,9 @@ short w = ltb (length w) 2
 pub no-short : (w : Text) → length w < 2 → 0 ≡ operatorNumber w
 unfolding operatorWords
 no-short w h = no-operator short w (lt-ltb (length w) 2 h) compared
+
+pub no-empty : (w : Text) → length w ≡ 0 → 0 ≡ operatorNumber w
+no-empty w e = no-short w (omega arith)
 
 -- is a letter none of some
 abbrev differs : ℕ → List ℕ → Bool

@@ -57,7 +57,8 @@ is-nothing most w end r e f q i j =
     let t : sameText w (hyphen ∷ []) ≡ true = sym i ∙ j in
     rw (s, t)
 
-pub is-unreadable : (most : ℕ) (w : Text) (end : ℕ) (r : Bool) → r ≡ sameText w (U ∷ []) → r ≡ false → (q : Bool) → q ≡ sameText w (hyphen ∷ []) → q ≡ false → (x : Numeral) → x ≡ numeralOf (readNumber most w) → x ≡ NotANumber → Unreadable ≡ ofWord most w end
+pub is-unreadable : (most : ℕ) (w : Text) (end : ℕ) (r : Bool) → r ≡ sameText w (U ∷ []) → r ≡ false → (q : Bool) → q ≡ sameText w (hyphen ∷ []) → q ≡ false → (x : Numeral)
+    → x ≡ numeralOf (readNumber most w) → x ≡ NotANumber → Unreadable ≡ ofWord most w end
 unfolding ofWord asNumber numeralOf
 is-unreadable most w end r e f q i j x g h =
     let s : sameText w (U ∷ []) ≡ false = sym e ∙ f in
@@ -70,7 +71,8 @@ is-unreadable most w end r e f q i j x g h =
         let z : _≡_ {A = ℕ} 0 1 = cc in
         absurd (omega arith)
 
-pub is-number : (most : ℕ) (w : Text) (end : ℕ) (r : Bool) → r ≡ sameText w (U ∷ []) → r ≡ false → (q : Bool) → q ≡ sameText w (hyphen ∷ []) → q ≡ false → (x : Numeral) (v : ℕ) → x ≡ numeralOf (readNumber most w) → x ≡ Value v → Number v end ≡ ofWord most w end
+pub is-number : (most : ℕ) (w : Text) (end : ℕ) (r : Bool) → r ≡ sameText w (U ∷ []) → r ≡ false → (q : Bool) → q ≡ sameText w (hyphen ∷ []) → q ≡ false → (x : Numeral) (v : ℕ)
+    → x ≡ numeralOf (readNumber most w) → x ≡ Value v → Number v end ≡ ofWord most w end
 unfolding ofWord asNumber numeralOf
 is-number most w end r e f q i j x v g h =
     let s : sameText w (U ∷ []) ≡ false = sym e ∙ f in
@@ -89,10 +91,12 @@ pub none-behind : (most : ℕ) (line : Text) (end : ℕ) → length line ≤ end
 unfolding argumentAt firstOf
 none-behind most line end h = sym (ap (λ (ws : List Text). firstOf most ws end) (behind-end line end h))
 
-pub one-behind : (most : ℕ) (line : Text) (end stop : ℕ) → end < length line → stop ≡ end + 1 + length (before blank (drop (end + 1) line)) → ofWord most (take (stop - (end + 1)) (drop (end + 1) line)) stop ≡ argumentAt most line end
+pub one-behind : (most : ℕ) (line : Text) (end stop : ℕ) → end < length line → stop ≡ end + 1 + length (before blank (drop (end + 1) line))
+    → (a : Argument) → a ≡ ofWord most (take (stop - (end + 1)) (drop (end + 1) line)) stop → a ≡ argumentAt most line end
 unfolding argumentAt firstOf
-one-behind most line end stop h e =
-    ap (λ (w : Text). ofWord most w stop) (part-before blank line (end + 1) stop e)
+one-behind most line end stop h e a k =
+    k
+    ∙ ap (λ (w : Text). ofWord most w stop) (part-before blank line (end + 1) stop e)
     ∙ ap (ofWord most (before blank (drop (end + 1) line))) e
     ∙ sym (ap (λ (ws : List Text). firstOf most ws end) (word-behind line end h))
 
@@ -100,9 +104,9 @@ pub not-read : (read : Bool) (most : ℕ) (line : Text) (end : ℕ) → read ≡
 unfolding fieldAt
 not-read read most line end e = rw e
 
-pub is-read : (read : Bool) (most : ℕ) (line : Text) (end : ℕ) → read ≡ true → argumentAt most line end ≡ fieldAt read most line end
+pub is-read : (read : Bool) (most : ℕ) (line : Text) (end : ℕ) → read ≡ true → (a : Argument) → a ≡ argumentAt most line end → a ≡ fieldAt read most line end
 unfolding fieldAt
-is-read read most line end e = rw e
+is-read read most line end e a k = rw (e, k)
 
 -- an argument that is a number is at most what it may be
 word-most : (most : ℕ) (w : Text) (end x e : ℕ) → ofWord most w end ≡ Number x e → x ≤ most
@@ -144,16 +148,16 @@ field-fits false most line end x e a f g =
 -- the words that an argument takes
 
 -- the first of some words ends so that the others are behind it
-abbrev Linked : Text → ℕ → List Text → Type 0
-Linked line end [] = Unit {0}
-Linked line end (w ∷ ws) = ws ≡ wordsBehind line (end + 1 + length w)
+abbrev Followed : Text → ℕ → List Text → Type 0
+Followed line end [] = Unit {0}
+Followed line end (w ∷ ws) = ws ≡ wordsBehind line (end + 1 + length w)
 
-linked : (line : Text) (end : ℕ) → Linked line end (wordsBehind line end)
-linked line end = go (ltb end (length line)) refl
+followed : (line : Text) (end : ℕ) → Followed line end (wordsBehind line end)
+followed line end = go (ltb end (length line)) refl
   where
-    go : (b : Bool) → ltb end (length line) ≡ b → Linked line end (wordsBehind line end)
-    go true e = subst (λ (ws : List Text). Linked line end ws) (sym (word-behind line end (ltb-true _ _ e))) refl
-    go false e = subst (λ (ws : List Text). Linked line end ws) (sym (behind-end line end (ltb-false _ _ e))) tt
+    go : (b : Bool) → ltb end (length line) ≡ b → Followed line end (wordsBehind line end)
+    go true e = subst (λ (ws : List Text). Followed line end ws) (sym (word-behind line end (ltb-true _ _ e))) refl
+    go false e = subst (λ (ws : List Text). Followed line end ws) (sym (behind-end line end (ltb-false _ _ e))) tt
 
 -- U is no number
 u-no-number : (most : ℕ) (w : Text) → sameText w (U ∷ []) ≡ true → readNumber most w ≡ none
@@ -188,7 +192,8 @@ word-refused : (most : ℕ) (w : Text) (end : ℕ) (then : ℕ → Reading) → 
 unfolding ofWord asNumber withNumber
 word-refused most w end then n = go (sameText w (U ∷ [])) refl (sameText w (hyphen ∷ [])) refl (readNumber most w) refl n
   where
-    go : (b : Bool) → sameText w (U ∷ []) ≡ b → (d : Bool) → sameText w (hyphen ∷ []) ≡ d → (o : Option ℕ) → readNumber most w ≡ o → ((x e : ℕ) → cond b (Universal end) (cond d (NoSelection end) (asNumber o end)) ≡ Number x e → ⊥) → withNumber o then ≡ refused
+    go : (b : Bool) → sameText w (U ∷ []) ≡ b → (d : Bool) → sameText w (hyphen ∷ []) ≡ d → (o : Option ℕ) → readNumber most w ≡ o
+        → ((x e : ℕ) → cond b (Universal end) (cond d (NoSelection end) (asNumber o end)) ≡ Number x e → ⊥) → withNumber o then ≡ refused
     go b f d k none g h = refl
     go true f d k (some y) g h =
         let u = u-no-number most w f in
@@ -200,15 +205,16 @@ word-refused most w end then n = go (sameText w (U ∷ [])) refl (sameText w (hy
         absurd (omega arith)
     go false f false k (some y) g h = absurd (h y end refl)
 
-pub takes-number : (read : Bool) (most : ℕ) (line : Text) (end x e : ℕ) (a : Argument) (then : ℕ → List Text → Reading) → a ≡ fieldAt read most line end → a ≡ Number x e → takeNumber read most (wordsBehind line end) then ≡ then x (wordsBehind line e)
+pub takes-number : (read : Bool) (most : ℕ) (line : Text) (end x e : ℕ) (a : Argument) (then : ℕ → List Text → Reading) → a ≡ fieldAt read most line end → a ≡ Number x e
+    → takeNumber read most (wordsBehind line end) then ≡ then x (wordsBehind line e)
 unfolding fieldAt argumentAt takeNumber firstOf
 takes-number false most line end x e a then f g =
     let p : 0 ≡ x = cc in
     let q : end ≡ e = cc in
     ap (λ (y : ℕ). then y (wordsBehind line end)) p ∙ ap (λ (y : ℕ). then x (wordsBehind line y)) q
-takes-number true most line end x e a then f g = go (wordsBehind line end) (linked line end) (sym f ∙ g)
+takes-number true most line end x e a then f g = go (wordsBehind line end) (followed line end) (sym f ∙ g)
   where
-    go : (ws : List Text) → Linked line end ws → firstOf most ws end ≡ Number x e → takeNumber true most ws then ≡ then x (wordsBehind line e)
+    go : (ws : List Text) → Followed line end ws → firstOf most ws end ≡ Number x e → takeNumber true most ws then ≡ then x (wordsBehind line e)
     go [] l h =
         let z : _≡_ {A = ℕ} 0 1 = cc in
         absurd (omega arith)
@@ -216,7 +222,8 @@ takes-number true most line end x e a then f g = go (wordsBehind line end) (link
         let k = word-number most w (end + 1 + length w) x e (λ (y : ℕ). then y ws) h in
         k .0 ∙ ap (then x) l ∙ ap (λ (y : ℕ). then x (wordsBehind line y)) (sym (k .1))
 
-pub takes-none : (read : Bool) (most : ℕ) (line : Text) (end : ℕ) (a : Argument) (then : ℕ → List Text → Reading) → a ≡ fieldAt read most line end → ((x e : ℕ) → a ≡ Number x e → ⊥) → takeNumber read most (wordsBehind line end) then ≡ refused
+pub takes-none : (read : Bool) (most : ℕ) (line : Text) (end : ℕ) (a : Argument) (then : ℕ → List Text → Reading) → a ≡ fieldAt read most line end → ((x e : ℕ) → a ≡ Number x e → ⊥)
+    → takeNumber read most (wordsBehind line end) then ≡ refused
 unfolding fieldAt argumentAt takeNumber firstOf
 takes-none false most line end a then f n = absurd (n 0 end f)
 takes-none true most line end a then f n = go (wordsBehind line end) (λ (x e : ℕ) (h : firstOf most (wordsBehind line end) end ≡ Number x e). n x e (f ∙ h))
@@ -226,8 +233,11 @@ takes-none true most line end a then f n = go (wordsBehind line end) (λ (x e : 
     go (w ∷ ws) h = word-refused most w (end + 1 + length w) (λ (y : ℕ). then y ws) h
 
 -- what the test on the variant of an argument says
-pub no-number : (a : Argument) → OneOf (1 ∷ 2 ∷ 3 ∷ 4 ∷ []) (tagOf the-type a) → (x e : ℕ) → a ≡ Number x e → ⊥
-no-number a k x e f = go (subst (λ (b : Argument). OneOf (1 ∷ 2 ∷ 3 ∷ 4 ∷ []) (tagOf the-type b)) f k)
+abbrev pub NoNumber : Argument → Type 0
+NoNumber a = OneOf (1 ∷ 2 ∷ 3 ∷ 4 ∷ []) (tagOf the-type a)
+
+pub no-number : (a : Argument) → NoNumber a → (x e : ℕ) → a ≡ Number x e → ⊥
+no-number a k x e f = go (subst NoNumber f k)
   where
     go : OneOf (1 ∷ 2 ∷ 3 ∷ 4 ∷ []) 0 → ⊥
     go (inl h) = omega arith
@@ -237,7 +247,8 @@ no-number a k x e f = go (subst (λ (b : Argument). OneOf (1 ∷ 2 ∷ 3 ∷ 4 �
 
 -- the words that a space takes
 
-space-behind : (optional : Bool) (line : Text) (end : ℕ) (s : Space) (e : ℕ) (then : Space → List Text → Reading) (ws : List Text) → wordsBehind line end ≡ ws → Linked line end ws → spaceOf optional end (firstOf mostName ws end) ≡ Given s e → takeSpace optional ws then ≡ then s (wordsBehind line e)
+space-behind : (optional : Bool) (line : Text) (end : ℕ) (s : Space) (e : ℕ) (then : Space → List Text → Reading) (ws : List Text) → wordsBehind line end ≡ ws → Followed line end ws
+    → spaceOf optional end (firstOf mostName ws end) ≡ Given s e → takeSpace optional ws then ≡ then s (wordsBehind line e)
 unfolding firstOf ofWord asNumber spaceOf takeSpace withNumber
 space-behind true line end s e then [] k l h =
     let p : Universe ≡ s = cc in
@@ -267,9 +278,10 @@ space-behind optional line end s e then (w ∷ ws) k l h = go (sameText w (U ∷
         let q : end + 1 + length w ≡ e = cc in
         ap (λ (t : Space). then t ws) p ∙ ap (then s) l ∙ ap (λ (y : ℕ). then s (wordsBehind line y)) q
 
-pub takes-space : (optional : Bool) (line : Text) (end : ℕ) (s : Space) (e : ℕ) (r : SpaceArgument) (then : Space → List Text → Reading) → r ≡ spaceOf optional end (argumentAt mostName line end) → r ≡ Given s e → takeSpace optional (wordsBehind line end) then ≡ then s (wordsBehind line e)
+pub takes-space : (optional : Bool) (line : Text) (end : ℕ) (s : Space) (e : ℕ) (r : SpaceArgument) (then : Space → List Text → Reading) → r ≡ spaceOf optional end (argumentAt mostName line end)
+    → r ≡ Given s e → takeSpace optional (wordsBehind line end) then ≡ then s (wordsBehind line e)
 unfolding argumentAt
-takes-space optional line end s e r then f g = space-behind optional line end s e then (wordsBehind line end) refl (linked line end) (sym f ∙ g)
+takes-space optional line end s e r then f g = space-behind optional line end s e then (wordsBehind line end) refl (followed line end) (sym f ∙ g)
 
 no-space-behind : (optional : Bool) (end : ℕ) (then : Space → List Text → Reading) (ws : List Text) → spaceOf optional end (firstOf mostName ws end) ≡ NotASpace → takeSpace optional ws then ≡ refused
 unfolding firstOf ofWord asNumber spaceOf takeSpace withNumber
@@ -293,11 +305,36 @@ no-space-behind optional end then (w ∷ ws) h = go (sameText w (U ∷ [])) (sam
         let z : _≡_ {A = ℕ} 0 1 = cc in
         absurd (omega arith)
 
-pub takes-no-space : (optional : Bool) (line : Text) (end : ℕ) (r : SpaceArgument) (then : Space → List Text → Reading) → r ≡ spaceOf optional end (argumentAt mostName line end) → r ≡ NotASpace → takeSpace optional (wordsBehind line end) then ≡ refused
+pub takes-no-space : (optional : Bool) (line : Text) (end : ℕ) (r : SpaceArgument) (then : Space → List Text → Reading) → r ≡ spaceOf optional end (argumentAt mostName line end) → r ≡ NotASpace
+    → takeSpace optional (wordsBehind line end) then ≡ refused
 unfolding argumentAt
 takes-no-space optional line end r then f g = no-space-behind optional end then (wordsBehind line end) (sym f ∙ g)
 
--- a space that is missing
-pub missing-space : (optional : Bool) (line : Text) (end : ℕ) (a : Argument) → a ≡ argumentAt mostName line end → a ≡ Missing → cond optional (Given Universe end) NotASpace ≡ spaceOf optional end (argumentAt mostName line end)
-unfolding spaceOf
-missing-space optional line end a f g = ap (spaceOf optional end) (sym g ∙ f)
+-- the space that an argument is
+module _ (optional : Bool) (line : Text) (end : ℕ) (a : Argument) (f : a ≡ argumentAt mostName line end) where
+  by-argument : (b : Argument) → a ≡ b → spaceOf optional end b ≡ spaceOf optional end (argumentAt mostName line end)
+  by-argument b g = ap (spaceOf optional end) (sym g ∙ f)
+
+  pub numbered-space : (x after : ℕ) → a ≡ Number x after → Given (Numbered (record { 0 = x })) after ≡ spaceOf optional end (argumentAt mostName line end)
+  unfolding spaceOf
+  numbered-space x after g = by-argument (Number x after) g
+
+  pub universe-space : (after : ℕ) → a ≡ Universal after → Given Universe after ≡ spaceOf optional end (argumentAt mostName line end)
+  unfolding spaceOf
+  universe-space after g = by-argument (Universal after) g
+
+  pub nothing-space : (after : ℕ) → a ≡ NoSelection after → Given Nothing after ≡ spaceOf optional end (argumentAt mostName line end)
+  unfolding spaceOf
+  nothing-space after g = by-argument (NoSelection after) g
+
+  pub unreadable-space : a ≡ Unreadable → NotASpace ≡ spaceOf optional end (argumentAt mostName line end)
+  unfolding spaceOf
+  unreadable-space g = by-argument Unreadable g
+
+  pub missing-universe : a ≡ Missing → optional ≡ true → Given Universe end ≡ spaceOf optional end (argumentAt mostName line end)
+  unfolding spaceOf
+  missing-universe g o = ap (λ (b : Bool). cond b (Given Universe end) NotASpace) (sym o) ∙ by-argument Missing g
+
+  pub missing-space : a ≡ Missing → optional ≡ false → NotASpace ≡ spaceOf optional end (argumentAt mostName line end)
+  unfolding spaceOf
+  missing-space g o = ap (λ (b : Bool). cond b (Given Universe end) NotASpace) (sym o) ∙ by-argument Missing g

@@ -1,5 +1,5 @@
 -- A word read digit by digit.
-use mathlib.Core.Bool.{Bool, true, false, cond, _&&_, true≢false}
+use mathlib.Core.Bool.{Bool, true, false, cond, _&&_, and-true, true≢false}
 use mathlib.Core.List.{[], _∷_}
 use mathlib.Core.Path.{_≡_, refl, sym, ap, _∙_}
 use mathlib.Core.Option.{none, some}
@@ -11,7 +11,8 @@ use borrow.Author.Tests.{le-leb, lt-leb}
 use Rattle.text.specs.Bytes.{Text}
 use Rattle.text.specs.Numerals.{digitZero, isDigit, allDigits, plainDigits, numberAfter, readNumber}
 use Rattle.text.proofs.Reading.{rest, digit-yes, digit-below, digit-above, grows}
-use Rattle.lines.specs.declared.numbers.Numeral.the-variants.{NotANumber}
+use Rattle.lines.specs.declared.numbers.Numeral.{Numeral}
+use Rattle.lines.specs.declared.numbers.Numeral.the-variants.{Value, NotANumber}
 use Rattle.lines.specs.Places.{numeralOf, leadingZero, readDigits}
 
 -- the first digit
@@ -38,7 +39,7 @@ digits-off : (most a b : ℕ) (bs : Text) → isDigit b ≡ false → readDigits
 unfolding readDigits allDigits numberAfter
 digits-off most a b bs e = rw e
 
-pub digits-past : (most a : ℕ) (w : Text) → most < a → readDigits most a w ≡ none
+digits-past : (most a : ℕ) (w : Text) → most < a → readDigits most a w ≡ none
 unfolding readDigits
 digits-past most a w h = go (allDigits w) (leb (numberAfter a w) most) (lt-leb (numberAfter a w) most (omega (arith, grows w a)))
   where
@@ -46,24 +47,45 @@ digits-past most a w h = go (allDigits w) (leb (numberAfter a w) most) (lt-leb (
     go true q e = ap (λ (t : Bool). cond t (some (numberAfter a w)) none) e
     go false q e = refl
 
-pub one-digit : (most a d : ℕ) (w : Text) (i : ℕ) → i < length w → digitZero ≤ getD w i 0 → getD w i 0 ≤ digitZero + 9 → d ≡ getD w i 0 - digitZero → readDigits most a (drop i w) ≡ readDigits most (a * 10 + d) (drop (i + 1) w)
+one-digit : (most a d : ℕ) (w : Text) (i : ℕ) → i < length w → digitZero ≤ getD w i 0 → getD w i 0 ≤ digitZero + 9 → d ≡ getD w i 0 - digitZero → readDigits most a (drop i w) ≡ readDigits most (a * 10 + d) (drop (i + 1) w)
 one-digit most a d w i h l u e =
     ap (readDigits most a) (rest w i h)
     ∙ digits-on most a _ _ (digit-yes _ l u)
     ∙ ap (λ (x : ℕ). readDigits most (a * 10 + x) (drop (i + 1) w)) (sym e)
 
-pub byte-below : (most a : ℕ) (w : Text) (i : ℕ) → i < length w → getD w i 0 < digitZero → readDigits most a (drop i w) ≡ none
+byte-below : (most a : ℕ) (w : Text) (i : ℕ) → i < length w → getD w i 0 < digitZero → readDigits most a (drop i w) ≡ none
 byte-below most a w i h l = ap (readDigits most a) (rest w i h) ∙ digits-off most a _ _ (digit-below _ l)
 
-pub byte-above : (most a : ℕ) (w : Text) (i : ℕ) → i < length w → digitZero + 9 < getD w i 0 → readDigits most a (drop i w) ≡ none
+byte-above : (most a : ℕ) (w : Text) (i : ℕ) → i < length w → digitZero + 9 < getD w i 0 → readDigits most a (drop i w) ≡ none
 byte-above most a w i h l = ap (readDigits most a) (rest w i h) ∙ digits-off most a _ _ (digit-above _ l)
 
-pub no-more : (most a : ℕ) (w : Text) (i : ℕ) → length w ≤ i → a ≤ most → readDigits most a (drop i w) ≡ some a
+all-digits-read : (most a : ℕ) (w : Text) (i : ℕ) → length w ≤ i → a ≤ most → readDigits most a (drop i w) ≡ some a
 unfolding readDigits allDigits numberAfter
-no-more most a w i h l =
+all-digits-read most a w i h l =
     let p = drop-of-length-le w h in
     let q = le-leb a most l in
     rw (p, q)
+
+-- a word read as far as place i: the number so far is `value`
+module _ (most : ℕ) (w : Text) (value i : ℕ) (S : readDigits most 0 w ≡ readDigits most value (drop i w)) where
+  pub stop-below : i < length w → getD w i 0 < digitZero → NotANumber ≡ numeralOf (readDigits most 0 w)
+  unfolding numeralOf
+  stop-below h l = sym (ap numeralOf (S ∙ byte-below most value w i h l))
+
+  pub stop-above : i < length w → digitZero + 9 < getD w i 0 → NotANumber ≡ numeralOf (readDigits most 0 w)
+  unfolding numeralOf
+  stop-above h l = sym (ap numeralOf (S ∙ byte-above most value w i h l))
+
+  pub digit-taken : (d : ℕ) → i < length w → digitZero ≤ getD w i 0 → getD w i 0 ≤ digitZero + 9 → d ≡ getD w i 0 - digitZero → readDigits most 0 w ≡ readDigits most (value * 10 + d) (drop (i + 1) w)
+  digit-taken d h l u e = S ∙ one-digit most value d w i h l u e
+
+  pub stop-past : (d limit : ℕ) → i < length w → digitZero ≤ getD w i 0 → getD w i 0 ≤ digitZero + 9 → d ≡ getD w i 0 - digitZero → limit < value * 10 + d → limit ≡ most → NotANumber ≡ numeralOf (readDigits most 0 w)
+  unfolding numeralOf
+  stop-past d limit h l u e past k = sym (ap numeralOf (digit-taken d h l u e ∙ digits-past most (value * 10 + d) (drop (i + 1) w) (omega arith)))
+
+  pub digits-ended : length w ≤ i → value ≤ most → Value value ≡ numeralOf (readDigits most 0 w)
+  unfolding numeralOf
+  digits-ended h l = sym (ap numeralOf (S ∙ all-digits-read most value w i h l))
 
 -- the whole word
 
@@ -84,12 +106,11 @@ pub zero-refused : (most : ℕ) (w : Text) (r : Bool) → r ≡ leadingZero w �
 unfolding numeralOf
 zero-refused most w r e f = sym (ap numeralOf (zero-leads most w (sym e ∙ f)))
 
-and-true : (a : Bool) → (a && true) ≡ a
-and-true true = refl
-and-true false = refl
-
-pub digits-whole : (most : ℕ) (w : Text) → (length w ≡ 0 → ⊥) → leadingZero w ≡ false → readDigits most 0 w ≡ readNumber most w
+digits-whole : (most : ℕ) (w : Text) → (length w ≡ 0 → ⊥) → leadingZero w ≡ false → readDigits most 0 w ≡ readNumber most w
 unfolding readNumber readDigits plainDigits leadingZero allDigits
 digits-whole most [] n e = absurd (n refl)
 digits-whole most (b ∷ []) n e = ap (λ (t : Bool). cond (t && leb (numberAfter 0 (b ∷ [])) most) (some (numberAfter 0 (b ∷ []))) none) (and-true (isDigit b))
 digits-whole most (b ∷ c ∷ bs) n e = rw e
+
+pub digits-read : (most : ℕ) (w : Text) (r : Bool) → (length w ≡ 0 → ⊥) → r ≡ leadingZero w → r ≡ false → (x : Numeral) → x ≡ numeralOf (readDigits most 0 w) → x ≡ numeralOf (readNumber most w)
+digits-read most w r n e f x k = k ∙ ap numeralOf (digits-whole most w n (sym e ∙ f))

@@ -1,5 +1,6 @@
 pub mod Digits
 pub mod LineLaws
+pub mod Parting
 pub mod WordLaws
 pub mod ArgumentLaws
 pub mod CallLaws

@@ -5,10 +5,10 @@ use mathlib.Core.Path.{_≡_, refl, sym, ap, _∙_}
 use Prim.Native.Nat.{ℕ, suc, _+_, _-_, _≤_, _<_}
 use native.Mathlib.Omega.{arith}
 use lib.Dec.{eqb}
-use lib.ListN.{length, take, drop, drop-of-length-le, length-drop}
+use lib.ListN.{length, getD, take, drop, drop-of-length-le, length-drop}
 use lib.Seq.{drop-drop}
 use Rattle.text.specs.Bytes.{Text, before, lineFeed}
-use Rattle.text.proofs.Reading.{before-take, before-within}
+use Rattle.text.proofs.Reading.{before-take, before-within, none-at-end, none-at-stop, one-more}
 use Rattle.lines.specs.Lines.{inFront, linesOf}
 
 -- the part of a text up to a byte, by where it ends
@@ -16,6 +16,17 @@ pub part-before : (end : ℕ) (t : Text) (from stop : ℕ) → stop ≡ from + l
 part-before end t from stop e =
     let k : stop - from ≡ length (before end (drop from t)) = omega arith in
     ap (λ (x : ℕ). take x (drop from t)) k ∙ before-take end (drop from t)
+
+-- the byte looked for from a place on, as far as place `at`
+module _ (end : ℕ) (t : Text) (from at : ℕ) (S : from + length (before end (drop from t)) ≡ at + length (before end (drop at t))) where
+  pub end-found : at < length t → getD t at 0 ≡ end → at ≡ from + length (before end (drop from t))
+  end-found h e = omega (arith, none-at-stop end t at h e)
+
+  pub end-further : at < length t → (getD t at 0 ≡ end → ⊥) → from + length (before end (drop from t)) ≡ at + 1 + length (before end (drop (at + 1) t))
+  end-further h n = omega (arith, one-more end t at h n)
+
+  pub end-missing : length t ≤ at → at ≡ from + length (before end (drop from t))
+  end-missing h = omega (arith, none-at-end end t at h)
 
 -- behind the last line, with or without a line feed, there is none
 pub no-lines : (script : Text) (from : ℕ) → length script ≤ from → linesOf (drop from script) ≡ []

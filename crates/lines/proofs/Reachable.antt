@@ -1,6 +1,6 @@
 -- No operator is out of reach: each call has a line that reads as it.
-use mathlib.Core.Bool.{Bool, true, false, cond, not, _&&_, true≢false}
-use mathlib.Core.List.{List, [], _∷_, _++_}
+use mathlib.Core.Bool.{Bool, true, false, cond, _&&_, true≢false}
+use mathlib.Core.List.{List, [], _∷_, append-nil}
 use mathlib.Core.Path.{_≡_, refl, sym, ap, _∙_, subst}
 use Prim.Native.Nat.{ℕ, _≤_}
 use native.Mathlib.Omega.{arith}
@@ -13,73 +13,52 @@ use Rattle.model.specs.declared.Space.the-variants.{Universe, Numbered, Nothing
 use Rattle.model.specs.Numbers.{everyUpTo}
 use Rattle.model.specs.Keys.{mostName}
 use Rattle.model.specs.Operators.{readsOf, within}
-use Rattle.model.proofs.Bools.{and-left, and-right, and-both, no-not, failed}
+use Rattle.model.proofs.Bools.{and-left, and-right, and-both, failed}
 use Rattle.model.proofs.Numbers.{every-up-to}
 use Rattle.text.specs.Bytes.{Text, sameText, blank, U, hyphen}
 use Rattle.text.specs.Numerals.{isDigit, allDigits, printedNumber}
 use Rattle.text.proofs.Reading.{same-text}
 use Rattle.text.proofs.Printing.{reads-back, digits-printed}
+use Rattle.text.proofs.Lacking.{lacks, lacks-printed}
 use Rattle.lines.specs.declared.Reading.{Reading}
 use Rattle.lines.specs.declared.Reading.the-variants.{Read}
-use Rattle.lines.specs.Lines.{inFront, wordsOf}
+use Rattle.lines.specs.Lines.{wordsOf}
 use Rattle.letters.specs.OperatorWords.{operatorWords, numberFrom, operatorNumber}
 use Rattle.lines.specs.Calls.{mostValue, withNumber, takeNumber, takeSpace, complete, callOf, inOrder, spaceThenValue, spaces, arguments, readWords, readLine}
 use Rattle.model.specs.Unread.{readable}
 use Rattle.lines.specs.Reachable.{joined, lettersOf, spaceText, ifRead, fieldsThen, orderedOf, argumentsOf, lineOf, shortLineOf, SpaceFits, Fitting}
+use Rattle.lines.proofs.Parting.{parted-off}
 use Rattle.lines.proofs.CallLaws.{behindN, behindG, behindM, behindV}
 
 -- words without a blank, joined, are parted again
 
 abbrev plain : Text → Bool
-plain [] = true
-plain (b ∷ bs) = not (eqb b blank) && plain bs
+plain w = lacks blank w
 
 abbrev allPlain : List Text → Bool
 allPlain [] = true
 allPlain (w ∷ ws) = plain w && allPlain ws
 
-not-blank : (b : ℕ) (bs : Text) → plain (b ∷ bs) ≡ true → eqb b blank ≡ false
-not-blank b bs e = failed (eqb b blank) (λ f. true≢false (sym (and-left (not (eqb b blank)) (plain bs) e) ∙ ap not f))
-
-words-blank : (w t : Text) → plain w ≡ true → wordsOf (w ++ (blank ∷ t)) ≡ w ∷ wordsOf t
-unfolding wordsOf inFront
-words-blank [] t e = refl
-words-blank (b ∷ bs) t e =
-    let n = not-blank b bs e in
-    rw n (ap (inFront b) (words-blank bs t (and-right (not (eqb b blank)) (plain bs) e)))
-
 words-one : (w : Text) → plain w ≡ true → wordsOf w ≡ w ∷ []
-unfolding wordsOf inFront
-words-one [] e = refl
-words-one (b ∷ bs) e =
-    let n = not-blank b bs e in
-    rw n (ap (inFront b) (words-one bs (and-right (not (eqb b blank)) (plain bs) e)))
+unfolding wordsOf
+words-one w e = ap wordsOf (sym (append-nil w)) ∙ parted-off blank wordsOf (λ b bs. refl) w [] [] e refl
 
 parted : (w : Text) (ws : List Text) → plain w ≡ true → allPlain ws ≡ true → wordsOf (joined w ws) ≡ w ∷ ws
-unfolding joined
+unfolding joined wordsOf
 parted w [] e f = words-one w e
 parted w (x ∷ xs) e f =
-    words-blank w (joined x xs) e
+    parted-off blank wordsOf (λ b bs. refl) w (blank ∷ joined x xs) (wordsOf (joined x xs)) e refl
     ∙ ap (λ (vs : List Text). w ∷ vs) (parted x xs (and-left (plain x) (allPlain xs) f) (and-right (plain x) (allPlain xs) f))
 
 -- the words of a line have no blank
 
-digits-plain : (w : Text) → allDigits w ≡ true → plain w ≡ true
-unfolding allDigits isDigit
-digits-plain [] e = refl
-digits-plain (b ∷ bs) e =
-    let d = leb-true 48 b (and-left (leb 48 b) _ (and-left (isDigit b) (allDigits bs) e)) in
-    and-both (not (eqb b blank)) (plain bs)
-    (no-not (eqb b blank) (ne-eqb b blank (λ k. omega arith)))
-    (digits-plain bs (and-right (isDigit b) (allDigits bs) e))
-
-printed-plain : (x : ℕ) → x ≤ mostValue → plain (printedNumber x) ≡ true
-printed-plain x h = digits-plain (printedNumber x) (digits-printed x h)
+printed-plain : (x : ℕ) → plain (printedNumber x) ≡ true
+printed-plain x = lacks-printed blank x (omega arith)
 
 space-plain : (s : Space) → SpaceFits s → plain (spaceText s) ≡ true
 unfolding spaceText
 space-plain Universe h = refl
-space-plain (Numbered x) h = printed-plain (x .0) (omega arith)
+space-plain (Numbered x) h = printed-plain (x .0)
 space-plain Nothing h = refl
 
 read-plain : (read : Bool) (w : Text) (ws : List Text) → plain w ≡ true → allPlain ws ≡ true → allPlain (ifRead read w ws) ≡ true
@@ -94,10 +73,10 @@ letters-plain o h k = every-up-to (λ (i : ℕ). plain (lettersOf i)) 57 refl o 
 fields-plain : (c : Call) → Fitting c → (ws : List Text) → allPlain ws ≡ true → allPlain (fieldsThen c ws) ≡ true
 unfolding fieldsThen
 fields-plain c f ws h =
-    read-plain (readsOf (c .operator) .n) _ _ (printed-plain (c .n .0) (omega (arith, f .nodeFits)))
-    (read-plain (readsOf (c .operator) .g) _ _ (printed-plain (c .g .0) (omega (arith, f .edgeFits)))
-    (read-plain (readsOf (c .operator) .m) _ _ (printed-plain (c .m .0) (omega (arith, f .otherFits)))
-    (read-plain (readsOf (c .operator) .v) _ ws (printed-plain (c .v) (f .valueFits)) h)))
+    read-plain (readsOf (c .operator) .n) _ _ (printed-plain (c .n .0))
+    (read-plain (readsOf (c .operator) .g) _ _ (printed-plain (c .g .0))
+    (read-plain (readsOf (c .operator) .m) _ _ (printed-plain (c .m .0))
+    (read-plain (readsOf (c .operator) .v) _ ws (printed-plain (c .v)) h)))
 
 ordered-plain : (c : Call) → Fitting c → allPlain (orderedOf c) ≡ true
 unfolding orderedOf
@@ -113,7 +92,7 @@ arguments-plain : (c : Call) → Fitting c → allPlain (argumentsOf c) ≡ true
 unfolding argumentsOf
 arguments-plain c f =
     either (eqb (c .operator) 52) (spaceText (c .s) ∷ printedNumber (c .v) ∷ []) (orderedOf c)
-    (and-both (plain (spaceText (c .s))) _ (space-plain (c .s) (f .spaceFits)) (and-both (plain (printedNumber (c .v))) true (printed-plain (c .v) (f .valueFits)) refl))
+    (and-both (plain (spaceText (c .s))) _ (space-plain (c .s) (f .spaceFits)) (and-both (plain (printedNumber (c .v))) true (printed-plain (c .v)) refl))
     (ordered-plain c f)
 
 -- a printed field reads back

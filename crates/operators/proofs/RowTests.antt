@@ -1,6 +1,6 @@
 -- The tests of a row, by their branches.
 use mathlib.Core.Bool.{Bool, true, false, not, _&&_, _||_}
-use mathlib.Core.Path.{_≡_, refl, sym, ap, _∙_}
+use mathlib.Core.Path.{_≡_, sym, ap}
 use Prim.Native.Nat.{ℕ, _≤_, _<_}
 use lib.Dec.{leb}
 use borrow.Author.Tests.{le-leb, lt-leb}

@@ -1,6 +1,6 @@
 -- Steps of a walk about a local array of n words that is lent as a slice: its cells, and its room again. At any n, so that no list of n words is computed.
-use mathlib.Core.Path.{_≡_, refl, ap}
-use Prim.Native.Nat.{ℕ, zero, suc, _<_}
+use mathlib.Core.Path.{_≡_, refl}
+use Prim.Native.Nat.{ℕ, zero, suc}
 use mathlib.Core.List.{List, [], _∷_}
 use lib.Dec.{T, lit<}
 use lib.ListN.{length, replicate, length-replicate}

@@ -65,7 +65,9 @@ entries-apart [] (q ∷ qs) h k e = absurd (differ lineFeed blank [] (printedNum
 entries-apart (p ∷ ps) [] h k e = absurd (differ lineFeed blank [] (printedNumber (edgeOf p) ++ (colon ∷ (printedNumber (nodeOf p) ++ entriesLine ps))) refl (sym e ∙ entries-line p ps))
 entries-apart (p ∷ ps) (q ∷ qs) (more-names _ _ pe pn h) (more-names _ _ qe qn k) e =
     let edges : (edgeOf p ≡ edgeOf q) × (colon ∷ (printedNumber (nodeOf p) ++ entriesLine ps) ≡ colon ∷ (printedNumber (nodeOf q) ++ entriesLine qs)) =
-    printed-split (edgeOf p) (edgeOf q) (colon ∷ (printedNumber (nodeOf p) ++ entriesLine ps)) (colon ∷ (printedNumber (nodeOf q) ++ entriesLine qs)) pe qe (colon-stop (printedNumber (nodeOf p) ++ entriesLine ps)) (colon-stop (printedNumber (nodeOf q) ++ entriesLine qs)) (ap (drop 1) (sym (entries-line p ps) ∙ e ∙ entries-line q qs)) in
+    printed-split (edgeOf p) (edgeOf q) (colon ∷ (printedNumber (nodeOf p) ++ entriesLine ps)) (colon ∷ (printedNumber (nodeOf q) ++ entriesLine qs)) pe qe
+    (colon-stop (printedNumber (nodeOf p) ++ entriesLine ps)) (colon-stop (printedNumber (nodeOf q) ++ entriesLine qs))
+    (ap (drop 1) (sym (entries-line p ps) ∙ e ∙ entries-line q qs)) in
     let nodes : (nodeOf p ≡ nodeOf q) × (entriesLine ps ≡ entriesLine qs) =
     printed-split (nodeOf p) (nodeOf q) (entriesLine ps) (entriesLine qs) pn qn (entries-stop ps) (entries-stop qs) (ap (drop 1) (edges .1)) in
     ap (λ (x : ℕ). pair x (nodeOf p) ∷ ps) (edges .0) ∙ ap (λ (x : ℕ). pair (edgeOf q) x ∷ ps) (nodes .0) ∙ ap (λ (l : List Pair). q ∷ l) (entries-apart ps qs h k (nodes .1))

@@ -50,7 +50,8 @@ pub enter-start : (list : List ℕ) (count : ℕ) (out : Text) (at : ℕ) → En
 unfolding entriesText
 enter-start list count out at = record { within = omega arith; put = put-none out at }
 
-module _ (list : List ℕ) (count : ℕ) (out : Text) (at : ℕ) (out′ : Text) (end i : ℕ) (held : count ≤ length list) (fits : at + length (entriesText (map unpack (take count list))) ≤ length out) (p : Entering list count out at out′ end i) where
+module _ (list : List ℕ) (count : ℕ) (out : Text) (at : ℕ) (out′ : Text) (end i : ℕ) (held : count ≤ length list)
+    (fits : at + length (entriesText (map unpack (take count list))) ≤ length out) (p : Entering list count out at out′ end i) where
   pub enter-length : length out′ ≡ length out
   enter-length = put-length (p .put) (fits-first (firstEntries list i) (firstEntries (drop i list) (count - i)) out at (entries-rest list i count (p .within)) fits)
 

@@ -14,7 +14,8 @@ use Rattle.print.specs.Answers.{signed, yesOrNo, entryText, entriesText,
 use Rattle.print.proofs.Puts.{put-then, put-same}
 
 -- a sign, a blank and a number
-pub signed-put : (sign x : ℕ) {out o₁ o₂ o₃ : Text} {at m₁ m₂ end : ℕ} → at + length (signed sign x) ≤ length out → Put (sign ∷ []) out at m₁ o₁ → Put (blank ∷ []) o₁ m₁ m₂ o₂ → Put (printedNumber x) o₂ m₂ end o₃ → Put (signed sign x) out at end o₃
+pub signed-put : (sign x : ℕ) {out o₁ o₂ o₃ : Text} {at m₁ m₂ end : ℕ} → at + length (signed sign x) ≤ length out → Put (sign ∷ []) out at m₁ o₁ → Put (blank ∷ []) o₁ m₁ m₂ o₂
+    → Put (printedNumber x) o₂ m₂ end o₃ → Put (signed sign x) out at end o₃
 signed-put sign x {out} {o₁} {o₂} {o₃} {at} h p q r =
     let le : at ≤ length out = omega arith in
     put-then le (put-then le p q) r
@@ -42,7 +43,8 @@ pub entry-size : (w : ℕ) → length (entryText (unpack w)) ≡ 2 + length (pri
 unfolding entryText unpack
 entry-size w = omega (arith, length-append (printedNumber (w / nameCount)) (colon ∷ printedNumber (w % nameCount)))
 
-pub entry-put : (w : ℕ) {out o₁ o₂ o₃ o₄ : Text} {at m₁ m₂ m₃ end : ℕ} → at + length (entryText (unpack w)) ≤ length out → Put (blank ∷ []) out at m₁ o₁ → Put (printedNumber (w / 65536)) o₁ m₁ m₂ o₂ → Put (colon ∷ []) o₂ m₂ m₃ o₃ → Put (printedNumber (w % 65536)) o₃ m₃ end o₄ → Put (entryText (unpack w)) out at end o₄
+pub entry-put : (w : ℕ) {out o₁ o₂ o₃ o₄ : Text} {at m₁ m₂ m₃ end : ℕ} → at + length (entryText (unpack w)) ≤ length out → Put (blank ∷ []) out at m₁ o₁ → Put (printedNumber (w / 65536)) o₁ m₁ m₂ o₂
+    → Put (colon ∷ []) o₂ m₂ m₃ o₃ → Put (printedNumber (w % 65536)) o₃ m₃ end o₄ → Put (entryText (unpack w)) out at end o₄
 unfolding entryText unpack
 entry-put w {out} {o₁} {o₂} {o₃} {o₄} {at} h p q r s =
     let le : at ≤ length out = omega arith in
@@ -53,7 +55,8 @@ pub list-size : (k : ℕ) (list : List ℕ) → length (answerText (pairs k (map
 unfolding answerText
 list-size k list = omega (arith, length-append (printedNumber k) (entriesText (map unpack (take k list))))
 
-pub list-put : (k : ℕ) (list : List ℕ) {out o₁ o₂ : Text} {at m₁ end : ℕ} → at + length (answerText (pairs k (map unpack (take k list)))) ≤ length out → Put (signed L k) out at m₁ o₁ → Put (entriesText (map unpack (take k list))) o₁ m₁ end o₂ → Put (answerText (pairs k (map unpack (take k list)))) out at end o₂
+pub list-put : (k : ℕ) (list : List ℕ) {out o₁ o₂ : Text} {at m₁ end : ℕ} → at + length (answerText (pairs k (map unpack (take k list)))) ≤ length out → Put (signed L k) out at m₁ o₁
+    → Put (entriesText (map unpack (take k list))) o₁ m₁ end o₂ → Put (answerText (pairs k (map unpack (take k list)))) out at end o₂
 unfolding answerText
 list-put k list h p q = put-then (omega arith) p q
 

@@ -42,7 +42,7 @@ answerText (pairs k ps) = signed L k ++ entriesText ps
 unfoldable pub answerLine : Reply → Text
 answerLine r = answerText r ++ (lineFeed ∷ [])
 
--- no line is longer: `L 2048`, 2,048 entries of at most 12 bytes, a line feed
+-- a bound for the bytes of any line: `L 2048`, 2,048 entries of at most 12 bytes, a line feed
 abbrev pub mostLine : ℕ
 mostLine = 24583
 

@@ -4,6 +4,13 @@ use libc::STDIN_FILENO;
 use libc::STDOUT_FILENO;
 ghost use Rattle.script.specs.Runs.{Ready, ScriptRun};
 
+// The words of a store with 2,048 records: 4, and 6 for each.
+const STORE_WORDS: usize = 12292;
+// The places of the answer list.
+const LIST_PLACES: usize = 2048;
+// The bytes that are read: one more than a script may have, so that one that is too long shows.
+const INPUT_BYTES: usize = 65537;
+
 // Runs the lines of a script and writes what they print, block by block.
 fn run_lines(store: &mut [u32], list: &mut [u32], script: &[u8])
     requires { ⌜ Ready (now store) (now list) ⌝ }
@@ -21,8 +28,8 @@ fn run_lines(store: &mut [u32], list: &mut [u32], script: &[u8])
 
 // Runs a script on a fresh store with 2,048 records and an answer list of 2,048 places.
 fn run_script(script: &[u8]) {
-    let mut store: [u32; 12292] = [0; 12292];
-    let mut list: [u32; 2048] = [0; 2048];
+    let mut store: [u32; STORE_WORDS] = [0; STORE_WORDS];
+    let mut list: [u32; LIST_PLACES] = [0; LIST_PLACES];
     fresh::prepare(&mut store);
     run_lines(&mut store, &mut list, script);
 }
@@ -36,7 +43,7 @@ fn refuse() {
 
 // The program: reads standard input and runs it as a script.
 pub fn run() {
-    let mut input: [u8; 65537] = [0; 65537];
+    let mut input: [u8; INPUT_BYTES] = [0; INPUT_BYTES];
     let length = io::read_full(STDIN_FILENO, &mut input);
     if !script::accepted(length) {
         refuse();

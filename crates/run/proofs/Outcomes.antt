@@ -26,6 +26,10 @@ requests-made C ts (r ∷ rs) l h =
     = requests-made C (machine C ts (r .call) (r .room) .state) rs (drop (r .room) l) (omega (arith, length-drop (r .room) l)) in
     ap₂ (λ (n : ℕ) (qs : List Request). calling (record { call = r .call; room = n }) ∷ qs) size rest
 
+-- the buffer is a store, as the code tests it
+pub known-store : (b : List ℕ) (s : Bool) → s ≡ isStore b → not s ≡ false → isStore b ≡ true
+known-store b s e n = sym e ∙ not-no s n
+
 -- the lists fit, as the code tests it
 pub lists-wide : (ws l : List ℕ) (f : Bool) → f ≡ leb (roomsOf (callsFrom ws (callCount ws) 0)) (length l) → not f ≡ false
     → roomsOf (callsFrom ws (callCount ws) 0) ≤ length l

@@ -4,7 +4,9 @@ use mathlib.Core.List.{List, [], _∷_, _++_, append-assoc}
 use mathlib.Core.Path.{_≡_, refl, sym, ap, ap₂, _∙_, subst}
 use Prim.Native.Nat.{ℕ, _+_, _-_, _*_, _≤_, _<_}
 use native.Mathlib.Omega.{arith}
-use lib.ListN.{length, take, drop, length-append, length-drop, take-append-drop}
+use mir.Val.{Fits}
+use mir.Syntax.{w32}
+use lib.ListN.{length, getD, take, drop, length-append, length-drop, take-append-drop}
 use lib.Seq.{length-take-le, take-at, drop-at}
 use Rattle.model.specs.declared.Call.{Call}
 use Rattle.model.specs.declared.Answer.{Answer}
@@ -17,7 +19,7 @@ use Rattle.layouts.specs.Stored.{stored}
 use Rattle.model.proofs.Bools.{clash}
 use Rattle.model.proofs.CallLists.{answer-within}
 use Rattle.layouts.proofs.Sizes.{capacity-length}
-use Rattle.run.specs.Words.{answerWords, callAt, roomAt, requestAt, callsFrom, kindOf, numberOf, putAnswer}
+use Rattle.run.specs.Words.{answerWords, callWords, callAt, roomAt, requestAt, callsFrom, kindOf, numberOf, putAnswer}
 use Rattle.run.specs.Runs.{callMade, callsMade, answersAfter, listsAfter, roomsOf, Left, OneRun}
 use Rattle.run.proofs.WordLaws.{calls-start, calls-next, calls-end, answer-length, answer-first, answer-rest}
 use Rattle.run.proofs.Fits.{rooms-next}
@@ -25,8 +27,13 @@ use Rattle.run.proofs.Fits.{rooms-next}
 -- ---- one call
 
 -- the number of pairs that a call lists fits a word, since the length of its list does
-pub count-fits : (b l b′ l′ : List ℕ) (c : Call) (a : Answer) → OnStore stored b l c a b′ l′ → length l′ ≡ length l → length l ≤ 4294967295 → listCount a ≤ 4294967295
+count-fits : (b l b′ l′ : List ℕ) (c : Call) (a : Answer) → OnStore stored b l c a b′ l′ → length l′ ≡ length l → length l ≤ 4294967295 → listCount a ≤ 4294967295
 count-fits b l b′ l′ c a O e h = let k : listCount a ≤ length l = answer-within stored b l b′ l′ c a O e in omega arith
+
+-- .. which is the room that the call gives, a word of the list of calls
+pub count-small : (b ws : List ℕ) (i : ℕ) (l b′ l′ : List ℕ) (c : Call) (a : Answer)
+    → ((k : ℕ) → Fits w32 (getD ws k 0)) → length l ≡ roomAt ws i → OnStore stored b l c a b′ l′ → length l′ ≡ length l → listCount a ≤ 4294967295
+count-small b ws i l b′ l′ c a f e O k = count-fits b l b′ l′ c a O k (omega (arith, e, f (callWords * i + 5)))
 
 -- a call and its answer written are what the machine makes of it
 pub one-run : (b ws : List ℕ) (i : ℕ) (answers l b′ answers′ l′ : List ℕ) (c : Call) (a : Answer)

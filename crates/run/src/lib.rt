@@ -101,8 +101,8 @@ pub fn kind_of(a: Answer) -> u32
     }
 }
 
-// 1 for yes, 0 for no.
-fn bit_of(b: bool) -> u32
+// 1 for yes, 0 for no. Public for the crates above.
+pub fn bit_of(b: bool) -> u32
     ensures { λ r. ⌜ r ≡ bitOf b ⌝ }
 {
     if b {

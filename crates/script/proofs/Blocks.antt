@@ -2,7 +2,7 @@
 use mathlib.Core.Bool.{Bool, true, false, cond}
 use mathlib.Core.List.{List, [], _∷_, _++_, append-assoc, append-nil}
 use mathlib.Core.Path.{_≡_, refl, sym, _∙_, ap, ap₂, subst}
-use Prim.Native.Nat.{ℕ, _+_, _-_, _≤_}
+use Prim.Native.Nat.{ℕ, _-_, _≤_}
 use native.Mathlib.Omega.{arith}
 use lib.Dec.{leb}
 use lib.ListN.{length, drop}
@@ -67,12 +67,12 @@ pub record Going (b₀ l₀ : List ℕ) (script : Text) (b l : List ℕ) (at : �
   pub list : linesList (tuplesOf b) l (linesOf (drop at script)) ≡ linesList (tuplesOf b₀) l₀ (linesOf script)
 
 module _ (b₀ l₀ : List ℕ) (script : Text) where
-  pub go-start : Ready b₀ l₀ → Going b₀ l₀ script b₀ l₀ 0
-  go-start R = record { ready = R; within = omega arith; lines = []; called = end; split = refl; final = refl; list = refl }
+  pub blocks-start : Ready b₀ l₀ → Going b₀ l₀ script b₀ l₀ 0
+  blocks-start R = record { ready = R; within = omega arith; lines = []; called = end; split = refl; final = refl; list = refl }
 
-  pub go-on : (b l b′ l′ : List ℕ) (at : ℕ) (out : Text) (r : Block) (out′ : Text) → Going b₀ l₀ script b l at
+  pub next-block : (b l b′ l′ : List ℕ) (at : ℕ) (out : Text) (r : Block) (out′ : Text) → Going b₀ l₀ script b l at
       → BlockRun (runLines (length out) (tuplesOf b) l (linesOf (drop at script))) b l script at out r b′ l′ out′ → Going b₀ l₀ script b′ l′ (r .next)
-  go-on b l b′ l′ at out r out′ G B =
+  next-block b l b′ l′ at out r out′ G B =
       let xs : List Text = linesOf (drop at script) in
       let u : Run = runLines (length out) (tuplesOf b) l xs in
       let A : AsAll (tuplesOf b) l xs u = run-as-all (length out) (tuplesOf b) l xs in
@@ -94,12 +94,12 @@ module _ (b₀ l₀ : List ℕ) (script : Text) where
       }
 
   -- the store keeps its length
-  pub go-sized : (b l : List ℕ) (at : ℕ) → Going b₀ l₀ script b l at → length b ≡ length b₀
-  go-sized b l at G = trace-keeps (λ (s : List ℕ × List ℕ). length (s .0)) line-size (G .called)
+  pub blocks-sized : (b l : List ℕ) (at : ℕ) → Going b₀ l₀ script b l at → length b ≡ length b₀
+  blocks-sized b l at G = trace-keeps (λ (s : List ℕ × List ℕ). length (s .0)) line-size (G .called)
 
-  pub go-end : (b l : List ℕ) (at : ℕ) → Going b₀ l₀ script b l at → length script ≤ at → ScriptRun b₀ l₀ script b l
+  pub blocks-end : (b l : List ℕ) (at : ℕ) → Going b₀ l₀ script b l at → length script ≤ at → ScriptRun b₀ l₀ script b l
   unfolding linesFinal linesList
-  go-end b l at G h =
+  blocks-end b l at G h =
       let none : linesOf (drop at script) ≡ [] = no-lines script at h in
       let all : G .lines ≡ linesOf script = sym (G .split ∙ ap (λ (ys : List Text). G .lines ++ ys) none ∙ append-nil (G .lines)) in
       record {

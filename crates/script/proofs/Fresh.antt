@@ -1,7 +1,7 @@
 -- A buffer just prepared, of the length that gives 2,048 records, is a store for a script.
 use mathlib.Core.List.{List}
 use mathlib.Core.Path.{_≡_, _∙_}
-use Prim.Native.Nat.{ℕ, _-_}
+use Prim.Native.Nat.{ℕ}
 use native.Mathlib.Omega.{arith}
 use lib.ListN.{length}
 use Rattle.model.specs.declared.Preparation.{Preparation}

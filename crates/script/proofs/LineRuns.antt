@@ -1,15 +1,16 @@
 -- One line on a store: a call and its answer printed, or a refusal printed and no call.
-use mathlib.Core.Bool.{true}
 use mathlib.Core.List.{List, [], _∷_}
 use mathlib.Core.Path.{_≡_, refl, sym, _∙_, ap, ap₂, subst}
 use Prim.Native.Nat.{ℕ, _+_, _≤_}
 use native.Mathlib.Omega.{arith}
+use mir.Val.{Fits}
+use mir.Syntax.{w32}
 use lib.ListN.{length, getD, length-append}
 use Rattle.model.specs.declared.Call.{Call}
 use Rattle.model.specs.declared.Answer.{Answer}
 use Rattle.model.specs.declared.Answer.the-variants.{Refusal}
 use Rattle.model.specs.Steps.{Reply, refusal}
-use Rattle.model.specs.Machine.{State, Outcome, machine}
+use Rattle.model.specs.Machine.{Outcome, machine}
 use Rattle.layouts.specs.Buffer.{capacityOf, tuplesOf}
 use Rattle.model.specs.OneCall.{answerOf, listCount, listAfter, observed, OnStore}
 use Rattle.model.specs.Demand1.{Demand1}
@@ -33,6 +34,10 @@ use Rattle.script.specs.Runs.{Ready, LineCalled, call, no-call, LineStep
 
 -- ---- what was run
 
+-- the words of a lent list are numbers of 32 bits
+words-fit : (l : List ℕ) → ((i : ℕ) → Fits w32 (getD l i 0)) → (i : ℕ) → getD l i 0 ≤ 4294967295
+words-fit l f i = omega (arith, f i)
+
 module _ (b l : List ℕ) (line : Text) (out : Text) (at : ℕ) where
   -- the machine of a script is that of the store and its list
   as-machine : (c : Call) → Ready b l → machine (capacityOf b) (tuplesOf b) c (length l) ≡ machine scriptRecords (tuplesOf b) c scriptPlaces
@@ -48,14 +53,15 @@ module _ (b l : List ℕ) (line : Text) (out : Text) (at : ℕ) where
       ∙ ap (λ (r : Reading). readingOutcome (tuplesOf b) r .answer) (sym e)
 
   -- there is room for the answer of a call
-  pub call-printable : (c : Call) (a : Answer) (b′ l′ : List ℕ) → Ready b l → OnStore stored b l c a b′ l′ → length l′ ≡ length l → ((i : ℕ) → getD l′ i 0 ≤ 4294967295) → at + mostLine ≤ length out
+  pub call-printable : (c : Call) (a : Answer) (b′ l′ : List ℕ) → Ready b l → OnStore stored b l c a b′ l′ → length l′ ≡ length l → ((i : ℕ) → Fits w32 (getD l′ i 0)) → at + mostLine ≤ length out
       → Printable (answerLine (observed a l′)) a l′ out at
   call-printable c a b′ l′ R O k f room =
-      line-printable a l′ out at (omega (arith, answer-within stored b l b′ l′ c a O k)) (omega (arith, R .places)) f room
+      line-printable a l′ out at (omega (arith, answer-within stored b l b′ l′ c a O k)) (omega (arith, R .places)) (words-fit l′ f) room
 
-  pub call-run : (c : Call) (a : Answer) (b′ l′ : List ℕ) (end : ℕ) (out′ : Text) → Ready b l → readLine line ≡ Read c → OnStore stored b l c a b′ l′ → length l′ ≡ length l
-      → ((i : ℕ) → getD l′ i 0 ≤ 4294967295) → at + mostLine ≤ length out → Put (answerLine (observed a l′)) out at end out′ → LineRun b l line out at b′ l′ end out′
-  call-run c a b′ l′ end out′ R e O k f room P =
+  pub call-run : (x : Reading) (c : Call) (a : Answer) (b′ l′ : List ℕ) (end : ℕ) (out′ : Text) → Ready b l → x ≡ readLine line → x ≡ Read c → OnStore stored b l c a b′ l′ → length l′ ≡ length l
+      → ((i : ℕ) → Fits w32 (getD l′ i 0)) → at + mostLine ≤ length out → Put (answerLine (observed a l′)) out at end out′ → LineRun b l line out at b′ l′ end out′
+  call-run x c a b′ l′ end out′ R d r O k f room P =
+      let e : readLine line ≡ Read c = sym d ∙ r in
       record {
         called =
             subst (LineCalled b l b′ l′) (sym e)
@@ -85,9 +91,10 @@ module _ (b l : List ℕ) (line : Text) (out : Text) (at : ℕ) where
         counted = omega arith;
       }
 
-  pub refused-run : (number end : ℕ) (out′ : Text) → readLine line ≡ Refused number → at + mostLine ≤ length out → Put (answerLine (observed (Refusal number) l)) out at end out′
+  pub refused-run : (x : Reading) (number end : ℕ) (out′ : Text) → x ≡ readLine line → x ≡ Refused number → at + mostLine ≤ length out → Put (answerLine (observed (Refusal number) l)) out at end out′
       → LineRun b l line out at b l end out′
-  refused-run number end out′ e room P =
+  refused-run x number end out′ d r room P =
+      let e : readLine line ≡ Refused number = sym d ∙ r in
       record {
         called = subst (LineCalled b l b l) (sym e) (no-call refl refl);
         places = refl;

@@ -2,7 +2,6 @@
 use mathlib.Core.Path.{_≡_, sym, _∙_, ap}
 use Rattle.model.specs.declared.Call.{Call}
 use Rattle.model.specs.Machine.{State, machine}
-use Rattle.model.specs.Unread.{readable}
 use Rattle.model.proofs.Unread.{unread-fields}
 use Rattle.lines.specs.Reachable.{lineOf, Fitting}
 use Rattle.lines.proofs.Reachable.{no-operator-out-of-reach}

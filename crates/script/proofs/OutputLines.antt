@@ -1,28 +1,16 @@
 -- "Output, a line each": a script prints one line for each of its lines, and that is the text of its answer.
-use mathlib.Core.Bool.{Bool, true, false, cond, not, _&&_, true≢false}
-use mathlib.Core.List.{List, [], _∷_, _++_, append-assoc}
-use mathlib.Core.Path.{_≡_, refl, sym, ap, _∙_}
-use Prim.Native.Nat.{ℕ, suc}
-use lib.Dec.{eqb}
+use mathlib.Core.List.{List, [], _∷_, append-assoc}
+use mathlib.Core.Path.{_≡_, refl, ap, _∙_}
+use Prim.Native.Nat.{suc}
 use lib.ListN.{length}
 use Rattle.model.specs.Tuples.{fresh}
 use Rattle.model.specs.Machine.{State}
 use Rattle.text.specs.Bytes.{Text, lineFeed}
-use Rattle.lines.specs.Lines.{inFront, linesOf}
+use Rattle.lines.specs.Lines.{linesOf}
+use Rattle.lines.proofs.Parting.{parted-off}
 use Rattle.print.specs.Answers.{answerText, answerLine}
-use Rattle.print.proofs.OneLine.{feedless, feedless-answer}
+use Rattle.print.proofs.OneLine.{feedless-answer}
 use Rattle.script.specs.Scripts.{lineOutcome, linesOutput, scriptOutput}
-
--- a text without a line feed, then one: the first line
-first-line : (text rest : Text) → feedless text ≡ true → linesOf (text ++ (lineFeed ∷ rest)) ≡ text ∷ linesOf rest
-unfolding linesOf inFront
-first-line [] rest h = refl
-first-line (b ∷ bs) rest h = go (eqb b lineFeed) h (first-line bs rest)
-  where
-    go : (t : Bool) → (not t && feedless bs) ≡ true → (feedless bs ≡ true → linesOf (bs ++ (lineFeed ∷ rest)) ≡ bs ∷ linesOf rest)
-        → cond t ([] ∷ linesOf (bs ++ (lineFeed ∷ rest))) (inFront b (linesOf (bs ++ (lineFeed ∷ rest)))) ≡ (b ∷ bs) ∷ linesOf rest
-    go true e ih = absurd (true≢false (sym e))
-    go false e ih = ap (inFront b) (ih e)
 
 -- the texts of the answers, line after line
 unfoldable pub answerTexts : State → List Text → List Text
@@ -36,7 +24,7 @@ output-lines ts (l ∷ ls) =
     let text : Text = answerText (lineOutcome ts l .answer) in
     let rest : Text = linesOutput (lineOutcome ts l .state) ls in
     ap linesOf (append-assoc text (lineFeed ∷ []) rest)
-    ∙ first-line text rest (feedless-answer (lineOutcome ts l .answer))
+    ∙ parted-off lineFeed linesOf (λ b bs. refl) text (lineFeed ∷ rest) (linesOf rest) (feedless-answer (lineOutcome ts l .answer)) refl
     ∙ ap (λ (xs : List Text). text ∷ xs) (output-lines (lineOutcome ts l .state) ls)
 
 answers-counted : (ts : State) (ls : List Text) → length (answerTexts ts ls) ≡ length ls

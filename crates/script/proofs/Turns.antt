@@ -5,7 +5,7 @@ use mathlib.Core.Path.{_≡_, refl, sym, _∙_, ap, ap₂, subst}
 use Prim.Native.Nat.{ℕ, _+_, _-_, _≤_, _<_, min}
 use native.Mathlib.Omega.{arith}
 use borrow.Author.Tests.{le-leb, lt-leb, ltb-true, ltb-false}
-use lib.Dec.{leb, ltb}
+use lib.Dec.{ltb}
 use lib.ListN.{length, drop, length-append}
 use Rattle.model.specs.Machine.{State}
 use Rattle.layouts.specs.Buffer.{tuplesOf}
@@ -17,7 +17,6 @@ use Rattle.lines.specs.Lines.{linesOf}
 use Rattle.lines.specs.Calls.{readLine}
 use Rattle.lines.proofs.LineLaws.{no-lines, next-line, line-within}
 use Rattle.print.specs.Answers.{answerLine, Put, mostLine}
-use Rattle.script.specs.declared.Block.{Block}
 use Rattle.script.specs.Scripts.{lineOutcome}
 use Rattle.script.specs.Runs.{Ready, LineStep, LineRun, Run, unrun, linesLength, lineList, runBefore, runLines, nextLine, BlockRun}
 use Rattle.script.proofs.LineRuns.{LineLeft, line-left}
@@ -140,10 +139,10 @@ module _ (b₀ l₀ : List ℕ) (script : Text) (from : ℕ) (out₀ : Text) whe
       }
 
   -- one more line
-  pub run-line-on : (b l : List ℕ) (at size : ℕ) (out line : Text) (b′ l′ : List ℕ) (stop : ℕ) (out′ : Text) (next : ℕ)
+  pub run-next-line : (b l : List ℕ) (at size : ℕ) (out line : Text) (b′ l′ : List ℕ) (stop : ℕ) (out′ : Text) (next : ℕ)
       → Running b₀ l₀ script from out₀ b l at size out → mostLine ≤ length out - size
       → NextLine script at line next → LineRun b l line out size b′ l′ stop out′ → Running b₀ l₀ script from out₀ b′ l′ next stop out′
-  run-line-on b l at size out line b′ l′ stop out′ next S wide X L =
+  run-next-line b l at size out line b′ l′ stop out′ next S wide X L =
       let left : LineLeft b l line b′ l′ = line-left b l (S .ready) line out size b′ l′ stop out′ L in
       let a : Text = answerLine (lineOutcome (tuplesOf b) line .answer) in
       let sized : length out ≡ length out₀

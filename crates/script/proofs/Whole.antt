@@ -11,7 +11,6 @@ use contract.Lifetimes.{Lfts}
 use borrow.Fn.Kinds.{Dens, resT, endedOf}
 use denote.Triple.Clauses.{AtExit}
 use Rattle.model.specs.declared.Preparation.{Preparation}
-use Rattle.model.specs.Tuples.{fresh}
 use Rattle.model.specs.Steps.{refusal}
 use Rattle.model.specs.Machine.{State}
 use Rattle.model.specs.Traces.{Trace, end}

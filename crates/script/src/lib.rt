@@ -13,6 +13,11 @@ ghost use Rattle.print.specs.Answers.{answerLine, mostLine, Put};
 ghost use Rattle.script.specs.Scripts.{mostInput};
 ghost use Rattle.script.specs.Runs.{Ready, LineRun, runLines, BlockRun, nextLine};
 
+// A bound for the bytes of any line of output, with its line feed.
+const MOST_LINE: usize = 24583;
+// "It reads at most 65,536 bytes of standard input".
+const MOST_INPUT: usize = 65536;
+
 // What a block of output holds, and where it stopped.
 pub struct Block {
     // Where the next line starts.
@@ -67,7 +72,7 @@ pub fn run_block(
     let mut at = from;
     let mut length = 0;
     while at < script.len() {
-        if out.len() - length < 24583 {
+        if out.len() - length < MOST_LINE {
             return Block { next: at, length };
         }
         let line = lines::line_at(script, at);
@@ -81,7 +86,7 @@ pub fn run_block(
 pub fn accepted(bytes: usize) -> bool
     ensures { λ r. ⌜ r ≡ leb bytes mostInput ⌝ }
 {
-    bytes <= 65536
+    bytes <= MOST_INPUT
 }
 
 // Writes the refusal of an input that is too long.

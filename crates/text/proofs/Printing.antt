@@ -1,5 +1,5 @@
 -- Numbers printed in base ten: they read back, and how long they are.
-use mathlib.Core.Bool.{Bool, true, false, not, _&&_, true≢false}
+use mathlib.Core.Bool.{Bool, true, false, _&&_, and-true, true≢false}
 use mathlib.Core.List.{[], _∷_, _++_}
 use mathlib.Core.Option.{some}
 use mathlib.Core.Path.{_≡_, refl, sym, ap, _∙_, subst}
@@ -88,13 +88,9 @@ leading-append _ es (leading b bs h) = leading b (bs ++ es) h
 leading-printed : (x : ℕ) → x ≤ 4294967295 → 0 < x → Leading (printedNumber x)
 leading-printed = of-printed (λ (x : ℕ) (ds : Text). 0 < x → Leading ds) (λ x h p. leading (48 + x) [] (ne-eqb (48 + x) 48 (λ e. omega arith))) (λ x ds h ih p. leading-append ds (digit (x % 10) ∷ []) (ih (omega arith)))
 
-and-true : (t : Bool) → (t && true) ≡ true → t ≡ true
-and-true true e = refl
-and-true false e = e
-
 leading-plain : (ds : Text) → Leading ds → allDigits ds ≡ true → plainDigits ds ≡ true
 unfolding plainDigits allDigits
-leading-plain _ (leading b [] h) k = and-true (isDigit b) k
+leading-plain _ (leading b [] h) k = sym (and-true (isDigit b)) ∙ k
 leading-plain _ (leading b (c ∷ bs) h) k = simp h k
 
 -- "plain digits without a leading zero (zero itself is `0`)"

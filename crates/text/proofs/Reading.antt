@@ -1,7 +1,7 @@
 -- Texts read byte by byte: the part before a byte, texts that are the same, and the numbers of digits.
 use mathlib.Core.Bool.{Bool, true, false, cond, _&&_, false≢true}
 use mathlib.Core.List.{[], _∷_}
-use mathlib.Core.Path.{_≡_, refl, ap, _∙_}
+use mathlib.Core.Path.{_≡_, refl, sym, ap, _∙_}
 use mathlib.Core.Option.{none, some}
 use Prim.Native.Nat.{ℕ, suc, _+_, _-_, _*_, _≤_, _<_}
 use native.Mathlib.Omega.{arith}
@@ -23,9 +23,9 @@ pub before-stop : (end b : ℕ) (bs : Text) → b ≡ end → before end (b ∷ 
 unfolding before
 before-stop end b bs e = ap (λ (t : Bool). cond t [] (b ∷ before end bs)) (eq-eqb b end e)
 
-pub before-on : (end b : ℕ) (bs : Text) → (b ≡ end → ⊥) → before end (b ∷ bs) ≡ b ∷ before end bs
+pub before-other : (end b : ℕ) (bs : Text) → (b ≡ end → ⊥) → before end (b ∷ bs) ≡ b ∷ before end bs
 unfolding before
-before-on end b bs n = ap (λ (t : Bool). cond t [] (b ∷ before end bs)) (ne-eqb b end n)
+before-other end b bs n = ap (λ (t : Bool). cond t [] (b ∷ before end bs)) (ne-eqb b end n)
 
 -- how long the part before a byte is: nothing at the end of the text or at the byte, one more at any other
 pub none-at-end : (end : ℕ) (t : Text) (at : ℕ) → length t ≤ at → length (before end (drop at t)) ≡ 0
@@ -36,7 +36,7 @@ pub none-at-stop : (end : ℕ) (t : Text) (at : ℕ) → at < length t → getD 
 none-at-stop end t at h e = ap (λ (x : Text). length (before end x)) (rest t at h) ∙ ap length (before-stop end _ _ e)
 
 pub one-more : (end : ℕ) (t : Text) (at : ℕ) → at < length t → (getD t at 0 ≡ end → ⊥) → length (before end (drop at t)) ≡ suc (length (before end (drop (at + 1) t)))
-one-more end t at h n = ap (λ (x : Text). length (before end x)) (rest t at h) ∙ ap length (before-on end _ _ n)
+one-more end t at h n = ap (λ (x : Text). length (before end x)) (rest t at h) ∙ ap length (before-other end _ _ n)
 
 -- the part before a byte is as many of the first bytes
 pub before-take : (end : ℕ) (t : Text) → take (length (before end t)) t ≡ before end t
@@ -79,7 +79,7 @@ same-text (a ∷ x) (b ∷ y) e = go (eqb a b) refl e (same-text x y)
         cc
     go false f g later = absurd (false≢true g)
 
-pub other-length : (x y : Text) → (length x ≡ length y → ⊥) → sameText x y ≡ false
+other-length : (x y : Text) → (length x ≡ length y → ⊥) → sameText x y ≡ false
 other-length x y n = go (sameText x y) refl
   where
     go : (t : Bool) → sameText x y ≡ t → t ≡ false
@@ -87,7 +87,7 @@ other-length x y n = go (sameText x y) refl
     go false e = refl
 
 -- one byte further, in both
-pub same-on : (x y : Text) (i : ℕ) → i < length x → i < length y → getD x i 0 ≡ getD y i 0 → sameText (drop i x) (drop i y) ≡ sameText (drop (i + 1) x) (drop (i + 1) y)
+same-on : (x y : Text) (i : ℕ) → i < length x → i < length y → getD x i 0 ≡ getD y i 0 → sameText (drop i x) (drop i y) ≡ sameText (drop (i + 1) x) (drop (i + 1) y)
 unfolding sameText
 same-on x y i h l e =
     let p = rest x i h in
@@ -95,7 +95,7 @@ same-on x y i h l e =
     let r = eq-eqb (getD x i 0) (getD y i 0) e in
     rw (p, q, r)
 
-pub same-off : (x y : Text) (i : ℕ) → i < length x → i < length y → (getD x i 0 ≡ getD y i 0 → ⊥) → sameText (drop i x) (drop i y) ≡ false
+same-off : (x y : Text) (i : ℕ) → i < length x → i < length y → (getD x i 0 ≡ getD y i 0 → ⊥) → sameText (drop i x) (drop i y) ≡ false
 unfolding sameText
 same-off x y i h l n =
     let p = rest x i h in
@@ -103,13 +103,27 @@ same-off x y i h l n =
     let r = ne-eqb (getD x i 0) (getD y i 0) n in
     rw (p, q, r)
 
-pub same-at-end : (x y : Text) (i : ℕ) → length x ≤ i → length x ≡ length y → sameText (drop i x) (drop i y) ≡ true
+same-at-end : (x y : Text) (i : ℕ) → length x ≤ i → length x ≡ length y → sameText (drop i x) (drop i y) ≡ true
 unfolding sameText
 same-at-end x y i h e =
     let p = drop-of-length-le x h in
     let l : length y ≤ i = omega arith in
     let q = drop-of-length-le y l in
     rw (p, q)
+
+pub lengths-differ : (x y : Text) → (length x ≡ length y → ⊥) → false ≡ sameText x y
+lengths-differ x y n = sym (other-length x y n)
+
+-- texts of one length, compared as far as place i
+module _ (x y : Text) (i : ℕ) (S : sameText x y ≡ sameText (drop i x) (drop i y)) (l : length x ≡ length y) where
+  pub byte-same : i < length x → getD x i 0 ≡ getD y i 0 → sameText x y ≡ sameText (drop (i + 1) x) (drop (i + 1) y)
+  byte-same h e = S ∙ same-on x y i h (omega arith) e
+
+  pub byte-differs : i < length x → (getD x i 0 ≡ getD y i 0 → ⊥) → false ≡ sameText x y
+  byte-differs h n = sym (S ∙ same-off x y i h (omega arith) n)
+
+  pub all-same : length x ≤ i → true ≡ sameText x y
+  all-same h = sym (S ∙ same-at-end x y i h l)
 
 -- the numbers of digits
 

@@ -69,7 +69,25 @@ use Rattle.gaffdamson.proofs.gaffdamson_call_pairs.Statement as stated
 use Rattle.gaffdamson.proofs.gaffdamson_call_pairs.Code as code
 
 abbrev stayed : Stays (call-pairs.ended .signature .params) (call-pairs.ended .kept)
-stayed = (gave-slice (0 ∷ []) tt (plain (λ κs. u32)), (stay-none (λ κs. u32) yes, (stay-none (λ κs. u16) yes, (stay-none (λ κs. u16) yes, (stay-none (λ κs. u16) yes, (stay-none (λ κs. u32) yes, (stay-none (λ κs. u32) yes, (stay-none (λ κs. u16) yes, (gave-slice (1 ∷ []) tt (plain (λ κs. PT.the-row)), tt)))))))))
+stayed = (
+  gave-slice (0 ∷ []) tt (plain (λ κs. u32)),
+  (
+    stay-none (λ κs. u32) yes,
+    (
+      stay-none (λ κs. u16) yes,
+      (
+        stay-none (λ κs. u16) yes,
+        (
+          stay-none (λ κs. u16) yes,
+          (
+            stay-none (λ κs. u32) yes,
+            (stay-none (λ κs. u32) yes, (stay-none (λ κs. u16) yes, (gave-slice (1 ∷ []) tt (plain (λ κs. PT.the-row)), tt))),
+          ),
+        ),
+      ),
+    ),
+  ),
+)
 
 module _ {M : Type 1} (𝓤 : URA M) (H : Heap 𝓤) (A : Atoms 𝓤) (mem′ : Memory → SProp 𝓤) (run : Routine → Fun 𝓤) where
   -- the contracts that the proof cites
@@ -92,7 +110,8 @@ module _ {M : Type 1} (𝓤 : URA M) (H : Heap 𝓤) (A : Atoms 𝓤) (mem′ : 
 
 module _ {M : Type 1} (𝓤 : URA M) (H : Heap 𝓤) (A : Atoms 𝓤) (W : Given 𝓤 H A) (mem′ : Memory → SProp 𝓤) (run : Routine → Fun 𝓤) (κ κ′ : Lft) (q q′ : Share)
     (b o : ℕ) (γ : GName) (xs : List ℕ) (op n g m v form sp : ℕ) (b′ o′ : ℕ) (γ′ : GName) (ys : List Pair) (room : Room u32 (length xs))
-    (is-op : Is u32 op (vint w32 op ∷ [])) (is-n : Is u16 n (vint w16 n ∷ [])) (is-g : Is u16 g (vint w16 g ∷ [])) (is-m : Is u16 m (vint w16 m ∷ [])) (is-v : Is u32 v (vint w32 v ∷ [])) (is-form : Is u32 form (vint w32 form ∷ [])) (is-sp : Is u16 sp (vint w16 sp ∷ []))
+    (is-op : Is u32 op (vint w32 op ∷ [])) (is-n : Is u16 n (vint w16 n ∷ [])) (is-g : Is u16 g (vint w16 g ∷ [])) (is-m : Is u16 m (vint w16 m ∷ [])) (is-v : Is u32 v (vint w32 v ∷ []))
+    (is-form : Is u32 form (vint w32 form ∷ [])) (is-sp : Is u16 sp (vint w16 sp ∷ []))
     (room′ : Room PT.the-row (length ys)) where
   -- the store, the list, and their machine values
   abbrev x : RefT (List ℕ)
@@ -142,7 +161,8 @@ module _ {M : Type 1} (𝓤 : URA M) (H : Heap 𝓤) (A : Atoms 𝓤) (W : Given
       qed W ((‵ (flft κ q) ⊛ ‵ (flft κ′ q′) ⊛ ‵ ftrue) ∷ ‵ (finally u32 γ xs′) ∷ ‵ (finally PT.the-row γ′ ys′) ∷ []) ∵
       suffices ! _ (ends-at 𝓤 H A call-pairs.ended stayed (call-pairs.clauses 𝓤 H A mem′ run) W (((κ, (κ′, tt)), (q, (q′, tt)), tt, a, vals), tt) u k
       (xs′, (tt, (tt, (tt, (tt, (tt, (tt, (tt, (ys′, tt))))))))) (l, (tt, (tt, (tt, (tt, (tt, (tt, (tt, (l′, tt)))))))))) $ says ! P $ frame ! $ nothing ! $ move ! (2 ∷ 0 ∷ []) $ fjoin ! $
-      owned ! u16 (Is u16) (uint-makes 𝓤 H A W w16) sp _ is-sp $ fjoin ! $ owned ! u32 (Is u32) (uint-makes 𝓤 H A W w32) form _ is-form $ fjoin ! $ owned ! u32 (Is u32) (uint-makes 𝓤 H A W w32) v _ is-v $ fjoin ! $ owned ! u16 (Is u16) (uint-makes 𝓤 H A W w16) m _ is-m $ fjoin ! $
+      owned ! u16 (Is u16) (uint-makes 𝓤 H A W w16) sp _ is-sp $ fjoin ! $ owned ! u32 (Is u32) (uint-makes 𝓤 H A W w32) form _ is-form $ fjoin ! $ owned ! u32 (Is u32)
+      (uint-makes 𝓤 H A W w32) v _ is-v $ fjoin ! $ owned ! u16 (Is u16) (uint-makes 𝓤 H A W w16) m _ is-m $ fjoin ! $
       owned ! u16 (Is u16) (uint-makes 𝓤 H A W w16) g _ is-g $ fjoin ! $ owned ! u16 (Is u16) (uint-makes 𝓤 H A W w16) n _ is-n $ fjoin ! $ owned ! u32 (Is u32) (uint-makes 𝓤 H A W w32) op _ is-op $ fjoin ! $
       move ! (1 ∷ 0 ∷ []) $ fjoin ! $ owned ! u64 (Is u64) (uint-makes 𝓤 H A W w64) k _ is $ move ! (1 ∷ 0 ∷ []) $ done !
 
@@ -153,8 +173,10 @@ module _ {M : Type 1} (𝓤 : URA M) (H : Heap 𝓤) (A : Atoms 𝓤) (W : Given
   goes-call : ent 𝓤 (emp 𝓤) (CallOf 𝓤 H A mem′ run .pre to-call)
   goes-call =
       qed W [] ∵ nothing ! $
-      owned ! u16 (Is u16) (uint-makes 𝓤 H A W w16) sp _ is-sp $ fjoin ! $ owned ! u32 (Is u32) (uint-makes 𝓤 H A W w32) form _ is-form $ fjoin ! $ owned ! u32 (Is u32) (uint-makes 𝓤 H A W w32) v _ is-v $ fjoin ! $ owned ! u16 (Is u16) (uint-makes 𝓤 H A W w16) m _ is-m $ fjoin ! $
-      owned ! u16 (Is u16) (uint-makes 𝓤 H A W w16) g _ is-g $ fjoin ! $ owned ! u16 (Is u16) (uint-makes 𝓤 H A W w16) n _ is-n $ fjoin ! $ owned ! u32 (Is u32) (uint-makes 𝓤 H A W w32) op _ is-op $ fjoin ! $ nothing ! $ join ! $ frame ! $ done !
+      owned ! u16 (Is u16) (uint-makes 𝓤 H A W w16) sp _ is-sp $ fjoin ! $ owned ! u32 (Is u32) (uint-makes 𝓤 H A W w32) form _ is-form $ fjoin ! $ owned ! u32 (Is u32)
+      (uint-makes 𝓤 H A W w32) v _ is-v $ fjoin ! $ owned ! u16 (Is u16) (uint-makes 𝓤 H A W w16) m _ is-m $ fjoin ! $
+      owned ! u16 (Is u16) (uint-makes 𝓤 H A W w16) g _ is-g $ fjoin ! $ owned ! u16 (Is u16) (uint-makes 𝓤 H A W w16) n _ is-n $ fjoin ! $ owned ! u32 (Is u32) (uint-makes 𝓤 H A W w32) op _ is-op $
+      fjoin ! $ nothing ! $ join ! $ frame ! $ done !
 
   abbrev to-pairs : Call → Val → ExecutePairs 𝓤 H A mem′ run .Ghost
   to-pairs c vc = (((κ, (κ′, tt)), (q, (q′, tt)), tt, (x, (c, (y, tt))), (s ∷ [], (vc ∷ [], (s′ ∷ [], tt)))), tt)
@@ -180,21 +202,28 @@ module _ {M : Type 1} (𝓤 : URA M) (H : Heap 𝓤) (A : Atoms 𝓤) (W : Given
     walk =
         qed W ((‵ (flft κ q) ⊛ ‵ (flft κ′ q′) ⊛ ‵ ftrue) ∷ ‵ (owns (MutSlice (named 0) κ u32 ∷ u32 ∷ u16 ∷ u16 ∷ u16 ∷ u32 ∷ u32 ∷ u16 ∷ MutSlice (named 1) κ′ PT.the-row ∷ []) a vals) ∷ []) ∵
         enter ! C Λ code.function given-vals _ $
-        alloc1 ! (λ l₀. alloc1 ! (λ l₁. alloc1 ! (λ l₂. alloc1 ! (λ l₃. alloc1 ! (λ l₄. alloc1 ! (λ l₅. alloc1 ! (λ l₆. alloc1 ! (λ l₇. alloc1 ! (λ l₈. alloc1 ! (λ l₉. alloc1 ! (λ l₁₀. alloc1 ! (λ l₁₁. alloc1 ! (λ l₁₂. alloc1 ! (λ l₁₃. alloc1 ! (λ l₁₄. alloc1 ! (λ l₁₅. alloc0 ! $ params1 ! $
-        pass1 ! (init ! 28 refl (tt, (tt, (record { fits = room .0 }, tt)))) $ pass1 ! (init ! 26 refl (tt, record { fits = is-op .1 })) $ pass1 ! (init ! 24 refl (tt, record { fits = is-n .1 })) $ pass1 ! (init ! 22 refl (tt, record { fits = is-g .1 })) $ pass1 ! (init ! 20 refl (tt, record { fits = is-m .1 })) $
-        pass1 ! (init ! 18 refl (tt, record { fits = is-v .1 })) $ pass1 ! (init ! 16 refl (tt, record { fits = is-form .1 })) $ pass1 ! (init ! 14 refl (tt, record { fits = is-sp .1 })) $ pass1 ! (init ! 12 refl (tt, (tt, (record { fits = room′ .0 }, tt)))) $ pass0 ! $
+        alloc1 ! (λ l₀. alloc1 ! (λ l₁. alloc1 ! (λ l₂. alloc1 ! (λ l₃. alloc1 ! (λ l₄. alloc1 !
+        (λ l₅. alloc1 ! (λ l₆. alloc1 ! (λ l₇. alloc1 ! (λ l₈. alloc1 ! (λ l₉. alloc1 ! (λ l₁₀. alloc1 ! (λ l₁₁. alloc1 ! (λ l₁₂. alloc1 ! (λ l₁₃. alloc1 ! (λ l₁₄. alloc1 ! (λ l₁₅. alloc0 ! $ params1 ! $
+        pass1 ! (init ! 28 refl (tt, (tt, (record { fits = room .0 }, tt)))) $ pass1 ! (init ! 26 refl (tt, record { fits = is-op .1 })) $ pass1 ! (init ! 24 refl (tt, record { fits = is-n .1 })) $
+        pass1 ! (init ! 22 refl (tt, record { fits = is-g .1 })) $ pass1 ! (init ! 20 refl (tt, record { fits = is-m .1 })) $
+        pass1 ! (init ! 18 refl (tt, record { fits = is-v .1 })) $ pass1 ! (init ! 16 refl (tt, record { fits = is-form .1 })) $ pass1 ! (init ! 14 refl (tt, record { fits = is-sp .1 })) $ pass1 !
+        (init ! 12 refl (tt, (tt, (record { fits = room′ .0 }, tt)))) $ pass0 ! $
         -- [_15; …; _14; …; … _1; …; room for _0; …; the tokens; what the parameters own]: `call_of`
         use0 W (raw (CallOf 𝓤 H A mem′ run .pre to-call)) goes-call $
         calls-at ! fm (CallOf 𝓤 H A mem′ run) known-call to-call
-        (and-then ! (load ! (from ! (stop !)) (look ! 27 refl)) (and-then ! (load ! (from ! (stop !)) (look ! 25 refl)) (and-then ! (load ! (from ! (stop !)) (look ! 23 refl)) (and-then ! (load ! (from ! (stop !)) (look ! 21 refl)) (and-then ! (load ! (from ! (stop !)) (look ! 19 refl)) (and-then ! (load ! (from ! (stop !)) (look ! 17 refl)) (and-then ! (load ! (from ! (stop !)) (look ! 15 refl)) (no-more !)))))))) (λ vc.
+        (and-then ! (load ! (from ! (stop !)) (look ! 27 refl)) (and-then ! (load ! (from ! (stop !)) (look ! 25 refl))
+        (and-then ! (load ! (from ! (stop !)) (look ! 23 refl)) (and-then ! (load ! (from ! (stop !)) (look ! 21 refl))
+        (and-then ! (load ! (from ! (stop !)) (look ! 19 refl)) (and-then ! (load ! (from ! (stop !)) (look ! 17 refl)) (and-then ! (load ! (from ! (stop !)) (look ! 15 refl)) (no-more !)))))))) (λ vc.
         use1 W (later (some (λ (c : Call). (‵ ftrue ⊛ ‵ (CT.the-row .own c (vc ∷ []))) ⊛ raw (ensured 𝓤 H A call-of.ended (call-of.clauses 𝓤 H A mem′ run) tt fields tt c)))) (id⊢ 𝓤 _) $ await ! tt $ pick ! (λ c. split ! $ move ! (1 ∷ []) $
         use1 W (raw (fact 𝓤 (c ≡ the-call))) (call-told 𝓤 H A mem′ run op n g m v form sp c) $ heard ! (c ≡ the-call) (λ same-call. split ! $ drop ! $
         peeks ! CT.the-row (Is CT.the-row) (shows 𝓤 H A CT.the-row) c (vc ∷ []) (λ is-call. land ! (from ! (stop !)) (init ! 11 refl (LL.lawful CT.the-type CT′.the-laws 𝓤 H A W .typed c _ is-call .0)) $ drop ! $
         -- the slices for `execute_pairs`
         assigns ! (addr ! (from ! (fld ! refl (hop ! (look-in ! 28 (sub ! 0 refl (whole !))) (stop !))))) (from ! (stop !)) (init ! 6 refl (tt, tt)) $
-        assigns ! (agg ! (and-then ! (load ! (from ! (stop !)) (look ! 6 refl)) (and-then ! (load ! (from ! (fld ! refl (stop !))) (look-in ! 28 (sub ! 1 refl (whole !)))) (no-more !)))) (from ! (stop !)) (init ! 4 refl (tt, (tt, (record { fits = room .0 }, tt)))) $
+        assigns ! (agg ! (and-then ! (load ! (from ! (stop !)) (look ! 6 refl)) (and-then ! (load ! (from ! (fld ! refl (stop !))) (look-in ! 28 (sub ! 1 refl (whole !)))) (no-more !))))
+        (from ! (stop !)) (init ! 4 refl (tt, (tt, (record { fits = room .0 }, tt)))) $
         assigns ! (addr ! (from ! (fld ! refl (hop ! (look-in ! 12 (sub ! 0 refl (whole !))) (stop !))))) (from ! (stop !)) (init ! 2 refl (tt, tt)) $
-        assigns ! (agg ! (and-then ! (load ! (from ! (stop !)) (look ! 2 refl)) (and-then ! (load ! (from ! (fld ! refl (stop !))) (look-in ! 12 (sub ! 1 refl (whole !)))) (no-more !)))) (from ! (stop !)) (init ! 0 refl (tt, (tt, (record { fits = room′ .0 }, tt)))) $
+        assigns ! (agg ! (and-then ! (load ! (from ! (stop !)) (look ! 2 refl)) (and-then ! (load ! (from ! (fld ! refl (stop !))) (look-in ! 12 (sub ! 1 refl (whole !)))) (no-more !))))
+        (from ! (stop !)) (init ! 0 refl (tt, (tt, (record { fits = room′ .0 }, tt)))) $
         -- [_15; …; _0; …; the tokens; what the parameters own]
         move ! (33 ∷ []) $ fsplit ! $ move ! (1 ∷ []) $ fsplit ! $ drop ! $ fsplit ! $ drop ! $ fsplit ! $ drop ! $ fsplit ! $ drop ! $ fsplit ! $ drop ! $ fsplit ! $ drop ! $ fsplit ! $ drop ! $ fsplit ! $ move ! (1 ∷ []) $ drop ! $
         move ! (34 ∷ []) $ split ! $ move ! (1 ∷ []) $ split ! $ move ! (1 ∷ []) $ drop ! $
@@ -217,25 +246,48 @@ module _ {M : Type 1} (𝓤 : URA M) (H : Heap 𝓤) (A : Atoms 𝓤) (W : Given
         use1 W (raw (fact 𝓤 (PackedAs r k))) (pack-told 𝓤 H A mem′ run r k) $ heard ! (PackedAs r k) (λ e. split ! $ drop ! $
         peeks ! u64 (Is u64) (shows 𝓤 H A u64) k (vk ∷ []) (λ isk. land ! (from ! (stop !)) (init ! 34 refl (uint-lawful 𝓤 H A W w64 .typed k _ isk .0)) $ drop ! $
         -- [the tokens; the list's last pairs; the store's last words; _15; …; _0; …]
-        returns ! (look ! 33 refl) $ forget ! 3 refl $ forget ! 5 refl $ forget ! 7 refl $ forget ! 9 refl $ forget ! 11 refl $ forget ! 13 refl $ forget ! 15 refl $ forget ! 17 refl $ forget ! 19 refl $ forget ! 21 refl $ forget ! 23 refl $ forget ! 25 refl $ forget ! 27 refl $ forget ! 29 refl $ forget ! 31 refl $ forget ! 33 refl $
-        move ! (33 ∷ 34 ∷ []) $ free1 ! $ move ! (31 ∷ 32 ∷ []) $ free1 ! $ move ! (29 ∷ 30 ∷ []) $ free1 ! $ move ! (27 ∷ 28 ∷ []) $ free1 ! $ move ! (25 ∷ 26 ∷ []) $ free1 ! $ move ! (23 ∷ 24 ∷ []) $ free1 ! $ move ! (21 ∷ 22 ∷ []) $ free1 ! $ move ! (19 ∷ 20 ∷ []) $ free1 ! $
-        move ! (17 ∷ 18 ∷ []) $ free1 ! $ move ! (15 ∷ 16 ∷ []) $ free1 ! $ move ! (13 ∷ 14 ∷ []) $ free1 ! $ move ! (11 ∷ 12 ∷ []) $ free1 ! $ move ! (9 ∷ 10 ∷ []) $ free1 ! $ move ! (7 ∷ 8 ∷ []) $ free1 ! $ move ! (5 ∷ 6 ∷ []) $ free1 ! $ move ! (3 ∷ 4 ∷ []) $ free1 ! $ free0 ! $
+        returns ! (look ! 33 refl) $ forget ! 3 refl $ forget ! 5 refl $ forget ! 7 refl $ forget ! 9 refl $ forget ! 11 refl $ forget ! 13 refl $ forget ! 15 refl $ forget ! 17 refl $
+        forget ! 19 refl $ forget ! 21 refl $ forget ! 23 refl $ forget ! 25 refl $ forget ! 27 refl $ forget ! 29 refl $ forget ! 31 refl $ forget ! 33 refl $
+        move ! (33 ∷ 34 ∷ []) $ free1 ! $ move ! (31 ∷ 32 ∷ []) $ free1 ! $ move ! (29 ∷ 30 ∷ []) $ free1 ! $ move ! (27 ∷ 28 ∷ []) $ free1 ! $ move ! (25 ∷ 26 ∷ []) $ free1 ! $ move !
+        (23 ∷ 24 ∷ []) $ free1 ! $ move ! (21 ∷ 22 ∷ []) $ free1 ! $ move ! (19 ∷ 20 ∷ []) $ free1 ! $
+        move ! (17 ∷ 18 ∷ []) $ free1 ! $ move ! (15 ∷ 16 ∷ []) $ free1 ! $ move ! (13 ∷ 14 ∷ []) $ free1 ! $ move ! (11 ∷ 12 ∷ []) $ free1 ! $ move ! (9 ∷ 10 ∷ []) $ free1 ! $ move ! (7 ∷ 8 ∷ []) $
+        free1 ! $ move ! (5 ∷ 6 ∷ []) $ free1 ! $ move ! (3 ∷ 4 ∷ []) $ free1 ! $ free0 ! $
         move ! (0 ∷ 2 ∷ 1 ∷ []) $ by ! (exits k vk isk (zs .0) (pairs-of zs) (called-in-pairs xs ys (zs .0) (pairs-of zs) c r P the-call k same-call e) same same-list))))))))))))))))))))))))))))))))
 
 module _ {M : Type 1} (𝓤 : URA M) (H : Heap 𝓤) (A : Atoms 𝓤) (W : Given 𝓤 H A) (mem′ : Memory → SProp 𝓤) (run : Routine → Fun 𝓤) (𝓣 : Tables 𝓤 H) (known-call : Triple 𝓤 (𝓣 .C #gaffdamson·call-of) (CallOf 𝓤 H A mem′ run))
     (known-pairs : Triple 𝓤 (𝓣 .C #pairs·execute-pairs) (ExecutePairs 𝓤 H A mem′ run)) (known-pack : Triple 𝓤 (𝓣 .C #gaffdamson·pack-answer) (PackAnswer 𝓤 H A mem′ run)) where
   call-pairs-walks : Walks 𝓤 H A call-pairs.ended stayed (WpFn 𝓤 H (𝓣 .C) (𝓣 .Λ) code.function) (call-pairs.clauses 𝓤 H A mem′ run)
   call-pairs-walks = walked 𝓤 H A call-pairs.ended stayed (call-pairs.clauses 𝓤 H A mem′ run) (WpFn 𝓤 H (𝓣 .C) (𝓣 .Λ) code.function)
-      (λ κs. (slice-vals, (uint-vals w32, (uint-vals w16, (uint-vals w16, (uint-vals w16, (uint-vals w32, (uint-vals w32, (uint-vals w16, (slice-vals, tt)))))))))) (λ κs. (mut-slice-tells (named 0) (κs .0) u32, (uint-tells w32, (uint-tells w16, (uint-tells w16, (uint-tells w16, (uint-tells w32, (uint-tells w32, (uint-tells w16, (mut-slice-tells (named 1) (κs .1 .0) PT.the-row, tt))))))))))
+      (λ κs. (slice-vals, (uint-vals w32, (uint-vals w16, (uint-vals w16, (uint-vals w16, (uint-vals w32, (uint-vals w32, (uint-vals w16, (slice-vals, tt))))))))))
+      (λ κs. (mut-slice-tells (named 0) (κs .0) u32, (uint-tells w32, (uint-tells w16, (uint-tells w16, (uint-tells w16, (uint-tells w32, (uint-tells w32, (uint-tells w16, (mut-slice-tells (named 1) (κs .1 .0) PT.the-row, tt))))))))))
       (λ κs qs bounds a g are. via 𝓤 _ (fst∗ 𝓤 _ (emp 𝓤))
-      (walk 𝓤 H A W mem′ run (κs .0) (κs .1 .0) (qs .0) (qs .1 .0) (a .0 .ptr .0) (a .0 .ptr .1) (a .0 .name) (a .0 .now) (a .1 .0) (a .1 .1 .0) (a .1 .1 .1 .0) (a .1 .1 .1 .1 .0) (a .1 .1 .1 .1 .1 .0) (a .1 .1 .1 .1 .1 .1 .0) (a .1 .1 .1 .1 .1 .1 .1 .0)
-      (a .1 .1 .1 .1 .1 .1 .1 .1 .0 .ptr .0) (a .1 .1 .1 .1 .1 .1 .1 .1 .0 .ptr .1) (a .1 .1 .1 .1 .1 .1 .1 .1 .0 .name) (a .1 .1 .1 .1 .1 .1 .1 .1 .0 .now) (are .0 .0 .1) (are .1 .0) (are .1 .1 .0) (are .1 .1 .1 .0) (are .1 .1 .1 .1 .0) (are .1 .1 .1 .1 .1 .0) (are .1 .1 .1 .1 .1 .1 .0) (are .1 .1 .1 .1 .1 .1 .1 .0) (are .1 .1 .1 .1 .1 .1 .1 .1 .0 .0 .1)
+      (walk 𝓤 H A W mem′ run (κs .0) (κs .1 .0) (qs .0) (qs .1 .0) (a .0 .ptr .0) (a .0 .ptr .1) (a .0 .name) (a .0 .now) (a .1 .0) (a .1 .1 .0) (a .1 .1 .1 .0) (a .1 .1 .1 .1 .0)
+      (a .1 .1 .1 .1 .1 .0) (a .1 .1 .1 .1 .1 .1 .0) (a .1 .1 .1 .1 .1 .1 .1 .0)
+      (a .1 .1 .1 .1 .1 .1 .1 .1 .0 .ptr .0) (a .1 .1 .1 .1 .1 .1 .1 .1 .0 .ptr .1) (a .1 .1 .1 .1 .1 .1 .1 .1 .0 .name) (a .1 .1 .1 .1 .1 .1 .1 .1 .0 .now) (are .0 .0 .1) (are .1 .0) (are .1 .1 .0)
+      (are .1 .1 .1 .0) (are .1 .1 .1 .1 .0) (are .1 .1 .1 .1 .1 .0) (are .1 .1 .1 .1 .1 .1 .0) (are .1 .1 .1 .1 .1 .1 .1 .0) (are .1 .1 .1 .1 .1 .1 .1 .1 .0 .0 .1)
       (𝓣 .C) (𝓣 .Λ) (fmOf 𝓤 H (W .laws) 𝓣) known-call known-pairs known-pack))
 
   call-pairs-meets : Meets 𝓤 H A call-pairs.signature (WpFn 𝓤 H (𝓣 .C) (𝓣 .Λ) code.function) (call-pairs.spec 𝓤 H A mem′ run)
   call-pairs-meets =
-      walk-meets 𝓤 H A call-pairs.ended stayed W
-      (goes-gave-slice 𝓤 H A W 2 0 tt (plain (λ κs. u32)), (goes-none 𝓤 H A W 2 (λ κs. u32) yes (λ κs x f. refl), (goes-none 𝓤 H A W 2 (λ κs. u16) yes (λ κs x f. refl), (goes-none 𝓤 H A W 2 (λ κs. u16) yes (λ κs x f. refl), (goes-none 𝓤 H A W 2 (λ κs. u16) yes (λ κs x f. refl), (goes-none 𝓤 H A W 2 (λ κs. u32) yes (λ κs x f. refl), (goes-none 𝓤 H A W 2 (λ κs. u32) yes (λ κs x f. refl), (goes-none 𝓤 H A W 2 (λ κs. u16) yes (λ κs x f. refl), (goes-gave-slice 𝓤 H A W 2 1 tt (plain (λ κs. PT.the-row)), tt)))))))))
+      walk-meets 𝓤 H A call-pairs.ended stayed W (
+        goes-gave-slice 𝓤 H A W 2 0 tt (plain (λ κs. u32)),
+        (
+          goes-none 𝓤 H A W 2 (λ κs. u32) yes (λ κs x f. refl),
+          (
+            goes-none 𝓤 H A W 2 (λ κs. u16) yes (λ κs x f. refl),
+            (
+              goes-none 𝓤 H A W 2 (λ κs. u16) yes (λ κs x f. refl),
+              (
+                goes-none 𝓤 H A W 2 (λ κs. u16) yes (λ κs x f. refl),
+                (
+                  goes-none 𝓤 H A W 2 (λ κs. u32) yes (λ κs x f. refl),
+                  (goes-none 𝓤 H A W 2 (λ κs. u32) yes (λ κs x f. refl), (goes-none 𝓤 H A W 2 (λ κs. u16) yes (λ κs x f. refl), (goes-gave-slice 𝓤 H A W 2 1 tt (plain (λ κs. PT.the-row)), tt))),
+                ),
+              ),
+            ),
+          ),
+        ),
+      )
       (call-pairs.clauses 𝓤 H A mem′ run) (WpFn 𝓤 H (𝓣 .C) (𝓣 .Λ) code.function) (WpFn-mono 𝓤 H (W .laws) 𝓣 code.function) call-pairs-walks
 
 pub gaffdamson-call-pairs-spec : {M : Type 1} → stated.statement M

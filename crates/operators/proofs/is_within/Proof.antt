@@ -1,8 +1,6 @@
 use Rattle.operators.proofs.RowTests.{below-range, from-range}
 use Rattle.operators.proofs.is_within.Statement.{statement}
 use Rattle.operators.proofs.is_within.Tie as tie
-use Rattle.operators.proofs.is_within.Reads as reads
-use Rattle.operators.proofs.is_within.Lts as lts
 
 pub is-within-spec : {M : Type 1} → statement M
 is-within-spec =

@@ -1,8 +1,6 @@
 use Rattle.operators.proofs.RowTests.{not-first, first-without}
 use Rattle.operators.proofs.without.Statement.{statement}
 use Rattle.operators.proofs.without.Tie as tie
-use Rattle.operators.proofs.without.Reads as reads
-use Rattle.operators.proofs.without.Lts as lts
 
 pub without-spec : {M : Type 1} → statement M
 without-spec =

@@ -4,27 +4,21 @@ use Rattle.print.proofs.Parts.{line-size, line-put}
 use borrow.Author.Needs.{needs}
 use Rattle.print.proofs.put_answer.Statement.{statement}
 use Rattle.print.proofs.put_answer.Tie as tie
-use Rattle.print.proofs.put_answer.Reads as reads
-use Rattle.print.proofs.put_answer.Lts as lts
-use Rattle.print.proofs.put_answer_text.Reads as put-answer-text-reads
-use Rattle.print.proofs.put_byte.Reads as put-byte-reads
 
--- src/lib.rt:168:9
 put-answer-text-requires : tie.Need-put-answer-text-requires
-put-answer-text-requires c κs = record { room = omega (arith, line-size (observed (c .before .before .before .args .a) (c .before .before .before .args .list .now))); held = c .before .before .before .pre .held; counted = c .before .before .before .pre .counted }
+put-answer-text-requires c κs =
+    let at-start : tie.Start = search in
+    record { room = omega (arith, line-size (observed (at-start .args .a) (at-start .args .list .now))); held = at-start .pre .held; counted = at-start .pre .counted }
 
--- src/lib.rt:169:5
 put-byte-requires : tie.Need-put-byte-requires
-put-byte-requires c κs = omega (arith, line-size (observed (c .before .before .before .before .before .before .before .args .a) (c .before .before .before .before .before .before .before .args .list .now)))
-
--- src/lib.rt:164:1
-same-length : tie.Need-same-length
-same-length c = search needs
-
--- src/lib.rt:164:1
-returns : tie.Need-returns
-returns c = line-put _ (c .before .before .before .before .before .before .before .before .before .before .pre .room) (c .before .before .before .before .before .before .put-answer-text .ensures) (c .before .before .put-byte .ensures)
+put-byte-requires c κs =
+    let at-start : tie.Start = search in
+    omega (arith, line-size (observed (at-start .args .a) (at-start .args .list .now)))
 
 pub put-answer-spec : {M : Type 1} → statement M
 put-answer-spec =
-    tie.close (tie.spec put-answer-text-requires put-byte-requires same-length returns)
+    tie.close (tie.spec
+    put-answer-text-requires
+    put-byte-requires
+    (λ c. search needs)
+    (λ c. search line-put))

@@ -3,34 +3,26 @@ use Rattle.print.proofs.Parts.{entry-size, entry-put}
 use borrow.Author.Needs.{needs}
 use Rattle.print.proofs.put_entry.Statement.{statement}
 use Rattle.print.proofs.put_entry.Tie as tie
-use Rattle.print.proofs.put_entry.Reads as reads
-use Rattle.print.proofs.put_entry.Lts as lts
-use Rattle.print.proofs.put_byte.Reads as put-byte-reads
-use Rattle.print.proofs.put_number.Reads as put-number-reads
 
--- src/lib.rt:119:9
 put-byte-requires : tie.Need-put-byte-requires
-put-byte-requires c κs = omega (arith, entry-size (c .before .before .args .w))
+put-byte-requires c κs =
+    let at-start : tie.Start = search in
+    omega (arith, entry-size (at-start .args .w))
 
--- src/lib.rt:120:9
 put-number-requires : tie.Need-put-number-requires
-put-number-requires c κs = omega (arith, entry-size (c .before .before .before .before .before .before .args .w))
+put-number-requires c κs =
+    let at-start : tie.Start = search in
+    omega (arith, entry-size (at-start .args .w))
 
--- src/lib.rt:121:9
 put-byte-requires-2 : tie.Need-put-byte-requires-2
-put-byte-requires-2 c κs = omega (arith, entry-size (c .before .before .before .before .before .before .before .before .before .before .args .w))
+put-byte-requires-2 c κs =
+    let at-start : tie.Start = search in
+    omega (arith, entry-size (at-start .args .w))
 
--- src/lib.rt:122:5
 put-number-requires-2 : tie.Need-put-number-requires-2
-put-number-requires-2 c κs = omega (arith, entry-size (c .before .before .before .before .before .before .before .before .before .before .before .before .before .before .args .w))
-
--- src/lib.rt:115:1
-same-length : tie.Need-same-length
-same-length c = search needs
-
--- src/lib.rt:115:1
-returns : tie.Need-returns
-returns c = entry-put _ (c .before .before .before .before .before .before .before .before .before .before .before .before .before .before .before .before .before .pre) (c .before .before .before .before .before .before .before .before .before .before .before .before .before .before .put-byte .ensures) (c .before .before .before .before .before .before .before .before .before .before .put-number .ensures) (c .before .before .before .before .before .before .put-byte2 .ensures) (c .before .before .put-number2 .ensures)
+put-number-requires-2 c κs =
+    let at-start : tie.Start = search in
+    omega (arith, entry-size (at-start .args .w))
 
 pub put-entry-spec : {M : Type 1} → statement M
 put-entry-spec =
@@ -40,5 +32,5 @@ put-entry-spec =
     put-number-requires
     put-byte-requires-2
     put-number-requires-2
-    same-length
-    returns)
+    (λ c. search needs)
+    (λ c. search entry-put))
