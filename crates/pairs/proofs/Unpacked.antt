@@ -1,5 +1,5 @@
 -- Pairs and words: what the loop of write_pairs makes, and laws of lists.
-use mathlib.Core.List.{List, [], _∷_, _++_, map}
+use mathlib.Core.List.{List, [], _∷_, _++_, map, map-append}
 use mathlib.Core.Path.{_≡_, refl, sym, ap, ap₂, _∙_}
 use Prim.Native.Nat.{ℕ, zero, suc, _≤_}
 use native.Mathlib.Omega.{arith}
@@ -10,10 +10,6 @@ use Rattle.model.specs.OneCall.{pack, unpack}
 use Rattle.pairs.specs.InPairs.{unpackedOnto}
 
 -- ---- laws of lists
-
-pub map-append : {X Y : Type 0} (f : X → Y) (xs ys : List X) → map f (xs ++ ys) ≡ map f xs ++ map f ys
-map-append f [] ys = refl
-map-append f (x ∷ xs) ys = ap (λ zs. f x ∷ zs) (map-append f xs ys)
 
 pub map-drop : {X Y : Type 0} (f : X → Y) (k : ℕ) (xs : List X) → map f (drop k xs) ≡ drop k (map f xs)
 map-drop f zero xs = refl

@@ -196,15 +196,18 @@ module _ {M : Type 1} (𝓤 : URA M) (H : Heap 𝓤) (A : Atoms 𝓤) (W : Given
     walk : ent 𝓤 (onEntry 𝓤 H A execute-pairs.signature (κ, (κ′, tt)) (q, (q′, tt)) a vals) (WpFn 𝓤 H C Λ code.function (s ∷ mc ∷ s′ ∷ []) Post)
     walk =
         qed W ((‵ (flft κ q) ⊛ ‵ (flft κ′ q′) ⊛ ‵ ftrue) ∷ ‵ (owns (MutSlice (named 0) κ u32 ∷ CT.the-row ∷ MutSlice (named 1) κ′ PT.the-row ∷ []) a vals) ∷ []) ∵ enter ! C Λ code.function (s ∷ mc ∷ s′ ∷ []) _ $
-        alloc1 ! (λ l₀. alloc1 ! (λ l₁. alloc1 ! (λ l₂. alloc1 ! (λ l₃. alloc1 ! (λ l₄. alloc1 ! (λ l₅. alloc1 ! (λ l₆. alloc1 ! (λ l₇. alloc1 ! (λ l₈. alloc1 ! (λ l₉. alloc1 ! (λ l₁₀. alloc1 ! (λ l₁₁. alloc1 ! (λ l₁₂. alloc1 ! (λ l₁₃. alloc1 ! (λ l₁₄. alloc1 ! (λ l₁₅. alloc0 ! $ params1 ! $
-        pass1 ! (init ! 28 refl (tt, (tt, (record { fits = room .0 }, tt)))) $ pass1 ! (init ! 26 refl (LL.lawful CT.the-type CT′.the-laws 𝓤 H A W .typed c _ is-call .0)) $ pass1 ! (init ! 24 refl (tt, (tt, (record { fits = room′ .0 }, tt)))) $ pass0 ! $
+        alloc1 ! (λ l₀. alloc1 ! (λ l₁. alloc1 ! (λ l₂. alloc1 ! (λ l₃. alloc1 ! (λ l₄. alloc1 !
+        (λ l₅. alloc1 ! (λ l₆. alloc1 ! (λ l₇. alloc1 ! (λ l₈. alloc1 ! (λ l₉. alloc1 ! (λ l₁₀. alloc1 ! (λ l₁₁. alloc1 ! (λ l₁₂. alloc1 ! (λ l₁₃. alloc1 ! (λ l₁₄. alloc1 ! (λ l₁₅. alloc0 ! $ params1 ! $
+        pass1 ! (init ! 28 refl (tt, (tt, (record { fits = room .0 }, tt)))) $ pass1 ! (init ! 26 refl (LL.lawful CT.the-type CT′.the-laws 𝓤 H A W .typed c _ is-call .0)) $ pass1 !
+        (init ! 24 refl (tt, (tt, (record { fits = room′ .0 }, tt)))) $ pass0 ! $
         -- [_15; …; _14; …; … _1; …; room for _0; …; the tokens; what the parameters own]: the array is made, and is the cells of its words
         assigns ! (rep ! 4096 (lit ! tt)) (from ! (stop !)) (init ! 22 refl (zeros-typed 𝓤 H A W 4096)) $
         owned ! (Array u32 4096) (Is (Array u32 4096)) (array-makes 𝓤 H A W u32 (uint-makes 𝓤 H A W w32) 4096) blank (zeros-val 4096 ∷ []) (zeros-is 4096) $ move ! (23 ∷ 0 ∷ []) $
         use2 W (given (length blank ≡ 4096) (‵ (cells (mem u32) blank l₄ 0))) (words-out 𝓤 H A W 4096 blank (zeros-val 4096) l₄ 0) $ learn ! (λ size.
         -- [the words; _15; …; _5; …; what frees _4; _3; …; the tokens; what the parameters own]
         assigns ! (addr ! (from ! (fld ! refl (hop ! (look-in ! 28 (sub ! 0 refl (whole !))) (stop !))))) (from ! (stop !)) (init ! 19 refl (tt, tt)) $
-        assigns ! (agg ! (and-then ! (load ! (from ! (stop !)) (look ! 19 refl)) (and-then ! (load ! (from ! (fld ! refl (stop !))) (look-in ! 28 (sub ! 1 refl (whole !)))) (no-more !)))) (from ! (stop !)) (init ! 17 refl (tt, (tt, (record { fits = room .0 }, tt)))) $
+        assigns ! (agg ! (and-then ! (load ! (from ! (stop !)) (look ! 19 refl)) (and-then ! (load ! (from ! (fld ! refl (stop !))) (look-in ! 28 (sub ! 1 refl (whole !)))) (no-more !))))
+        (from ! (stop !)) (init ! 17 refl (tt, (tt, (record { fits = room .0 }, tt)))) $
         assigns ! (of-opd ! (load ! (from ! (fld ! refl (stop !))) (look-in ! 24 (sub ! 1 refl (whole !))))) (from ! (stop !)) (init ! 15 refl (tt, record { fits = room′ .0 })) $
         assigns ! (addr ! (from ! (stop !))) (from ! (stop !)) (init ! 13 refl (tt, tt)) $
         assigns ! (agg ! (and-then ! (load ! (from ! (stop !)) (look ! 13 refl)) (and-then ! (big-lit ! (record { fits = fits-4096 })) (no-more !)))) (from ! (stop !)) (init ! 11 refl (tt, (tt, (record { fits = fits-4096 }, tt)))) $
@@ -218,7 +221,8 @@ module _ {M : Type 1} (𝓤 : URA M) (H : Heap 𝓤) (A : Atoms 𝓤) (W : Given
         move ! (1 ∷ 6 ∷ []) $ join ! $ move ! (3 ∷ 4 ∷ []) $ join ! $ use2 W (raw (ExecuteWords 𝓤 H A mem′ run .pre (to-words l₄ ν δ blank))) (goes-words l₄ ν δ blank size) $
         -- `execute_words`
         calls-at ! fm (ExecuteWords 𝓤 H A mem′ run) known-words (to-words l₄ ν δ blank)
-        (and-then ! (load ! (from ! (stop !)) (look ! 20 refl)) (and-then ! (load ! (from ! (stop !)) (look ! 29 refl)) (and-then ! (load ! (from ! (stop !)) (look ! 18 refl)) (and-then ! (load ! (from ! (stop !)) (look ! 14 refl)) (no-more !))))) (λ v.
+        (and-then ! (load ! (from ! (stop !)) (look ! 20 refl)) (and-then ! (load ! (from ! (stop !)) (look ! 29 refl))
+        (and-then ! (load ! (from ! (stop !)) (look ! 18 refl)) (and-then ! (load ! (from ! (stop !)) (look ! 14 refl)) (no-more !))))) (λ v.
         use1 W (later (some (λ (r : Answer). ((‵ (flft κ q) ⊛ ‵ (flft (ν ∷ []) fullShare) ⊛ ‵ ftrue) ⊛ ‵ (AT.the-row .own r (v ∷ [])))
         ⊛ raw (ensured 𝓤 H A execute-words.ended (execute-words.clauses 𝓤 H A mem′ run) (κ, (ν ∷ [], tt)) (x, (c, (length ys, (w l₄ δ blank, tt)))) tt r)))) (id⊢ 𝓤 _) $ await ! tt $ pick ! (λ r. split ! $ move ! (1 ∷ []) $
         use1 W (some (λ (zs : Lasts-words). ‵ (lasts execute-words.ended (κ, (ν ∷ [], tt)) (x, (c, (length ys, (w l₄ δ blank, tt)))) zs)
@@ -232,7 +236,8 @@ module _ {M : Type 1} (𝓤 : URA M) (H : Heap 𝓤) (A : Atoms 𝓤) (W : Given
         use3 W (later (‵ (Arr (mem u32) (length blank) .lies (words-of zs) l₄ 0))) (slice-back 𝓤 H A W u32 (ν ∷ []) δ (words-of zs) (length blank) l₄ 0) $ await ! tt $ fsplit ! $ drop ! $
         -- [the words; the store's token; its last list; the list's token; the list; _15; …]
         assigns ! (addr ! (from ! (fld ! refl (hop ! (look-in ! 28 (sub ! 0 refl (whole !))) (stop !))))) (from ! (stop !)) (init ! 11 refl (tt, tt)) $
-        assigns ! (agg ! (and-then ! (load ! (from ! (stop !)) (look ! 11 refl)) (and-then ! (load ! (from ! (fld ! refl (stop !))) (look-in ! 28 (sub ! 1 refl (whole !)))) (no-more !)))) (from ! (stop !)) (init ! 9 refl (tt, (tt, (record { fits = room′ .0 }, tt)))) $
+        assigns ! (agg ! (and-then ! (load ! (from ! (stop !)) (look ! 11 refl)) (and-then ! (load ! (from ! (fld ! refl (stop !))) (look-in ! 28 (sub ! 1 refl (whole !)))) (no-more !))))
+        (from ! (stop !)) (init ! 9 refl (tt, (tt, (record { fits = room′ .0 }, tt)))) $
         assigns ! (addr ! (from ! (stop !))) (from ! (stop !)) (init ! 7 refl (tt, tt)) $
         assigns ! (agg ! (and-then ! (load ! (from ! (stop !)) (look ! 7 refl)) (and-then ! (big-lit ! (record { fits = fits-4096 })) (no-more !)))) (from ! (stop !)) (init ! 5 refl (tt, (tt, (record { fits = fits-4096 }, tt)))) $
         -- `count_of`
@@ -245,11 +250,13 @@ module _ {M : Type 1} (𝓤 : URA M) (H : Heap 𝓤) (A : Atoms 𝓤) (W : Given
         -- the words are shared for a lifetime of the next call
         use1 W (‵ (row u32 fullShare (words-of zs) l₄ 0)) (whole-out 𝓤 H A W u32 (words-of zs) l₄ 0) $ feqI ! ℕ (length (words-of zs)) (length (words-of zs)) refl $ fjoin ! $
         lft-new ! tt (λ μ. move ! (1 ∷ []) $
-        use1 W (later (some (λ (ε : GName). ‵ (ShrSlice (named 1) (μ ∷ []) u32 .own (w l₄ ε (words-of zs)) (sliceVal (l₄, 0) (length (words-of zs)) ∷ [])) ⊛ ‵ (flent (μ ∷ []) (arr-parts (shares u32) (length (words-of zs)) .part fullShare (words-of zs) l₄ 0)))))
+        use1 W (later (some (λ (ε : GName). ‵ (ShrSlice (named 1) (μ ∷ []) u32 .own (w l₄ ε (words-of zs)) (sliceVal (l₄, 0) (length (words-of zs)) ∷ [])) ⊛
+        ‵ (flent (μ ∷ []) (arr-parts (shares u32) (length (words-of zs)) .part fullShare (words-of zs) l₄ 0)))))
         (lends-shr-slice 𝓤 H A W u32 (named 1) (μ ∷ []) fullShare (words-of zs) l₄ 0 (room-4096 (words-of zs) (same-words ∙ size))) $ await ! tt $ pick ! (λ ε. split ! $
         rewrite ! 0 (λ (n : ℕ). ‵ (ShrSlice (named 1) (μ ∷ []) u32 .own (w l₄ ε (words-of zs)) (sliceVal (l₄, 0) n ∷ []))) (same-words ∙ size) refl $
         -- [the words; what their lender keeps; their token; the store's; its last list; the list's token; the list; _15; …]
-        move ! (5 ∷ 2 ∷ []) $ join ! $ move ! (5 ∷ 1 ∷ []) $ join ! $ use2 W (raw (WritePairs 𝓤 H A mem′ run .pre (to-pairs l₄ μ ε (words-of zs) (listCount r)))) (goes-pairs l₄ μ ε (words-of zs) (listCount r) (isk .1) (I .inList, I .inWords)) $
+        move ! (5 ∷ 2 ∷ []) $ join ! $ move ! (5 ∷ 1 ∷ []) $ join ! $ use2 W (raw (WritePairs 𝓤 H A mem′ run .pre (to-pairs l₄ μ ε (words-of zs) (listCount r))))
+        (goes-pairs l₄ μ ε (words-of zs) (listCount r) (isk .1) (I .inList, I .inWords)) $
         -- `write_pairs`
         calls-at ! fm (WritePairs 𝓤 H A mem′ run) known-pairs (to-pairs l₄ μ ε (words-of zs) (listCount r))
         (and-then ! (load ! (from ! (stop !)) (look ! 8 refl)) (and-then ! (load ! (from ! (stop !)) (look ! 4 refl)) (and-then ! (load ! (from ! (stop !)) (look ! 18 refl)) (no-more !)))) (λ vu.
@@ -266,9 +273,12 @@ module _ {M : Type 1} (𝓤 : URA M) (H : Heap 𝓤) (A : Atoms 𝓤) (W : Given
         use1 W (‵ (froom (tyArray (tyInt w32) 4096) l₄ 0)) (words-room 𝓤 H A W 4096 (words-of zs) l₄ 0 (same-words ∙ size)) $
         -- [room for _4; the list's token; its last pairs; the store's token; its last list; _15; …]
         assigns ! (of-opd ! (load ! (from ! (stop !)) (look ! 25 refl))) (from ! (stop !)) (init ! 34 refl (EL.lawful AT.the-type AT′.the-laws 𝓤 H A W tt .typed r _ is .0)) $
-        returns ! (look ! 34 refl) $ forget ! 5 refl $ forget ! 7 refl $ forget ! 9 refl $ forget ! 11 refl $ forget ! 13 refl $ forget ! 15 refl $ forget ! 17 refl $ forget ! 19 refl $ forget ! 21 refl $ forget ! 23 refl $ forget ! 25 refl $ forget ! 28 refl $ forget ! 30 refl $ forget ! 32 refl $ forget ! 34 refl $
-        move ! (34 ∷ 35 ∷ []) $ free1 ! $ move ! (32 ∷ 33 ∷ []) $ free1 ! $ move ! (30 ∷ 31 ∷ []) $ free1 ! $ move ! (28 ∷ 29 ∷ []) $ free1 ! $ move ! (0 ∷ 27 ∷ []) $ free1 ! $ move ! (24 ∷ 25 ∷ []) $ free1 ! $ move ! (22 ∷ 23 ∷ []) $ free1 ! $ move ! (20 ∷ 21 ∷ []) $ free1 ! $
-        move ! (18 ∷ 19 ∷ []) $ free1 ! $ move ! (16 ∷ 17 ∷ []) $ free1 ! $ move ! (14 ∷ 15 ∷ []) $ free1 ! $ move ! (12 ∷ 13 ∷ []) $ free1 ! $ move ! (10 ∷ 11 ∷ []) $ free1 ! $ move ! (8 ∷ 9 ∷ []) $ free1 ! $ move ! (6 ∷ 7 ∷ []) $ free1 ! $ move ! (4 ∷ 5 ∷ []) $ free1 ! $ free0 ! $
+        returns ! (look ! 34 refl) $ forget ! 5 refl $ forget ! 7 refl $ forget ! 9 refl $ forget ! 11 refl $ forget ! 13 refl $ forget ! 15 refl $ forget ! 17 refl $ forget ! 19 refl $
+        forget ! 21 refl $ forget ! 23 refl $ forget ! 25 refl $ forget ! 28 refl $ forget ! 30 refl $ forget ! 32 refl $ forget ! 34 refl $
+        move ! (34 ∷ 35 ∷ []) $ free1 ! $ move ! (32 ∷ 33 ∷ []) $ free1 ! $ move ! (30 ∷ 31 ∷ []) $ free1 ! $ move ! (28 ∷ 29 ∷ []) $ free1 ! $ move ! (0 ∷ 27 ∷ []) $ free1 ! $ move ! (24 ∷ 25 ∷ []) $
+        free1 ! $ move ! (22 ∷ 23 ∷ []) $ free1 ! $ move ! (20 ∷ 21 ∷ []) $ free1 ! $
+        move ! (18 ∷ 19 ∷ []) $ free1 ! $ move ! (16 ∷ 17 ∷ []) $ free1 ! $ move ! (14 ∷ 15 ∷ []) $ free1 ! $ move ! (12 ∷ 13 ∷ []) $ free1 ! $ move ! (10 ∷ 11 ∷ []) $ free1 ! $ move ! (8 ∷ 9 ∷ []) $
+        free1 ! $ move ! (6 ∷ 7 ∷ []) $ free1 ! $ move ! (4 ∷ 5 ∷ []) $ free1 ! $ free0 ! $
         nothing ! $ move ! (1 ∷ 0 ∷ []) $ join ! $ move ! (2 ∷ 0 ∷ []) $ join ! $ move ! (0 ∷ 2 ∷ 1 ∷ []) $
         by ! (exits r v is (zs .0) (ls .0) (in-pairs xs blank (zs .0) (words-of zs) ys (ls .0) c r I wrote) same same-list)))))))))))))))))))))))))))))))))))))))
 

@@ -23,7 +23,8 @@ use ghost.Atoms.{Atoms, sem}
 use contract.Monad.{Fun, fact}
 use contract.Running.{givenOf, tables, tablesOf}
 use types.Kit.{Given, Item, Sq, runs, ‵, raw, given, some, later, _⊛_, ⋆, anyQ, atRet, _$_, _∵_, !, qed, by, move, keep, drop, use0, use1, use2, split, join, pick, learn, rewrite, fsplit, fjoin, feqI, suffices, frame, await, done}
-use types.Run.{look, init, store, store-raw, forget, stop, hop, fld, from, load, lit, unit-lit, of-opd, bin, and-then, no-more, assigns, assigns-last, land, stays, leaves-loop, first, blocks, loops, again, Below, returns, enter, exec, alloc1, alloc0, params1, pass1, pass0, free1, free0}
+use types.Run.{look, init, store, store-raw, forget, stop, hop, fld, from, load, lit, unit-lit, of-opd, bin, and-then, no-more, assigns, assigns-last}
+use types.Run.{land, stays, leaves-loop, first, blocks, loops, again, Below, returns, enter, exec, alloc1, alloc0, params1, pass1, pass0, free1, free0}
 use types.Part.{whole, sub, look-in}
 use sound.WpLaws.{FmC, fmOf, WpFn-mono}
 use denote.RattleType.{owns}
@@ -90,7 +91,8 @@ words = sliceTy (tyRef (named 1) imm (tyInt w32))
 abbrev PairAt : {M : Type 1} (𝓤 : URA M) (H : Heap 𝓤) (A : Atoms 𝓤) (mem : Memory → SProp 𝓤) (run : Routine → Fun 𝓤) → Contract 𝓤
 PairAt 𝓤 H A mem run = tripleOf 𝓤 H A pair-at.signature (pair-at.spec 𝓤 H A mem run)
 
-module _ {M : Type 1} (𝓤 : URA M) (H : Heap 𝓤) (A : Atoms 𝓤) (W : Given 𝓤 H A) (mem : Memory → SProp 𝓤) (run : Routine → Fun 𝓤) (κ κ′ : Lft) (q q′ : Share) (b o : ℕ) (γ : GName) (ys : List Pair) (b′ o′ : ℕ) (γ′ : GName) (ws : List ℕ) (count : ℕ)
+module _ {M : Type 1} (𝓤 : URA M) (H : Heap 𝓤) (A : Atoms 𝓤) (W : Given 𝓤 H A) (mem : Memory → SProp 𝓤) (run : Routine → Fun 𝓤) (κ κ′ : Lft) (q q′ : Share) (b o : ℕ) (γ : GName) (ys : List Pair)
+    (b′ o′ : ℕ) (γ′ : GName) (ws : List ℕ) (count : ℕ)
     (room : Room T.the-row (length ys)) (room′ : Room u32 (length ws)) (count-fits : count < 2 ^ 64) (in-list : count ≤ length ys) (in-words : count ≤ length ws) where
   -- the list's borrow at l, and the words
   abbrev x : List Pair → RefT (List Pair)
@@ -130,7 +132,8 @@ module _ {M : Type 1} (𝓤 : URA M) (H : Heap 𝓤) (A : Atoms 𝓤) (W : Given
   exits : ent 𝓤 (⋆ 𝓤 H A (‵ (fobs γ (codedHoleys T.the-row .code (heres T.the-row zs))) ∷ ‵ (fbor κ (Held T.the-row (length zs) b o γ)) ∷ ‵ (flft κ q) ∷ ‵ (flft κ′ q′) ∷ ‵ WordsOwn ∷ [])) (Post vunit)
   exits =
       qed W (‵ (fobs γ (codedHoleys T.the-row .code (heres T.the-row zs))) ∷ ‵ (fbor κ (Held T.the-row (length zs) b o γ)) ∷ ‵ (flft κ q) ∷ ‵ (flft κ′ q′) ∷ ‵ WordsOwn ∷ []) ∵
-      suffices ! _ (ends-at 𝓤 H A write-pairs.ended stayed (write-pairs.clauses 𝓤 H A mem run) W (((κ, (κ′, tt)), (q, (q′, tt)), tt, a, vals), tt) vunit tt (zs, (tt, (tt, tt))) (same, (tt, (tt, tt)))) $ says ! (onto-unpacked count ws ys in-list in-words) $
+      suffices ! _ (ends-at 𝓤 H A write-pairs.ended stayed (write-pairs.clauses 𝓤 H A mem run) W (((κ, (κ′, tt)), (q, (q′, tt)), tt, a, vals), tt) vunit tt (zs, (tt, (tt, tt))) (same, (tt, (tt, tt)))) $
+      says ! (onto-unpacked count ws ys in-list in-words) $
       nothing ! $ move ! (4 ∷ 0 ∷ []) $ join ! $ move ! (3 ∷ 0 ∷ []) $ join ! $ frame ! $
       fjoin ! $ pureI ! (at-slice T.the-row (x zs) (s ∷ [])) (tt, (tt, tt)) (ap (λ (m : ℕ). sliceVal (b, o) m ∷ []) (sym same), subst (Room T.the-row) (sym same) room) $ fjoin ! $
       nothing ! $ owned ! usize (Is usize) (uint-makes 𝓤 H A W w64) count _ (refl, count-fits) $ fjoin ! $ move ! (2 ∷ 0 ∷ []) $ fjoin ! $ move ! (1 ∷ 0 ∷ []) $ fjoin ! $

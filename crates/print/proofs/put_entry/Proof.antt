@@ -24,6 +24,16 @@ put-number-requires-2 c κs =
     let at-start : tie.Start = search in
     omega (arith, entry-size (at-start .args .w))
 
+-- each part by its place: search alone, where the parts do not fit, breaks off before it can say so
+returns : tie.Need-returns
+returns c =
+    let at-node : tie.After-put-number2 = search in
+    let at-colon : tie.After-put-byte2 = search in
+    let at-edge : tie.After-put-number = search in
+    let at-blank : tie.After-put-byte = search in
+    let at-start : tie.Start = search in
+    entry-put _ (at-start .pre) (at-blank .put-byte .ensures) (at-edge .put-number .ensures) (at-colon .put-byte2 .ensures) (at-node .put-number2 .ensures)
+
 pub put-entry-spec : {M : Type 1} → statement M
 put-entry-spec =
     tie.close
@@ -33,4 +43,4 @@ put-entry-spec =
     put-byte-requires-2
     put-number-requires-2
     (λ c. search needs)
-    (λ c. search entry-put))
+    returns)
