@@ -14,7 +14,7 @@ use Rattle.model.specs.Tuples.{Tuples, present, valueAt}
 use Rattle.layouts.specs.Buffer.{capacityOf, keyAt, tupleAt, usedOf, tuplesOf}
 use Rattle.model.proofs.Order.{keys, opposite}
 use Rattle.model.proofs.Ordered.{Below, below-not-held, above-not-held, ascending-tail, above-less}
-use Rattle.layouts.proofs.Chains.{Within}
+use Rattle.layouts.specs.Chains.{Within}
 use Rattle.words.specs.Words.{Inside}
 use Rattle.words.proofs.Words.{inside}
 use Rattle.chain.specs.declared.Place.{Place}

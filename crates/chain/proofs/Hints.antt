@@ -12,14 +12,14 @@ use Rattle.model.specs.declared.Key.{Key}
 use Rattle.model.specs.Ordered.{isLess, Above, Ascending}
 use Rattle.model.specs.Keys.{keyOf, compareKeys}
 use Rattle.layouts.specs.Buffer.{word, capacityOf, next, keyAt, tupleAt, usedOf, tuplesOf}
-use Rattle.layouts.specs.Chains.{Chain}
+use Rattle.layouts.specs.Chains.{Chain, Within, Rest}
 use Rattle.model.proofs.Order.{keys}
-use Rattle.layouts.proofs.Chains.{Within}
+use Rattle.layouts.proofs.Chains.{start-within}
 use Rattle.words.specs.Words.{Inside}
 use Rattle.words.proofs.Words.{inside}
 use Rattle.chain.specs.declared.Place.{Place}
 use Rattle.chain.specs.Links.{Linked, Reached, Hint, startOf, afterIn, place, placeIn}
-use Rattle.chain.proofs.Walks.{Rest, used-rest}
+use Rattle.chain.proofs.Walks.{used-rest}
 use Rattle.chain.proofs.Paths.{chain-split, within-right}
 use Rattle.chain.proofs.Places.{Seeking, seek-start}
 use Rattle.chain.proofs.Found.{is-less, lastOf, snoc, at-place}
@@ -42,10 +42,12 @@ module _ (b : List ℕ) where
       let U = used-rest b (L .chains) in
       let c = chain-split (next b) (word b 1) (R .before) (i ∷ R .after) (subst (Chain (next b) (word b 1)) (R .split) (U .chain)) in
       let same : i ≡ c .0 = c .2 .1 in
+      let links : Chain (next b) (next b i) (R .after) = subst (λ (j : ℕ). Chain (next b) (next b j) (R .after)) (sym same) (c .2 .2) in
       let w = within-right (capacityOf b) (R .before) (i ∷ R .after) (subst (Within (capacityOf b)) (R .split) (U .within)) in (
         record {
+          high = start-within (next b) (capacityOf b) (next b i) (R .after) links (w .2);
           rest = R .after;
-          chain = subst (λ (j : ℕ). Chain (next b) (next b j) (R .after)) (sym same) (c .2 .2);
+          chain = links;
           within = w .2;
           short = omega (arith, U .short, ap length (R .split), length-append (R .before) (i ∷ R .after));
         },

@@ -2,14 +2,14 @@
 use mathlib.Core.Bool.{Bool, true, false}
 use mathlib.Core.List.{List, [], _∷_, _++_, map}
 use mathlib.Core.Logic.{_≢_}
-use mathlib.Core.Path.{_≡_, refl, sym, ap, ap₂, _∙_, subst}
+use mathlib.Core.Path.{_≡_, refl, sym, ap, ap₂, subst}
 use Prim.Native.Nat.{ℕ, _+_, _≤_}
 use native.Mathlib.Omega.{arith}
 use lib.Dec.{eqb}
 use borrow.Author.Tests.{eqb-true, eqb-false}
-use Rattle.layouts.specs.Buffer.{oneIf, count}
-use Rattle.layouts.specs.Chains.{Chain}
-use Rattle.layouts.proofs.Chains.{Within, hit, miss}
+use Rattle.layouts.specs.Buffer.{count}
+use Rattle.layouts.specs.Chains.{Chain, Within}
+use Rattle.layouts.proofs.Chains.{hit, miss}
 
 -- from record i through the records of a list to record j
 abbrev pub Path : (ℕ → ℕ) → ℕ → List ℕ → ℕ → Type 0

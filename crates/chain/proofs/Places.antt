@@ -1,6 +1,6 @@
 -- The loop of `seek`: the place among all records is the place among those that are left.
 use mathlib.Core.Bool.{Bool, true, false, cond}
-use mathlib.Core.List.{List, [], _∷_}
+use mathlib.Core.List.{List}
 use mathlib.Core.Logic.{_≢_}
 use mathlib.Core.Path.{_≡_, refl, sym, ap, _∙_, subst}
 use Prim.Native.Nat.{ℕ, _<_, _%_}
@@ -9,12 +9,12 @@ use Rattle.model.specs.declared.Key.{Key}
 use Rattle.model.specs.Ordered.{isLess}
 use Rattle.model.specs.Keys.{compareKeys}
 use Rattle.layouts.specs.Buffer.{word, next, keyAt, usedOf, freeOf}
-use Rattle.chain.specs.declared.Place.{Place}
 use Rattle.chain.specs.Links.{Linked, place, placeIn}
 use Rattle.layouts.proofs.Store.{capacity-most}
 use Rattle.words.specs.Words.{Inside}
 use Rattle.words.proofs.Words.{inside-most}
-use Rattle.chain.proofs.Walks.{Rest, remaining, Step, step, falls, at-end, used-rest}
+use Rattle.chain.proofs.Walks.{remaining, Step, step, falls, at-end, used-rest}
+use Rattle.layouts.specs.Chains.{Rest}
 
 -- a store has fewer than 4,096 records
 pub same-number : (b : List ℕ) (i : ℕ) → Linked b → Inside b i → i % 4096 ≡ i

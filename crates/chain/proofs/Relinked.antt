@@ -1,10 +1,10 @@
 -- A tuple linked or unlinked: what is read afterwards, and that the chains are chains again.
 -- First from the words to a record of plain reads (`Inserted`, `Removed`), then from the reads to the rules.
 use mathlib.Core.Bool.{Bool, true, false}
-use mathlib.Core.List.{List, [], _∷_, _++_, map}
+use mathlib.Core.List.{List, _∷_, _++_, map}
 use mathlib.Core.Logic.{_≢_}
 use mathlib.Core.Path.{_≡_, refl, sym, ap, ap₂, _∙_, subst}
-use Prim.Native.Nat.{ℕ, suc, _+_, _-_, _≤_, _<_}
+use Prim.Native.Nat.{ℕ, _+_, _-_, _≤_, _<_}
 use native.Mathlib.Omega.{arith}
 use lib.Dec.{eqb}
 use lib.ListN.{length, set, length-set, length-append}
@@ -13,13 +13,13 @@ use borrow.Author.Tests.{eqb-true, eqb-false}
 use Rattle.model.specs.declared.Key.{Key}
 use Rattle.model.specs.Keys.{Value, Tuple}
 use Rattle.layouts.specs.Buffer.{word, capacityOf, next, tupleAt, pastRecords, oneIf, count}
-use Rattle.layouts.specs.Chains.{Chain, ChainRules}
-use Rattle.layouts.proofs.Chains.{Within, chain-agree, chain-within, count-append, hit}
+use Rattle.layouts.specs.Chains.{Chain, ChainRules, Within}
+use Rattle.layouts.proofs.Chains.{chain-agree, chain-within, count-append, hit}
 use Rattle.words.specs.Words.{Inside, putNext, putTuple}
-use Rattle.words.proofs.Words.{inside, next-head, tuple-head, word-head, past-head, length-putNext, word-putNext, next-putNext, next-putNext-other, tuple-putNext, past-putNext, length-putTuple, word-putTuple, next-putTuple, tuple-putTuple, tuple-putTuple-other, past-putTuple}
+use Rattle.words.proofs.Words.{next-head, tuple-head, word-head, past-head, length-putNext, word-putNext, next-putNext, next-putNext-other, tuple-putNext, past-putNext, length-putTuple, word-putTuple, next-putTuple, tuple-putTuple, tuple-putTuple-other, past-putTuple}
 use Rattle.layouts.proofs.Sizes.{capacity-length}
 use Rattle.chain.specs.Links.{Linking, insertAfter, Unlinking, removeAfter}
-use Rattle.chain.proofs.Paths.{Path, chain-split, path-chain, here, later, path-agree, map-agree, counted-within, within-left, within-right, map-append}
+use Rattle.chain.proofs.Paths.{Path, chain-split, path-chain, path-agree, map-agree, counted-within, within-left, within-right, map-append}
 
 -- ---- what is read after a tuple is linked
 

@@ -1,24 +1,21 @@
 -- A walk of a chain: what is known of the records from the one that it stands at, and the number that falls with each step.
-use mathlib.Core.List.{List, [], _∷_, _++_}
+use mathlib.Core.List.{List, [], _∷_}
 use mathlib.Core.Logic.{_≢_}
-use mathlib.Core.Option.{Option}
-use mathlib.Core.Path.{_≡_, refl, sym, ap, _∙_, subst}
-use Prim.Native.Nat.{ℕ, suc, _+_, _≤_, _<_}
+use mathlib.Core.Option.{Option, some}
+use mathlib.Core.Path.{_≡_, refl, ap}
+use Prim.Native.Nat.{ℕ, _≤_, _<_}
 use native.Mathlib.Omega.{arith}
 use lib.ListN.{length}
 use Rattle.layouts.specs.Buffer.{word, capacityOf, next, walk, orNothing, usedOf, freeOf}
-use Rattle.layouts.specs.Chains.{Chain, ChainRules}
-use Rattle.layouts.proofs.Chains.{Within, chain-walk, chain-within}
+use Rattle.layouts.specs.Chains.{Chain, Within, Rest, ChainRules}
+use Rattle.layouts.proofs.Chains.{start-within, chain-walk, chain-within}
 use Rattle.layouts.proofs.Store.{chains-count}
 use Rattle.words.specs.Words.{Inside}
 use Rattle.words.proofs.Words.{inside}
 
--- the records from `at` to the end of its chain
-pub record Rest (b : List ℕ) (at : ℕ) : Type 0 where
-  pub rest : List ℕ
-  pub chain : Chain (next b) at rest
-  pub within : Within (capacityOf b) rest
-  pub short : length rest ≤ capacityOf b
+-- the walk that document 01 defines meets them
+pub walk-meets : (b : List ℕ) (at : ℕ) (R : Rest b at) → walk (next b) (capacityOf b) at ≡ some (R .rest)
+walk-meets b at R = chain-walk (next b) (capacityOf b) at (R .rest) (R .chain) (R .short)
 
 -- how many they are
 unfoldable pub remaining : List ℕ → ℕ → ℕ
@@ -26,7 +23,7 @@ remaining b at = length (orNothing (walk (next b) (capacityOf b) at))
 
 pub remaining-is : (b : List ℕ) (at : ℕ) (R : Rest b at) → remaining b at ≡ length (R .rest)
 unfolding remaining orNothing
-remaining-is b at R = ap (λ (r : Option (List ℕ)). length (orNothing r)) (chain-walk (next b) (capacityOf b) at (R .rest) (R .chain) (R .short))
+remaining-is b at R = ap (λ (r : Option (List ℕ)). length (orNothing r)) (walk-meets b at R)
 
 -- at the end nothing is left
 pub at-end : (b : List ℕ) (at : ℕ) (R : Rest b at) → at ≡ 0 → R .rest ≡ []
@@ -51,7 +48,7 @@ step b at R h = go (R .rest) (R .chain) (R .within) (R .short)
         let same : i ≡ at = c .1 in
         record {
           inside = inside b at (omega (arith, w .0)) (omega (arith, w .1));
-          after = record { rest = is; chain = c .2; within = w .2; short = omega arith };
+          after = record { high = start-within (next b) (capacityOf b) (next b at) is (c .2) (w .2); rest = is; chain = c .2; within = w .2; short = omega arith };
           split = ap (λ (x : ℕ). x ∷ is) same;
         }
 
@@ -65,6 +62,7 @@ falls b at R h =
 unfoldable pub used-rest : (b : List ℕ) → ChainRules b (usedOf b) (freeOf b) → Rest b (word b 1)
 used-rest b R =
     record {
+      high = R .usedHead;
       rest = usedOf b;
       chain = R .usedChain;
       within = chain-within (next b) (capacityOf b) (word b 1) (usedOf b) (R .usedChain) (R .usedHead) (R .nexts);

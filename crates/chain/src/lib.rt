@@ -4,7 +4,7 @@ use model::Key;
 ghost use mathlib.Core.Path.{_≡_};
 ghost use Prim.Native.Nat.{_+_, _≤_, _<_};
 ghost use Rattle.model.specs.Tuples.{present, valueAt};
-ghost use Rattle.layouts.specs.Buffer.{usedOf, tuplesOf, keyAt};
+ghost use Rattle.layouts.specs.Buffer.{next, usedOf, tuplesOf, keyAt};
 ghost use Rattle.words.specs.Words.{Inside};
 ghost use Rattle.chain.specs.Links.{Linked, Hint, startOf, afterIn, placeIn, findIn, Linking, insertAfter, Unlinking, removeAfter};
 
@@ -12,6 +12,14 @@ ghost use Rattle.chain.specs.Links.{Linked, Hint, startOf, afterIn, plac
 pub struct Place {
     pub before: usize,
     pub at: usize,
+}
+
+// The record that follows a record in its chain; 0 where the chain ends. Every walk along a chain goes on by this function.
+pub fn next_of(b: &[u32], at: usize) -> usize
+    requires { ⌜ Inside (now b) at ⌝ }
+    ensures { λ r. ⌜ r ≡ next (now (b .entry)) at ⌝ }
+{
+    words::next_of(b, at)
 }
 
 // The key of a used record, for walks. The remainder is the number itself: with it the place of the key is computed apart from
@@ -45,7 +53,7 @@ pub fn after(b: &[u32], before: usize) -> usize
     if before == 0 {
         return words::head_word(b, 1);
     }
-    words::next_of(b, before)
+    next_of(b, before)
 }
 
 // The place of a key: the last record whose key is below it, and the record after that.
@@ -57,7 +65,7 @@ pub fn seek(b: &[u32], hint: usize, k: Key) -> Place
     let mut before = start_of(b, hint, k);
     let mut at = after(b, before);
     while at != 0 {
-        let next = words::next_of(b, at);
+        let next = next_of(b, at);
         if !words::key_below(used_key(b, at), k) {
             break;
         }
@@ -76,8 +84,8 @@ pub fn insert_after(b: &mut [u32], before: usize, k: Key, v: u32)
     ensures { λ _. ⌜ now (b .exit) ≡ insertAfter (now (b .entry)) before k v ⌝ }
 {
     let taken = words::head_word(b, 2);
-    let free = words::next_of(b, taken);
-    let after = words::next_of(b, before);
+    let free = next_of(b, taken);
+    let after = next_of(b, before);
     let used = words::head_word(b, 3);
     words::put_head_word(b, 2, free);
     words::put_tuple(b, taken, k, v);
@@ -91,8 +99,8 @@ pub fn remove_after(b: &mut [u32], before: usize)
     requires { ⌜ Unlinking (now b) before ⌝ }
     ensures { λ _. ⌜ now (b .exit) ≡ removeAfter (now (b .entry)) before ⌝ }
 {
-    let gone = words::next_of(b, before);
-    let after = words::next_of(b, gone);
+    let gone = next_of(b, before);
+    let after = next_of(b, gone);
     let free = words::head_word(b, 2);
     let used = words::head_word(b, 3);
     words::put_next(b, before, after);

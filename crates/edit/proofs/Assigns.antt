@@ -14,13 +14,13 @@ use Rattle.model.specs.Ordered.{holds, Ascending}
 use Rattle.model.specs.Keys.{Value, Tuple, keyOf, spaceKey, compareKeys, sameKey}
 use Rattle.model.specs.Tuples.{Tuples, present, assign}
 use Rattle.layouts.specs.Buffer.{word, recordStart, valuePlace, capacityOf, next, keyAt, tupleAt, usedOf, freeOf, tuplesOf, count}
-use Rattle.layouts.specs.Chains.{Chain, ChainRules}
+use Rattle.layouts.specs.Chains.{Chain, ChainRules, Within}
 use Rattle.model.proofs.Bools.{clash, or-no-left, or-no-right}
 use Rattle.model.proofs.Order.{keys}
 use Rattle.model.proofs.Ordered.{above-not-held, ascending-tail}
 use Rattle.model.proofs.Tuples.{same-key, own-key, present-assign, assign-ascending}
 use Rattle.model.proofs.Rules.{universe-first, first-universe}
-use Rattle.layouts.proofs.Chains.{Within, chain-within, chain-agree}
+use Rattle.layouts.proofs.Chains.{chain-within, chain-agree}
 use Rattle.words.specs.Words.{Inside, putWord, putValue}
 use Rattle.words.proofs.Words.{length-putValue, word-putValue, next-putValue, key-putValue, value-putValue, value-putValue-other, past-putValue}
 use Rattle.layouts.proofs.Sizes.{capacity-length}

@@ -15,20 +15,20 @@ use Rattle.model.specs.Keys.{Tuple, keyOf, spaceKey, compareKeys}
 use Rattle.model.specs.Tuples.{Tuples, present, remove}
 use Rattle.layouts.specs.Buffer.{word, capacityOf, next, keyAt, tupleAt, pastRecords, usedOf, freeOf, tuplesOf}
 use Rattle.model.specs.Rules.{firstKey}
-use Rattle.layouts.specs.Chains.{Chain, ChainRules}
+use Rattle.layouts.specs.Chains.{Chain, ChainRules, Within, Rest}
 use Rattle.model.proofs.Bools.{and-both, no-not}
 use Rattle.model.proofs.Order.{keys}
 use Rattle.model.proofs.Ordered.{Below, above-less, ascending-tail}
 use Rattle.model.proofs.Tuples.{present-remove, remove-ascending}
 use Rattle.model.proofs.Rules.{universe-first, first-universe}
-use Rattle.layouts.proofs.Chains.{Within, within-append, chain-within}
+use Rattle.layouts.proofs.Chains.{within-append, start-within, chain-within}
 use Rattle.layouts.proofs.Store.{chains-count, capacity-most}
 use Rattle.words.specs.Words.{Inside}
 use Rattle.words.proofs.Words.{inside}
 use Rattle.chain.specs.declared.Place.{Place}
 use Rattle.chain.specs.Links.{Linked, placeIn, Edited, Unlinking, removeAfter}
 use Rattle.chain.proofs.Found.{lastOf, snoc, at-place}
-use Rattle.chain.proofs.Walks.{Rest, remaining, remaining-is, at-end}
+use Rattle.chain.proofs.Walks.{remaining, remaining-is, at-end}
 use Rattle.chain.proofs.Paths.{chain-split, within-right, map-append}
 use Rattle.chain.proofs.Relinked.{Removed, remove-reads, Parts, removing, apart, removed-rules}
 use Rattle.taken.specs.declared.Selection.{Selection}
@@ -198,6 +198,7 @@ module _ (b₀ : List ℕ) (sel : Selection) where
     left-rest : Rest b at
     left-rest =
         record {
+          high = start-within (next b) (capacityOf b) at (S .rest) left-chain (left-within .2);
           rest = S .rest;
           chain = left-chain;
           within = left-within .2;

@@ -87,9 +87,9 @@ pub fn sweep(b: &mut [u32], hint: usize, sel: Selection)
 {
     let span = taken::span_of(sel);
     let mut before = start_behind(b, hint, span);
-    let mut at = words::next_of(b, before);
+    let mut at = chain::next_of(b, before);
     while at != 0 {
-        let after = words::next_of(b, at);
+        let after = chain::next_of(b, at);
         let k = words::key_of(b, at);
         if taken::is_beyond(span, k) {
             return;

@@ -17,7 +17,8 @@ use Rattle.model.specs.OneCall.{pack}
 use Rattle.model.proofs.Bools.{or-left, or-right}
 use Rattle.model.specs.Tuples.{Tuples}
 use Rattle.words.specs.Words.{Inside}
-use Rattle.chain.proofs.Walks.{Rest, remaining, Step, step, falls}
+use Rattle.chain.proofs.Walks.{remaining, Step, step, falls}
+use Rattle.layouts.specs.Chains.{Rest}
 use Rattle.entries.specs.declared.Query.{Query}
 use Rattle.entries.specs.Queries.{firstAt, secondAt, queried, code, headCode, codes, rising, Readable, startIn, entriesInOrder, writtenPairs}
 use Rattle.entries.proofs.Bounds.{Silent, Onward, onward-next, started}

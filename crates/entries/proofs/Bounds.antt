@@ -15,14 +15,15 @@ use Rattle.model.specs.Ordered.{isLess, thenBy, Ascending}
 use Rattle.model.specs.Keys.{keyOf, spaceKey, nodeKey, isNode, isEdge, compareKeys}
 use Rattle.model.specs.Tuples.{Tuples}
 use Rattle.model.specs.Pairs.{pair, onlyIf, outPair, inPair}
-use Rattle.layouts.specs.Buffer.{word, next, keyAt, tupleAt, usedOf, tuplesOf}
-use Rattle.layouts.specs.Chains.{Chain}
+use Rattle.layouts.specs.Buffer.{capacityOf, word, next, keyAt, tupleAt, usedOf, tuplesOf}
+use Rattle.layouts.specs.Chains.{Chain, Rest}
 use Rattle.model.proofs.Bools.{not-yes, and-never, or-cases, or-left, or-right, or-no-left, or-no-right}
 use Rattle.model.proofs.Order.{keys, compare-eq, compare-lt, compare-gt}
 use Rattle.model.proofs.Ordered.{Below}
 use Rattle.chain.specs.declared.Place.{Place}
 use Rattle.chain.specs.Links.{Linked, placeIn}
-use Rattle.chain.proofs.Walks.{Rest, Step, step, at-end, used-rest}
+use Rattle.layouts.proofs.Chains.{start-within}
+use Rattle.chain.proofs.Walks.{Step, step, at-end, used-rest}
 use Rattle.chain.proofs.Paths.{chain-split, map-append}
 use Rattle.chain.proofs.Found.{headOf, NotBelow, at-place}
 use Rattle.entries.specs.declared.PairQuery.{PairQuery}
@@ -249,11 +250,13 @@ module _ (b : List ℕ) (q : Query) where
       let A = at-place b (startKey q) (placeIn (keyAt b) (startKey q) 0 (usedOf b)) L refl in
       let U = used-rest b (L .chains) in
       let c = chain-split (next b) (word b 1) (A .pre) (A .post) (subst (Chain (next b) (word b 1)) (A .split) (U .chain)) in
+      let links : Chain (next b) at (A .post) = subst (λ (i : ℕ). Chain (next b) i (A .post)) (sym (e ∙ A .head)) (from-head (c .0) (A .post) (c .2)) in
       record {
         walked =
             record {
+              high = start-within (next b) (capacityOf b) at (A .post) links (A .within);
               rest = A .post;
-              chain = subst (λ (i : ℕ). Chain (next b) i (A .post)) (sym (e ∙ A .head)) (from-head (c .0) (A .post) (c .2));
+              chain = links;
               within = A .within;
               short = omega (arith, U .short, ap length (A .split), length-append (A .pre) (A .post));
             };

@@ -310,7 +310,7 @@ fn least_above(b: &[u32], from: usize, q: PairQuery, seen: u64) -> u64
         if outside_pairs(q, k) {
             return best;
         }
-        at = words::next_of(b, at);
+        at = chain::next_of(b, at);
         if !touches(q.n, k) {
             continue;
         }
@@ -368,7 +368,7 @@ fn count_in_order(b: &[u32], from: usize, q: Query) -> usize
             return count;
         }
         let e = first_code(q, k);
-        at = words::next_of(b, at);
+        at = chain::next_of(b, at);
         if e <= seen {
             continue;
         }
@@ -393,7 +393,7 @@ fn write_in_order(b: &[u32], from: usize, q: Query, list: &mut [u32]) -> usize
             return done;
         }
         let e = first_code(q, k);
-        at = words::next_of(b, at);
+        at = chain::next_of(b, at);
         if e <= seen {
             continue;
         }

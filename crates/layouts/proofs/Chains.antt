@@ -11,7 +11,7 @@ use lib.Dec.{eqb}
 use lib.ListN.{length, length-append}
 use borrow.Author.Tests.{eqb-true, eqb-false, eq-eqb, ne-eqb}
 use Rattle.layouts.specs.Buffer.{walk, oneIf, count}
-use Rattle.layouts.specs.Chains.{Chain}
+use Rattle.layouts.specs.Chains.{Chain, Within}
 
 -- ---- the walk and the chain
 
@@ -74,9 +74,10 @@ chain-agree link link′ i (j ∷ js) same c =
 
 -- ---- records within 1 to C
 
-abbrev pub Within : ℕ → List ℕ → Type 0
-Within C [] = Unit {0}
-Within C (i ∷ is) = (1 ≤ i) × (i ≤ C) × Within C is
+-- a chain starts within them, or is at its end
+pub start-within : (link : ℕ → ℕ) (C i : ℕ) (is : List ℕ) → Chain link i is → Within C is → i ≤ C
+start-within link C i [] c w = omega (arith, c)
+start-within link C i (j ∷ js) c w = omega (arith, c .1, w .1)
 
 pub within-append : (C : ℕ) (xs ys : List ℕ) → Within C xs → Within C ys → Within C (xs ++ ys)
 within-append C [] ys h k = k

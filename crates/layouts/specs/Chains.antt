@@ -15,6 +15,19 @@ abbrev pub Chain : (ℕ → ℕ) → ℕ → List ℕ → Type 0
 Chain link i [] = i ≡ 0
 Chain link i (j ∷ js) = (i ≢ 0) × (j ≡ i) × Chain link (link i) js
 
+-- records that are all 1 to C
+abbrev pub Within : ℕ → List ℕ → Type 0
+Within C [] = Unit {0}
+Within C (i ∷ is) = (1 ≤ i) × (i ≤ C) × Within C is
+
+-- what is left of a chain to walk: the records from `at` to its end
+pub record Rest (b : List ℕ) (at : ℕ) : Type 0 where
+  pub high : at ≤ capacityOf b
+  pub rest : List ℕ
+  pub chain : Chain (next b) at rest
+  pub within : Within (capacityOf b) rest
+  pub short : length rest ≤ capacityOf b
+
 -- the rules on words 0 to 3 and the chains of a buffer whose used and free chains meet these records
 pub record ChainRules (b used free : List ℕ) : Type 0 where
   -- "a buffer of 10 to 12,297 words"

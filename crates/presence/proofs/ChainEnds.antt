@@ -10,9 +10,9 @@ use lib.Dec.{leb}
 use lib.ListN.{length}
 use borrow.Author.Tests.{leb-true}
 use Rattle.layouts.specs.Buffer.{capacityOf, next, walk, orNothing}
-use Rattle.layouts.specs.Chains.{Chain}
+use Rattle.layouts.specs.Chains.{Chain, Within}
 use Rattle.model.proofs.Bools.{and-left, and-right}
-use Rattle.layouts.proofs.Chains.{some-list, none≢some-list, Within, walk-chain}
+use Rattle.layouts.proofs.Chains.{some-list, none≢some-list, walk-chain}
 use Rattle.presence.specs.Presence.{allWithin, endsWithin}
 
 walk-short : (link : ℕ → ℕ) (most i : ℕ) (is : List ℕ) → walk link most i ≡ some is → length is ≤ most

@@ -17,7 +17,8 @@ use Rattle.model.proofs.Bools.{and-left, and-right, failed}
 use Rattle.model.proofs.Order.{keys, compare-eq, compare-lt, lt≢gt}
 use Rattle.model.proofs.Ordered.{above-less, test-above}
 use Rattle.model.proofs.Tuples.{same-key}
-use Rattle.presence.specs.Presence.{Walkable, OnChain, tuplesFrom, Seekable, isAt, isBefore, Sorted, endsPresent, spaceStart}
+use Rattle.layouts.specs.Chains.{Rest}
+use Rattle.presence.specs.Presence.{Walkable, tuplesFrom, Seekable, isAt, isBefore, Sorted, endsPresent, spaceStart}
 use Rattle.presence.proofs.Rest.{used-from-head, on-head, tuples-next, EveryLeft, every-start, every-next, every-no, every-end, present-cons, Seeking, seek-end, before-less}
 use Rattle.presence.proofs.Support.{from-head, head-some}
 
@@ -80,7 +81,7 @@ at-ascends b i ts h = h
 
 module _ (b : List ℕ) (w : Walkable b) where
   -- a tuple of another space is passed over
-  pass : (at n : ℕ) → OnChain b at → at ≢ 0 → n ≡ next b at → (j : Key) → (j .s ≡ keyAt b at .s → ⊥)
+  pass : (at n : ℕ) → Rest b at → at ≢ 0 → n ≡ next b at → (j : Key) → (j .s ≡ keyAt b at .s → ⊥)
       → present j (tuplesFrom b at) ≡ present j (tuplesFrom b n)
   pass at n O at≢ e j h =
       ap (present j) (tuples-next b at n w O at≢ e) ∙ present-cons j b at (tuplesFrom b n)
@@ -90,7 +91,7 @@ module _ (b : List ℕ) (w : Walkable b) where
   unfolding spaceStart
   entered space at sp S at≢ e = subst (λ (x : ℕ). Entered b x at) (sym e) (go (eqb (keyAt b space .s) (keyAt b at .s)) refl)
     where
-      O : OnChain b at
+      O : Rest b at
       O = S .every .on
 
       split : (n : ℕ) → n ≡ next b at → (compareKeys (keyAt b space) (keyAt b at) ≡ Ordering·lt) × Above keyOf compareKeys (keyAt b at) (tuplesFrom b n)
@@ -182,7 +183,7 @@ first-universe b i ts e = (
 pub spanning-start : (b : List ℕ) (h n : ℕ) → Sorted b → h ≡ word b 1 → n ≡ next b h → Spanning b h n
 spanning-start b h n S e f =
     let w = S .used .walkable in
-    let O : OnChain b h = on-head b h (S .used) e in
+    let O : Rest b h = on-head b h (S .used) e in
     let h≢ : h ≢ 0 = head-some b h S e in
     let more = tuples-next b h n w O h≢ f in
     let u = first-universe b h (tuplesFrom b n) (ap ascendsFromUniverse (sym more ∙ used-from-head b h e) ∙ S .ascends) in

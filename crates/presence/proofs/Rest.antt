@@ -3,26 +3,27 @@ use mathlib.Core.Bool.{Bool, true, false, not, _&&_, _||_, true≢false}
 use mathlib.Core.List.{List, [], _∷_, map}
 use mathlib.Core.Logic.{_≢_}
 use mathlib.Core.Option.{Option, some}
-use mathlib.Core.Path.{_≡_, refl, sym, ap, ap₂, _∙_, subst}
+use mathlib.Core.Path.{_≡_, refl, sym, ap, _∙_, subst}
 use Prim.Native.Nat.{ℕ, _≤_, _<_, Ordering, Ordering·lt, Ordering·eq, Ordering·gt}
 use native.Mathlib.Omega.{arith}
-use lib.Dec.{eqb, leb, isEq}
+use lib.Dec.{eqb, isEq}
 use lib.ListN.{length}
-use borrow.Author.Tests.{eqb-true, eqb-false, eq-eqb, ne-eqb, leb-true}
+use borrow.Author.Tests.{eqb-true, eqb-false, eq-eqb, ne-eqb}
 use Rattle.model.specs.declared.Key.{Key}
 use Rattle.model.specs.Ordered.{isLess, holds, Ascending}
 use Rattle.model.specs.Keys.{keyOf, compareKeys, sameKey}
 use Rattle.model.specs.Tuples.{Tuples, present}
 use Rattle.layouts.specs.Buffer.{word, capacityOf, next, keyAt, tupleAt, walk, orNothing, usedChain, usedOf, tuplesOf}
 use Rattle.model.specs.Rules.{ascendsFromUniverse, everyKey}
-use Rattle.layouts.specs.Chains.{Chain}
+use Rattle.layouts.specs.Chains.{Rest}
 use Rattle.model.proofs.Bools.{or-left, or-right, and-left, and-right, not-yes}
 use Rattle.model.proofs.Order.{keys, opposite}
 use Rattle.model.proofs.Ordered.{isLess-true, above-not-held, ascending-tail}
 use Rattle.model.proofs.Tuples.{own-key}
 use Rattle.layouts.proofs.Chains.{chain-walk}
 use Rattle.words.specs.Words.{Inside}
-use Rattle.presence.specs.Presence.{Walkable, allWithin, UsedEnds, recordsFrom, tuplesFrom, OnChain, Seekable, isAt, isBefore, Held}
+use Rattle.chain.proofs.Walks.{walk-meets, step}
+use Rattle.presence.specs.Presence.{Walkable, UsedEnds, recordsFrom, tuplesFrom, Seekable, isAt, isBefore, Held}
 use Rattle.layouts.proofs.Sizes.{records-fit}
 use Rattle.presence.proofs.ChainEnds.{met-by-walk}
 
@@ -39,55 +40,35 @@ pub used-from-head : (b : List ℕ) (h : ℕ) → h ≡ word b 1 → tuplesFrom 
 unfolding tuplesFrom recordsFrom tuplesOf usedOf usedChain
 used-from-head b h e = ap (λ (i : ℕ). map (tupleAt b) (orNothing (walk (next b) (capacityOf b) i))) e
 
-pub on-head : (b : List ℕ) (h : ℕ) → UsedEnds b → h ≡ word b 1 → OnChain b h
+pub on-head : (b : List ℕ) (h : ℕ) → UsedEnds b → h ≡ word b 1 → Rest b h
 unfolding recordsFrom usedChain
 on-head b h U e =
     let M = met-by-walk b (word b 1) (U .ended) in
-    subst (OnChain b) (sym e) (record { high = U .walkable .usedHead; chain = M .chain; within = M .all; short = M .short })
+    subst (Rest b) (sym e) (record { high = U .walkable .usedHead; rest = recordsFrom b (word b 1); chain = M .chain; within = M .within; short = M .short })
 
--- the record, the tuple and the chain at a record that is not the end
-pub record Further (b : List ℕ) (at n : ℕ) : Type 0 where
-  pub records : recordsFrom b at ≡ at ∷ recordsFrom b n
-  pub on : OnChain b n
+-- the records from a record on are what is left to walk
+records-rest : (b : List ℕ) (at : ℕ) (R : Rest b at) → recordsFrom b at ≡ R .rest
+unfolding recordsFrom orNothing
+records-rest b at R = ap orNothing (walk-meets b at R)
 
-pub further : (b : List ℕ) (at n : ℕ) → Walkable b → OnChain b at → at ≢ 0 → n ≡ next b at → Further b at n
-unfolding recordsFrom
-further b at n w O at≢ e = go (recordsFrom b at) refl (O .chain) (O .within) (O .short)
-  where
-    start-high : (i : ℕ) (is : List ℕ) → Chain (next b) i is → allWithin (capacityOf b) is ≡ true → i ≤ capacityOf b
-    start-high i [] c t = omega (arith, c)
-    start-high i (j ∷ js) c t = omega (arith, c .1, leb-true j (capacityOf b) (and-left (leb j (capacityOf b)) (allWithin (capacityOf b) js) (unfold allWithin in t)))
+-- one record on
+records-next : (b : List ℕ) (at n : ℕ) (R : Rest b at) → at ≢ 0 → n ≡ next b at → recordsFrom b at ≡ at ∷ recordsFrom b n
+records-next b at n R at≢ e =
+    let S = step b at R at≢ in
+    records-rest b at R
+    ∙ S .split
+    ∙ ap (λ (is : List ℕ). at ∷ is) (sym (records-rest b (next b at) (S .after)) ∙ ap (recordsFrom b) (sym e))
 
-    go : (is : List ℕ) → recordsFrom b at ≡ is → Chain (next b) at is → allWithin (capacityOf b) is ≡ true → length is ≤ capacityOf b → Further b at n
-    go [] f c t s = absurd (at≢ c)
-    go (j ∷ js) f c t s =
-        let rest : recordsFrom b (next b at) ≡ js
-        = unfold recordsFrom orNothing in ap orNothing (chain-walk (next b) (capacityOf b) (next b at) js (c .2) (omega arith)) in
-        let rest′ : recordsFrom b n ≡ js = ap (recordsFrom b) e ∙ rest in
-        let all : allWithin (capacityOf b) js ≡ true = and-right (leb j (capacityOf b)) (allWithin (capacityOf b) js) (unfold allWithin in t) in
-        record {
-          records = f ∙ ap₂ _∷_ (c .1) (sym rest′);
-          on =
-              record {
-                high = subst (λ (i : ℕ). i ≤ capacityOf b) (sym e) (start-high (next b at) js (c .2) all);
-                chain =
-                    subst (λ (i : ℕ). Chain (next b) i (recordsFrom b n)) (sym e)
-                    (subst (Chain (next b) (next b at)) (sym rest′) (c .2));
-                within = ap (allWithin (capacityOf b)) rest′ ∙ all;
-                short = omega (arith, ap length rest′);
-              };
-        }
-
-module _ (b : List ℕ) (at n : ℕ) (w : Walkable b) (O : OnChain b at) (at≢ : at ≢ 0) (e : n ≡ next b at) where
-  pub on-next : OnChain b n
-  on-next = further b at n w O at≢ e .on
+module _ (b : List ℕ) (at n : ℕ) (w : Walkable b) (O : Rest b at) (at≢ : at ≢ 0) (e : n ≡ next b at) where
+  pub on-next : Rest b n
+  on-next = subst (Rest b) (sym e) (step b at O at≢ .after)
 
   pub tuples-next : tuplesFrom b at ≡ tupleAt b at ∷ tuplesFrom b n
   unfolding tuplesFrom
-  tuples-next = ap (map (tupleAt b)) (further b at n w O at≢ e .records)
+  tuples-next = ap (map (tupleAt b)) (records-next b at n O at≢ e)
 
   pub fewer : length (recordsFrom b n) < length (recordsFrom b at)
-  fewer = omega (arith, ap length (further b at n w O at≢ e .records))
+  fewer = omega (arith, ap length (records-next b at n O at≢ e))
 
 pub tuples-none : (b : List ℕ) (at : ℕ) → at ≡ 0 → tuplesFrom b at ≡ []
 unfolding tuplesFrom recordsFrom orNothing
@@ -104,7 +85,7 @@ present-cons k b i ts = refl
 
 -- what is left of it at a record
 pub record EveryLeft (p : Key → Bool) (b : List ℕ) (at : ℕ) : Type 0 where
-  pub on : OnChain b at
+  pub on : Rest b at
   pub left : everyKey p (tuplesOf b) ≡ everyKey p (tuplesFrom b at)
   pub among : (k : Key) → present k (tuplesFrom b at) ≡ true → present k (tuplesOf b) ≡ true
 
@@ -212,7 +193,7 @@ module _ (b : List ℕ) (k : Key) where
   seek-start from S = record { seekable = S; left = refl }
 
   module _ (from at : ℕ) (S : Seeking b k from at) where
-    seek-on : OnChain b at
+    seek-on : Rest b at
     seek-on = S .seekable .on
 
     seek-w : Walkable b

@@ -14,7 +14,7 @@ use Rattle.model.specs.Tuples.{Tuples, present}
 use Rattle.layouts.specs.Buffer.{word, leastLength, mostLength, capacityOf, next, keyAt, tupleAt, walk, orNothing, usedChain, tuplesOf}
 use Rattle.model.specs.Numbers.{everyUpTo}
 use Rattle.model.specs.Rules.{ascendsFromUniverse, smallKey, noEdgeWithoutNode, edgeHasEnd, nodeSupported, edgeSupported, everyKey}
-use Rattle.layouts.specs.Chains.{Chain}
+use Rattle.layouts.specs.Chains.{Rest}
 use Rattle.presence.specs.declared.ends.Found.{Found}
 
 -- ---- a chain that ends
@@ -51,13 +51,6 @@ recordsFrom b i = orNothing (walk (next b) (capacityOf b) i)
 unfoldable pub tuplesFrom : List ℕ → ℕ → Tuples
 tuplesFrom b i = map (tupleAt b) (recordsFrom b i)
 
--- a record from which the chain ends, or 0
-pub record OnChain (b : List ℕ) (i : ℕ) : Type 0 where
-  pub high : i ≤ capacityOf b
-  pub chain : Chain (next b) i (recordsFrom b i)
-  pub within : allWithin (capacityOf b) (recordsFrom b i) ≡ true
-  pub short : length (recordsFrom b i) ≤ capacityOf b
-
 -- ---- keys
 
 -- "n = 0 makes g and m 0; g is 0 exactly when m is"
@@ -73,7 +66,7 @@ goodKey k = smallKey k && shapedKey k
 -- a record from which the chain ends and its keys ascend
 pub record Seekable (b : List ℕ) (i : ℕ) : Type 0 where
   pub walkable : Walkable b
-  pub on : OnChain b i
+  pub on : Rest b i
   pub ascends : Ascending keyOf compareKeys (tuplesFrom b i)
 
 -- does record i have the key; record 0, the chain's end, has none

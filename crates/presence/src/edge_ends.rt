@@ -30,12 +30,12 @@ pub fn edges_ended(b: &[u32]) -> bool
     ensures { λ r. ⌜ r ≡ everyKey (endsPresent (tuplesOf (now (b .entry)))) (tuplesOf (now (b .entry))) ⌝ }
 {
     let mut space = words::head_word(b, 1);
-    let mut at = words::next_of(b, space);
+    let mut at = chain::next_of(b, space);
     'tuples: while at != 0 {
         let k = words::key_of(b, at);
         space = space_start(b, space, at);
         if k.g == 0 {
-            at = words::next_of(b, at);
+            at = chain::next_of(b, at);
             continue;
         }
         if !holds_from(b, space, node_key(k.s, k.n)) {
@@ -47,9 +47,9 @@ pub fn edges_ended(b: &[u32]) -> bool
             if !is_before(b, seek, end) {
                 break 'tuples;
             }
-            seek = words::next_of(b, seek);
+            seek = chain::next_of(b, seek);
         }
-        at = words::next_of(b, at);
+        at = chain::next_of(b, at);
     }
     at == 0
 }

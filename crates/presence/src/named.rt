@@ -68,7 +68,7 @@ pub fn all_named(b: &[u32]) -> bool
         if !named_present(b, words::key_of(b, at)) {
             return false;
         }
-        at = words::next_of(b, at);
+        at = chain::next_of(b, at);
     }
     true
 }

@@ -36,7 +36,7 @@ pub fn holds_from(b: &[u32], from: usize, k: Key) -> bool
 {
     let mut at = from;
     while is_before(b, at, k) {
-        at = words::next_of(b, at);
+        at = chain::next_of(b, at);
     }
     is_at(b, at, k)
 }

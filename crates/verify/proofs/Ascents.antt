@@ -10,11 +10,12 @@ use Rattle.model.specs.Keys.{keyOf, spaceKey, compareKeys, sameKey}
 use Rattle.model.specs.Tuples.{Tuples}
 use Rattle.layouts.specs.Buffer.{word, next, keyAt, tupleAt, tuplesOf}
 use Rattle.model.specs.Rules.{ascendsFromUniverse}
-use Rattle.presence.specs.Presence.{UsedEnds, tuplesFrom, OnChain}
+use Rattle.layouts.specs.Chains.{Rest}
+use Rattle.presence.specs.Presence.{UsedEnds, tuplesFrom}
 use Rattle.presence.proofs.Rest.{used-from-head, on-head, on-next, tuples-next, tuples-none}
 
 pub record AscendsLeft (b : List ℕ) (k : Key) (at : ℕ) : Type 0 where
-  pub on : OnChain b at
+  pub on : Rest b at
   pub left : ascendsFromUniverse (tuplesOf b) ≡ ascendsFrom keyOf compareKeys k (tuplesFrom b at)
 
 universe-cons : (b : List ℕ) (i : ℕ) (ts : Tuples)

@@ -10,10 +10,10 @@ use lib.ListN.{length, length-append}
 use borrow.Author.Tests.{eqb-true, eqb-false, eq-eqb, ne-eqb}
 use Rattle.layouts.specs.Buffer.{oneIf, count}
 use Rattle.model.specs.Numbers.{everyUpTo}
-use Rattle.layouts.specs.Chains.{Chain}
+use Rattle.layouts.specs.Chains.{Chain, Within}
 use Rattle.model.proofs.Bools.{and-left, and-right, and-both, not-yes, no-not, equal}
 use Rattle.model.proofs.Numbers.{every-up-to, up-to-every}
-use Rattle.layouts.proofs.Chains.{Within, within-append, chain-unique, count-append, hit, miss, total, total-length, once-length}
+use Rattle.layouts.proofs.Chains.{within-append, chain-unique, count-append, hit, miss, total, total-length, once-length}
 
 -- ---- the last record
 

@@ -10,9 +10,9 @@ use lib.Dec.{eqb, leb, ltb}
 use lib.ListN.{length}
 use borrow.Author.Tests.{eqb-true, eqb-false, eq-eqb, ne-eqb, le-leb, lt-leb, leb-true, ltb-true, ltb-false, lt-ltb, le-ltb}
 use Rattle.layouts.specs.Buffer.{word, capacityOf, next, walk, ends, orNothing, usedChain, freeChain, usedOf, freeOf, count}
-use Rattle.layouts.specs.Chains.{Chain}
+use Rattle.layouts.specs.Chains.{Chain, Within}
 use Rattle.model.proofs.Bools.{and-left, and-right, and-both}
-use Rattle.layouts.proofs.Chains.{Within, walk-chain, chain-within, count-append, miss}
+use Rattle.layouts.proofs.Chains.{walk-chain, chain-within, count-append, miss}
 use Rattle.model.proofs.Numbers.{every-up-to, up-to-every}
 use Rattle.verify.specs.declared.chains.Walk.{Walk}
 use Rattle.verify.specs.declared.chains.Walked.{Walked}

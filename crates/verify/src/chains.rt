@@ -69,7 +69,7 @@ pub fn step(b: &[u32], c: usize, w: Walk) -> Walk
         return w;
     }
     Walk {
-        at: words::next_of(b, w.at),
+        at: chain::next_of(b, w.at),
         left: w.left - 1,
         last: w.at,
     }
@@ -87,7 +87,7 @@ fn in_run(b: &[u32], c: usize, at: usize) -> bool
         return false;
     }
     let after = at + 1;
-    words::next_of(b, at) == after
+    chain::next_of(b, at) == after
 }
 
 // Walks on as far as each next is the record after, as in a fresh store: there no read waits for the one before it.
@@ -129,7 +129,7 @@ fn finish(b: &[u32], w: Walk) -> Walked
             b,
             c,
             Walk {
-                at: words::next_of(b, at),
+                at: chain::next_of(b, at),
                 left: left - 1,
                 last: at,
             },

@@ -163,13 +163,13 @@ pub fn walk_used(b: &[u32], marks: &mut [u32], list: &mut [u16]) -> Used
     };
     let mut left = c - 1;
     let mut last = words::head_word(b, 1);
-    let mut at = words::next_of(b, last);
+    let mut at = chain::next_of(b, last);
     while at != 0 {
         if !may_meet(c, left, at) {
             return stopped();
         }
         let k = words::key_of(b, at);
-        let after = words::next_of(b, at);
+        let after = chain::next_of(b, at);
         let key = words::key_of(b, last);
         if !key_follows(key, k) {
             return stopped();

@@ -12,7 +12,7 @@ use Rattle.entries.proofs.outside_pairs.Reads as outside-pairs-reads
 use Rattle.entries.proofs.second_pair_code.Reads as second-pair-code-reads
 use Rattle.entries.proofs.touches.Reads as touches-reads
 use Rattle.words.proofs.key_of.Reads as key-of-reads
-use Rattle.words.proofs.next_of.Reads as next-of-reads
+use Rattle.chain.proofs.next_of.Reads as next-of-reads
 
 abbrev Inv-loop : tie.InvT-loop
 Inv-loop b from q seen best₀ at₀ best at = Nearing b (Pairs q) seen best at

@@ -13,7 +13,7 @@ use Rattle.presence.proofs.edge_ends.edges_ended.Reads as reads
 use Rattle.presence.proofs.edge_ends.edges_ended.Lts as lts
 use Rattle.words.proofs.head_word.Reads as head-word-reads
 use Rattle.words.proofs.key_of.Reads as key-of-reads
-use Rattle.words.proofs.next_of.Reads as next-of-reads
+use Rattle.chain.proofs.next_of.Reads as next-of-reads
 use Rattle.presence.proofs.edge_ends.space_start.Reads as space-start-reads
 use Rattle.words.proofs.node_key.Reads as node-key-reads
 use Rattle.presence.proofs.seek.holds_from.Reads as holds-from-reads

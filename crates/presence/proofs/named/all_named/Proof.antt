@@ -11,7 +11,7 @@ use Rattle.presence.proofs.named.all_named.Reads as reads
 use Rattle.presence.proofs.named.all_named.Lts as lts
 use Rattle.words.proofs.head_word.Reads as head-word-reads
 use Rattle.words.proofs.key_of.Reads as key-of-reads
-use Rattle.words.proofs.next_of.Reads as next-of-reads
+use Rattle.chain.proofs.next_of.Reads as next-of-reads
 use Rattle.presence.proofs.named.named_present.Reads as named-present-reads
 
 abbrev Inv-loop : tie.InvT-loop

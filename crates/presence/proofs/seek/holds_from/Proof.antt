@@ -6,7 +6,7 @@ use Rattle.presence.proofs.seek.holds_from.Statement.{statement}
 use Rattle.presence.proofs.seek.holds_from.Tie as tie
 use Rattle.presence.proofs.seek.holds_from.Reads as reads
 use Rattle.presence.proofs.seek.holds_from.Lts as lts
-use Rattle.words.proofs.next_of.Reads as next-of-reads
+use Rattle.chain.proofs.next_of.Reads as next-of-reads
 use Rattle.presence.proofs.seek.is_at.Reads as is-at-reads
 use Rattle.presence.proofs.seek.is_before.Reads as is-before-reads
 

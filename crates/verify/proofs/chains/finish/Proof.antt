@@ -10,7 +10,7 @@ use Rattle.verify.proofs.chains.finish.Statement.{statement}
 use Rattle.verify.proofs.chains.finish.Tie as tie
 use Rattle.verify.proofs.chains.finish.Reads as reads
 use Rattle.verify.proofs.chains.finish.Lts as lts
-use Rattle.words.proofs.next_of.Reads as next-of-reads
+use Rattle.chain.proofs.next_of.Reads as next-of-reads
 use Rattle.verify.proofs.chains.along_run.Reads as along-run-reads
 use Rattle.verify.proofs.chains.given_up.Reads as given-up-reads
 use Rattle.words.proofs.capacity.Reads as capacity-reads

@@ -7,7 +7,7 @@ use Rattle.verify.proofs.chains.in_run.Statement.{statement}
 use Rattle.verify.proofs.chains.in_run.Tie as tie
 use Rattle.verify.proofs.chains.in_run.Reads as reads
 use Rattle.verify.proofs.chains.in_run.Lts as lts
-use Rattle.words.proofs.next_of.Reads as next-of-reads
+use Rattle.chain.proofs.next_of.Reads as next-of-reads
 
 -- src/chains.rt:86:9
 returns : tie.Need-returns

@@ -7,7 +7,7 @@ use Rattle.verify.proofs.chains.step.Statement.{statement}
 use Rattle.verify.proofs.chains.step.Tie as tie
 use Rattle.verify.proofs.chains.step.Reads as reads
 use Rattle.verify.proofs.chains.step.Lts as lts
-use Rattle.words.proofs.next_of.Reads as next-of-reads
+use Rattle.chain.proofs.next_of.Reads as next-of-reads
 
 returns : tie.Need-returns
 returns c = step-ended (c .before .before .before .args .b .now) (c .before .before .before .args .w) (c .if1 .taken)

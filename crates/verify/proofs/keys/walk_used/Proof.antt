@@ -17,7 +17,7 @@ use Rattle.verify.proofs.keys.walk_used.Reads as reads
 use Rattle.verify.proofs.keys.walk_used.Lts as lts
 use Rattle.words.proofs.head_word.Reads as head-word-reads
 use Rattle.words.proofs.key_of.Reads as key-of-reads
-use Rattle.words.proofs.next_of.Reads as next-of-reads
+use Rattle.chain.proofs.next_of.Reads as next-of-reads
 use Rattle.verify.proofs.chains.step.Reads as step-reads
 use Rattle.presence.proofs.ends.take.Reads as take-reads
 use Rattle.verify.proofs.keys.ended.Reads as ended-reads
