@@ -35,7 +35,7 @@ use Rattle.model.proofs.Entries.{Member, samePair, own-pair, listed-sound}
 use Rattle.model.proofs.Refusals.{reading}
 use Rattle.layouts.proofs.Store.{tuples-fit}
 use Rattle.edit.proofs.Built.{store-linked, store-tuples}
-use Rattle.entries.specs.Queries.{written, mostOf}
+use Rattle.entries.specs.Queries.{writtenPairs, mostOf}
 use Rattle.listings.specs.Lists.{queryOf}
 use Rattle.listings.proofs.Asked.{surely-not-short}
 use Rattle.refusals.proofs.Stops.{passes, nothing-left, all-pass}
@@ -132,8 +132,8 @@ module _ (C : ℕ) (ts : Tuples) (c : Call) (room : ℕ) (e : c .operator ≡ 40
 -- a call that lists and that nothing stops
 listed-known : (b l l′ : List ℕ) (c : Call) (k : ℕ) → isStore b ≡ true → selectsNothing c ≡ false → operatorOf (c .operator) ≡ Lists sin
     → refusalOf (capacityOf b) (tuplesOf b) c (length l) ≡ none → k ≡ length (listed sin (fieldsOf c) (tuplesOf b))
-    → l′ ≡ written (listed sin (fieldsOf c) (tuplesOf b)) l → OnStore stored b l c (Listed k) b l′
-unfolding machine outcomeOf reply answerOf listAfter writes written
+    → l′ ≡ writtenPairs (listed sin (fieldsOf c) (tuplesOf b)) l → OnStore stored b l c (Listed k) b l′
+unfolding machine outcomeOf reply answerOf listAfter writes writtenPairs
 listed-known b l l′ c k store N O pass K L =
     let ts : Tuples = tuplesOf b in
     let ps : List Pair = listed sin (fieldsOf c) ts in
@@ -156,17 +156,17 @@ listed-known b l l′ c k store N O pass K L =
 -- entries that were listed at once are the call's
 pub at-once-known : (b l l′ : List ℕ) (c : Call) (f : Fields) (k : ℕ) (t : Bool) → isStore b ≡ true → first (ofCall c) ≡ none → t ≡ selectsNothing c → t ≡ false
     → f ≡ fieldsOf c → k ≡ length (listedAtOnce (c .operator) f (tuplesOf b) (length l)) → k ≢ 0
-    → l′ ≡ written (listedAtOnce (c .operator) f (tuplesOf b) (length l)) l → OnStore stored b l c (Listed k) b l′
+    → l′ ≡ writtenPairs (listedAtOnce (c .operator) f (tuplesOf b) (length l)) l → OnStore stored b l c (Listed k) b l′
 unfolding listedAtOnce atOnce
 at-once-known b l l′ c f k t store p S s F K h L =
     go (atOnce (c .operator) (fieldsOf c) (length (tuplesOf b)) (length l)) refl (K ∙ ap (λ (x : Fields). length (entries x)) F)
-    (L ∙ ap (λ (x : Fields). written (entries x) l) F)
+    (L ∙ ap (λ (x : Fields). writtenPairs (entries x) l) F)
   where
     entries : Fields → List Pair
     entries x = listedAtOnce (c .operator) x (tuplesOf b) (length l)
 
     go : (u : Bool) → atOnce (c .operator) (fieldsOf c) (length (tuplesOf b)) (length l) ≡ u → k ≡ length (cond u (listed sin (fieldsOf c) (tuplesOf b)) [])
-        → l′ ≡ written (cond u (listed sin (fieldsOf c) (tuplesOf b)) []) l → OnStore stored b l c (Listed k) b l′
+        → l′ ≡ writtenPairs (cond u (listed sin (fieldsOf c) (tuplesOf b)) []) l → OnStore stored b l c (Listed k) b l′
     go false e K L = absurd (h K)
     go true e K L =
         let ts : Tuples = tuplesOf b in
@@ -179,8 +179,8 @@ at-once-known b l l′ c f k t store p S s F K h L =
         listed-known b l l′ c k store N (sin-operator c E) (all-pass (capacityOf b) ts c (length l) 0 p N none-does refl) K L
 
 -- where there is none, the list is as it was ..
-pub none-listed : (ps : List Pair) (l l′ : List ℕ) (k : ℕ) → k ≡ length ps → k ≡ 0 → l′ ≡ written ps l → l′ ≡ l
-unfolding written
+pub none-listed : (ps : List Pair) (l l′ : List ℕ) (k : ℕ) → k ≡ length ps → k ≡ 0 → l′ ≡ writtenPairs ps l → l′ ≡ l
+unfolding writtenPairs
 none-listed [] l l′ k K z L = L
 none-listed (p ∷ ps) l l′ k K z L = absurd (omega (arith, K))
 
@@ -205,9 +205,9 @@ module _ (b l : List ℕ) (number : ℕ) (f : Fields) where
   pub other-count : number ≢ 40 → 0 ≡ length entries
   other-count h = sym (ap (λ (ps : List Pair). length ps) (other-number h))
 
-  pub other-list : number ≢ 40 → l ≡ written entries l
-  unfolding written
-  other-list h = sym (ap (λ (ps : List Pair). written ps l) (other-number h))
+  pub other-list : number ≢ 40 → l ≡ writtenPairs entries l
+  unfolding writtenPairs
+  other-list h = sym (ap (λ (ps : List Pair). writtenPairs ps l) (other-number h))
 
   module _ (t : Bool) (T : t ≡ leb (mostOf (queryOf sin f) (length (tuplesOf b))) (length l)) where
     no-room : not t ≡ true → entries ≡ []
@@ -217,9 +217,9 @@ module _ (b l : List ℕ) (number : ℕ) (f : Fields) where
     pub roomless-count : not t ≡ true → 0 ≡ length entries
     roomless-count e = sym (ap (λ (ps : List Pair). length ps) (no-room e))
 
-    pub roomless-list : not t ≡ true → l ≡ written entries l
-    unfolding written
-    roomless-list e = sym (ap (λ (ps : List Pair). written ps l) (no-room e))
+    pub roomless-list : not t ≡ true → l ≡ writtenPairs entries l
+    unfolding writtenPairs
+    roomless-list e = sym (ap (λ (ps : List Pair). writtenPairs ps l) (no-room e))
 
     -- what writing the entries requires
     pub room-enough : not t ≡ false → length (listed sin f (tuplesOf b)) ≤ length l
@@ -233,5 +233,5 @@ module _ (b l : List ℕ) (number : ℕ) (f : Fields) where
     pub all-count : (k : ℕ) → number ≡ 40 → not t ≡ false → k ≡ length (listed sin f (tuplesOf b)) → k ≡ length entries
     all-count k E e K = K ∙ ap (λ (ps : List Pair). length ps) (all-of E e)
 
-    pub all-list : (l′ : List ℕ) → number ≡ 40 → not t ≡ false → l′ ≡ written (listed sin f (tuplesOf b)) l → l′ ≡ written entries l
-    all-list l′ E e L = L ∙ ap (λ (ps : List Pair). written ps l) (all-of E e)
+    pub all-list : (l′ : List ℕ) → number ≡ 40 → not t ≡ false → l′ ≡ writtenPairs (listed sin f (tuplesOf b)) l → l′ ≡ writtenPairs entries l
+    all-list l′ E e L = L ∙ ap (λ (ps : List Pair). writtenPairs ps l) (all-of E e)

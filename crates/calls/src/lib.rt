@@ -15,7 +15,7 @@ ghost use Rattle.model.specs.Refusals.{selectsNothing, first, ofCall};
 ghost use Rattle.model.specs.Machine.{FieldsFit};
 ghost use Rattle.model.specs.OneCall.{OnStore, OneCall};
 ghost use Rattle.layouts.specs.Stored.{stored};
-ghost use Rattle.entries.specs.Queries.{written};
+ghost use Rattle.entries.specs.Queries.{writtenPairs};
 ghost use Rattle.calls.specs.AtOnce.{listedAtOnce};
 
 // SIN, whose entries each show that its node is there.
@@ -26,7 +26,7 @@ const SIN: u32 = 40;
 fn list_at_once(b: &[u32], number: u32, f: Fields, list: &mut [u32]) -> usize
     requires { ⌜ stored .isStore (now b) ≡ true ⌝ }
     ensures { λ r. ⌜ r ≡ length (listedAtOnce number f (stored .stateOf (now (b .entry))) (length (now (list .entry)))) ⌝ }
-    ensures list { λ _. ⌜ now (list .exit) ≡ written (listedAtOnce number f (stored .stateOf (now (b .entry))) (length (now (list .entry)))) (now (list .entry)) ⌝ }
+    ensures list { λ _. ⌜ now (list .exit) ≡ writtenPairs (listedAtOnce number f (stored .stateOf (now (b .entry))) (length (now (list .entry)))) (now (list .entry)) ⌝ }
 {
     if number != SIN {
         return 0;

@@ -19,7 +19,7 @@ use Rattle.model.specs.Tuples.{Tuples}
 use Rattle.words.specs.Words.{Inside}
 use Rattle.chain.proofs.Walks.{Rest, remaining, Step, step, falls}
 use Rattle.entries.specs.declared.Query.{Query}
-use Rattle.entries.specs.Queries.{firstAt, secondAt, queried, code, headCode, codes, rising, Readable, startIn, inOrder, written}
+use Rattle.entries.specs.Queries.{firstAt, secondAt, queried, code, headCode, codes, rising, Readable, startIn, entriesInOrder, writtenPairs}
 use Rattle.entries.proofs.Bounds.{Silent, Onward, onward-next, started}
 use Rattle.entries.proofs.Members.{among, sameNumber, own-number, decoded}
 use Rattle.entries.proofs.Sorted.{small-member, queried-small, rising-is}
@@ -48,7 +48,7 @@ pub record Rising (b : List ℕ) (q : Query) (done seen at : ℕ) : Type 0 where
   pub split : listCodes b q ≡ front ++ rising seen (codes q (map (tupleAt b) (walked .rest)))
   pub count : done ≡ length front
 
-module _ (b : List ℕ) (q : Query) (R : Readable b) (o : inOrder q ≡ true) where
+module _ (b : List ℕ) (q : Query) (R : Readable b) (o : entriesInOrder q ≡ true) where
   pub rise-start : (at : ℕ) → at ≡ startIn b q → Rising b q 0 0 at
   rise-start at e =
       let S = started b q (R .linked) at e in
@@ -171,16 +171,16 @@ module _ (b : List ℕ) (q : Query) (R : Readable b) (o : inOrder q ≡ true) wh
 
 -- ---- writing
 
-pub record Filling (b : List ℕ) (q : Query) (l₀ l : List ℕ) (done seen at : ℕ) : Type 0 where
+pub record FillingList (b : List ℕ) (q : Query) (l₀ l : List ℕ) (done seen at : ℕ) : Type 0 where
   pub rises : Rising b q done seen at
   pub places : l ≡ map strip (rises .front) ++ drop done l₀
 
-module _ (b : List ℕ) (q : Query) (R : Readable b) (o : inOrder q ≡ true) (l₀ : List ℕ) (room : length (queried q (tuplesOf b)) ≤ length l₀) where
-  pub fill-start : (at : ℕ) → at ≡ startIn b q → Filling b q l₀ l₀ 0 0 at
+module _ (b : List ℕ) (q : Query) (R : Readable b) (o : entriesInOrder q ≡ true) (l₀ : List ℕ) (room : length (queried q (tuplesOf b)) ≤ length l₀) where
+  pub fill-start : (at : ℕ) → at ≡ startIn b q → FillingList b q l₀ l₀ 0 0 at
   unfolding rise-start
   fill-start at e = record { rises = rise-start b q R o at e; places = refl }
 
-  module _ (l : List ℕ) (done seen at : ℕ) (W : Filling b q l₀ l done seen at) where
+  module _ (l : List ℕ) (done seen at : ℕ) (W : FillingList b q l₀ l done seen at) where
     pub fill-length : length l ≡ length l₀
     fill-length =
         ap length (W .places)
@@ -196,23 +196,23 @@ module _ (b : List ℕ) (q : Query) (R : Readable b) (o : inOrder q ≡ true) (l
         )
 
     pub fill-skip : at ≢ 0 → (k : Key) (e after : ℕ) → k ≡ keyAt b at → e ≡ headCode (firstAt q k) → e ≤ seen → after ≡ next b at
-        → Filling b q l₀ l done seen after
+        → FillingList b q l₀ l done seen after
     unfolding skip-one
     fill-skip h k e after ek ee le ea =
-        subst (Filling b q l₀ l done seen) (sym ea)
+        subst (FillingList b q l₀ l done seen) (sym ea)
         (record { rises = skip-one b q R o done seen at (W .rises) h k e ek ee le; places = W .places })
 
     module _ (h : at ≢ 0) (k : Key) (e : ℕ) (ek : k ≡ keyAt b at) (ee : e ≡ headCode (firstAt q k)) (lt : seen < e) where
       pub fill-index : done < length l
       fill-index = omega (arith, rise-room b q R o done seen at (W .rises) h k e ek ee lt, fill-length)
 
-      pub fill-on : (more after : ℕ) (l′ : List ℕ) → more ≡ done + 1 → after ≡ next b at → l′ ≡ set l done (e - 1) → Filling b q l₀ l′ more e after
+      pub fill-on : (more after : ℕ) (l′ : List ℕ) → more ≡ done + 1 → after ≡ next b at → l′ ≡ set l done (e - 1) → FillingList b q l₀ l′ more e after
       unfolding take-one
       fill-on more after l′ em ea el =
           let D : List ℕ = map strip (W .rises .front) in
           let here : length D ≡ done = length-map (W .rises .front) strip ∙ sym (W .rises .count) in
           let less : done < length l₀ = omega (arith, fill-index, fill-length) in
-          subst (Filling b q l₀ l′ more e) (sym ea)
+          subst (FillingList b q l₀ l′ more e) (sym ea)
           (record {
             rises = take-one b q R o done seen at (W .rises) h k e ek ee lt more em;
             places =
@@ -223,8 +223,8 @@ module _ (b : List ℕ) (q : Query) (R : Readable b) (o : inOrder q ≡ true) (l
                 ∙ ap₂ _++_ (sym (map-snoc (W .rises .front) e)) (ap (λ (n : ℕ). drop n l₀) (sym (em ∙ add-one done)));
           })
 
-    pub fill-end : Silent q (map (tupleAt b) (W .rises .walked .rest)) → l ≡ written (queried q (tuplesOf b)) l₀
-    unfolding written
+    pub fill-end : Silent q (map (tupleAt b) (W .rises .walked .rest)) → l ≡ writtenPairs (queried q (tuplesOf b)) l₀
+    unfolding writtenPairs
     fill-end none =
         W .places
         ∙ ap₂ (λ (xs : List ℕ) (n : ℕ). map strip xs ++ drop n l₀) (sym (all-done b q R o done seen at (W .rises) none)) (rise-end b q R o done seen at (W .rises) none)

@@ -28,7 +28,7 @@ use Rattle.chain.proofs.Found.{headOf, NotBelow, at-place}
 use Rattle.entries.specs.declared.PairQuery.{PairQuery}
 use Rattle.entries.specs.declared.Query.{Query}
 use Rattle.entries.specs.declared.Query.the-variants.{Pairs, Nodes, Spaces, SpacesOf}
-use Rattle.entries.specs.Queries.{chosen, firstPairs, secondPairs, firstAt, secondAt, headCode, pairsStart, startKey, startIn, pairsOutside, outside, ends}
+use Rattle.entries.specs.Queries.{chosen, firstPairs, secondPairs, firstAt, secondAt, headCode, pairsStart, startKey, startIn, pairsOutside, outside, endsAt}
 use Rattle.entries.proofs.Orders.{then-lt, spaces-order, nodes-order}
 
 -- ---- records that give no entry
@@ -64,9 +64,9 @@ outside-silent Spaces k o = absurd (false≢true o)
 outside-silent (SpacesOf n) k o = absurd (false≢true o)
 
 -- nor does an edge that the node is no end of
-module _ (q : PairQuery) (k : Key) (t : Bool) (et : t ≡ ends (q .n) k) (no′ : not t ≡ true) where
+module _ (q : PairQuery) (k : Key) (t : Bool) (et : t ≡ endsAt (q .n) k) (no′ : not t ≡ true) where
   neither : (eqb (k .n) (q .n) || eqb (k .m) (q .n)) ≡ false
-  unfolding ends
+  unfolding endsAt
   neither = sym et ∙ not-yes t no′
 
   pub apart-silent : (headCode (firstAt (Pairs q) k) ≡ 0) × (headCode (secondAt (Pairs q) k) ≡ 0)

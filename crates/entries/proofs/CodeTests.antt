@@ -21,7 +21,7 @@ use Rattle.entries.specs.declared.Part.the-variants.{Both, Edge, Node}
 use Rattle.entries.specs.declared.PairQuery.{PairQuery}
 use Rattle.entries.specs.declared.Query.{Query}
 use Rattle.entries.specs.declared.Query.the-variants.{Pairs, Nodes, Spaces, SpacesOf}
-use Rattle.entries.specs.Queries.{partOf, chosen, firstPairs, secondPairs, firstAt, secondAt, code, headCode, pairsStart, startKey, startIn, pairsOutside, outside, ends, pairsInOrder, queried, written}
+use Rattle.entries.specs.Queries.{partOf, chosen, firstPairs, secondPairs, firstAt, secondAt, code, headCode, pairsStart, startKey, startIn, pairsOutside, outside, endsAt, pairsInOrder, queried, writtenPairs}
 
 pub packed : (edge node a b : ℕ) → a ≡ edge → b ≡ node → a * 65536 + b + 1 ≡ code (pair edge node)
 unfolding pack
@@ -219,18 +219,18 @@ module _ (b : List ℕ) (q x : Query) (e : q ≡ x) where
   pub room-of-case : (n : ℕ) → length (queried q (tuplesOf b)) ≤ n → length (queried x (tuplesOf b)) ≤ n
   room-of-case n h = subst (λ (y : Query). length (queried y (tuplesOf b)) ≤ n) e h
 
-  pub list-of-case : (l l₀ : List ℕ) → l ≡ written (queried x (tuplesOf b)) l₀ → l ≡ written (queried q (tuplesOf b)) l₀
-  list-of-case l l₀ h = h ∙ ap (λ (y : Query). written (queried y (tuplesOf b)) l₀) (sym e)
+  pub list-of-case : (l l₀ : List ℕ) → l ≡ writtenPairs (queried x (tuplesOf b)) l₀ → l ≡ writtenPairs (queried q (tuplesOf b)) l₀
+  list-of-case l l₀ h = h ∙ ap (λ (y : Query). writtenPairs (queried y (tuplesOf b)) l₀) (sym e)
 
 -- ---- the ends of an edge
 
 module _ (n : ℕ) (k : Key) where
-  pub ends-first : k .n ≡ n → true ≡ ends n k
-  unfolding ends
+  pub ends-first : k .n ≡ n → true ≡ endsAt n k
+  unfolding endsAt
   ends-first e = sym (ap (λ (t : Bool). t || eqb (k .m) n) (eq-eqb (k .n) n e))
 
-  pub ends-second : (k .n ≡ n → ⊥) → eqb (k .m) n ≡ ends n k
-  unfolding ends
+  pub ends-second : (k .n ≡ n → ⊥) → eqb (k .m) n ≡ endsAt n k
+  unfolding endsAt
   ends-second d = sym (ap (λ (t : Bool). t || eqb (k .m) n) (ne-eqb (k .n) n d))
 
 -- ---- where the entries of a query can be

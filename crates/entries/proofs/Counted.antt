@@ -17,7 +17,7 @@ use Rattle.layouts.specs.Buffer.{tupleAt, usedOf, freeOf, tuplesOf}
 use Rattle.layouts.proofs.Store.{chains-count, capacity-most}
 use Rattle.model.proofs.Counts.{length-ascending}
 use Rattle.entries.specs.declared.Query.{Query}
-use Rattle.entries.specs.Queries.{firstAt, secondAt, queried, code, codes, leastFrom, Readable, written}
+use Rattle.entries.specs.Queries.{firstAt, secondAt, queried, code, codes, leastFrom, Readable, writtenPairs}
 use Rattle.entries.proofs.Members.{entriesAt, Single, single-first, single-second, decoded, list-code}
 use Rattle.entries.proofs.Sorted.{small-member, queried-small, sorted-ascends}
 use Rattle.entries.proofs.Leasts.{above, atMost, headOr0, move, none-above, all-left, first-among, least-next}
@@ -207,8 +207,8 @@ module _ (b : List ℕ) (q : Query) (R : Readable b) (l₀ : List ℕ) (room : l
               (ap (λ (n : ℕ). drop n l₀) (sym (em ∙ add-one done)));
         }
 
-    pub write-end : e ≡ 0 → l ≡ written (queried q (tuplesOf b)) l₀
-    unfolding written
+    pub write-end : e ≡ 0 → l ≡ writtenPairs (queried q (tuplesOf b)) l₀
+    unfolding writtenPairs
     write-end z =
         W .places
         ∙ ap₂ (λ (xs : List ℕ) (n : ℕ). map strip xs ++ drop n l₀) (list-end b q R done seen e (W .listing) z) (count-end b q R done seen e (W .listing) z)

@@ -27,7 +27,7 @@ use Rattle.entries.specs.declared.Part.the-variants.{Both, Edge, Node}
 use Rattle.entries.specs.declared.PairQuery.{PairQuery}
 use Rattle.entries.specs.declared.Query.{Query}
 use Rattle.entries.specs.declared.Query.the-variants.{Pairs, Nodes, Spaces, SpacesOf}
-use Rattle.entries.specs.Queries.{partOf, chosen, firstPairs, secondPairs, firstAt, secondAt, code, headCode, codes, pairsInOrder, inOrder}
+use Rattle.entries.specs.Queries.{partOf, chosen, firstPairs, secondPairs, firstAt, secondAt, code, headCode, codes, pairsInOrder, entriesInOrder}
 use Rattle.entries.proofs.Sorted.{InOrder}
 
 -- ---- parts of keys in order
@@ -187,9 +187,9 @@ unfolding headCode
 one-code true p r e d = (refl, e)
 one-code false p r e d = absurd (d e)
 
-pub orderly : (q : Query) → inOrder q ≡ true → (k j : Key) → Small k → Small j → compareKeys k j ≡ Ordering·lt
+pub orderly : (q : Query) → entriesInOrder q ≡ true → (k j : Key) → Small k → Small j → compareKeys k j ≡ Ordering·lt
     → headCode (firstAt q k) ≢ 0 → headCode (firstAt q j) ≢ 0 → headCode (firstAt q k) ≤ headCode (firstAt q j)
-unfolding inOrder firstAt pack
+unfolding entriesInOrder firstAt pack
 orderly (Pairs q) o k j Sk Sj lt na nc = pairs-order q k j Sk Sj lt _ _ o refl refl na nc
 orderly (Nodes s) o k j Sk Sj lt na nc =
     let x = one-code (isNode k && eqb (k .s) s) (pair 0 (k .n)) _ refl na in
@@ -207,8 +207,8 @@ orderly (SpacesOf n) o k j Sk Sj lt na nc =
     omega (arith, x .1, y .1, spaces-order k j lt)
 
 -- a query in order gives no second entries
-pub no-second : (q : Query) → inOrder q ≡ true → (k : Key) → headCode (secondAt q k) ≡ 0
-unfolding inOrder pairsInOrder secondAt secondPairs chosen headCode
+pub no-second : (q : Query) → entriesInOrder q ≡ true → (k : Key) → headCode (secondAt q k) ≡ 0
+unfolding entriesInOrder pairsInOrder secondAt secondPairs chosen headCode
 no-second (Pairs q) o k = go (q .d) (q .part) o (eqb (k .s) (q .s))
   where
     go : (d : Direction) (part : Part) → pairsInOrder d part (q .g) (q .m) ≡ true → (t : Bool)
@@ -226,7 +226,7 @@ no-second (SpacesOf n) o k = refl
 
 -- ---- the whole chain
 
-module _ (q : Query) (o : inOrder q ≡ true) where
+module _ (q : Query) (o : entriesInOrder q ≡ true) where
   in-order-from : (seen : ℕ) (k₀ : Key) (ts : Tuples) → Small k₀ → ((k : Key) → Has k ts → Small k) → Above keyOf compareKeys k₀ ts
       → (seen ≡ 0) ⊎ ((seen ≢ 0) × (seen ≡ headCode (firstAt q k₀))) → InOrder seen (codes q ts)
   unfolding codes holds

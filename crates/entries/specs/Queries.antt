@@ -94,8 +94,8 @@ outside Spaces k = false
 outside (SpacesOf n) k = false
 
 -- is a node one of the two ends of an edge
-unfoldable pub ends : ℕ → Key → Bool
-ends n k = eqb (k .n) n || eqb (k .m) n
+unfoldable pub endsAt : ℕ → Key → Bool
+endsAt n k = eqb (k .n) n || eqb (k .m) n
 
 -- ---- codes
 
@@ -145,15 +145,15 @@ pairsInOrder Adjacent Both g m = false
 pairsInOrder Adjacent Edge g m = false
 pairsInOrder Adjacent Node g m = false
 
-unfoldable pub inOrder : Query → Bool
-inOrder (Pairs q) = pairsInOrder (q .d) (q .part) (q .g) (q .m)
-inOrder (Nodes s) = true
-inOrder Spaces = true
-inOrder (SpacesOf n) = true
+unfoldable pub entriesInOrder : Query → Bool
+entriesInOrder (Pairs q) = pairsInOrder (q .d) (q .part) (q .g) (q .m)
+entriesInOrder (Nodes s) = true
+entriesInOrder Spaces = true
+entriesInOrder (SpacesOf n) = true
 
 -- the answer list with the entries in its first places; "the rest stays"
-unfoldable pub written : List Pair → List ℕ → List ℕ
-written ps l = map pack ps ++ drop (length ps) l
+unfoldable pub writtenPairs : List Pair → List ℕ → List ℕ
+writtenPairs ps l = map pack ps ++ drop (length ps) l
 
 -- ---- how many entries there can be
 

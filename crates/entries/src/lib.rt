@@ -11,7 +11,7 @@ ghost use lib.ListN.{length};
 ghost use Prim.Native.Nat.{_≤_};
 ghost use Rattle.layouts.specs.Buffer.{tuplesOf};
 ghost use Rattle.chain.specs.Links.{Linked, Hint};
-ghost use Rattle.entries.specs.Queries.{chosen, firstAt, secondAt, queried, code, headCode, codes, nearer, leastFrom, Readable, pairsStart, startKey, startIn, outside, ends, pairsInOrder, inOrder, written, hasSecond, givesTwo, mostOf};
+ghost use Rattle.entries.specs.Queries.{chosen, firstAt, secondAt, queried, code, headCode, codes, nearer, leastFrom, Readable, pairsStart, startKey, startIn, outside, endsAt, pairsInOrder, entriesInOrder, writtenPairs, hasSecond, givesTwo, mostOf};
 ghost use lib.Dec.{leb};
 
 // What is listed of a pair.
@@ -128,7 +128,7 @@ fn second_pair_code(q: PairQuery, k: Key) -> u64
 
 // Is a node one of the two ends of an edge.
 fn touches(n: u32, k: Key) -> bool
-    ensures { λ r. ⌜ r ≡ ends n k ⌝ }
+    ensures { λ r. ⌜ r ≡ endsAt n k ⌝ }
 {
     if k.n == n {
         return true;
@@ -340,7 +340,7 @@ fn count_by_least(b: &[u32], from: usize, q: PairQuery) -> usize
 fn write_by_least(b: &[u32], from: usize, q: PairQuery, list: &mut [u32]) -> usize
     requires { ⌜ Readable (now b) × (from ≡ startIn (now b) (Query.Pairs q)) × (length (queried (Query.Pairs q) (tuplesOf (now b))) ≤ length (now list)) ⌝ }
     ensures { λ r. ⌜ r ≡ length (queried (Query.Pairs q) (tuplesOf (now (b .entry)))) ⌝ }
-    ensures list { λ _. ⌜ now (list .exit) ≡ written (queried (Query.Pairs q) (tuplesOf (now (b .entry)))) (now (list .entry)) ⌝ }
+    ensures list { λ _. ⌜ now (list .exit) ≡ writtenPairs (queried (Query.Pairs q) (tuplesOf (now (b .entry)))) (now (list .entry)) ⌝ }
 {
     let mut done = 0;
     let mut seen: u64 = 0;
@@ -356,7 +356,7 @@ fn write_by_least(b: &[u32], from: usize, q: PairQuery, list: &mut [u32]) -> usi
 
 // The number of entries that come in order, in one walk from the start.
 fn count_in_order(b: &[u32], from: usize, q: Query) -> usize
-    requires { ⌜ Readable (now b) × (from ≡ startIn (now b) q) × (inOrder q ≡ true) ⌝ }
+    requires { ⌜ Readable (now b) × (from ≡ startIn (now b) q) × (entriesInOrder q ≡ true) ⌝ }
     ensures { λ r. ⌜ r ≡ length (queried q (tuplesOf (now (b .entry)))) ⌝ }
 {
     let mut count = 0;
@@ -380,9 +380,9 @@ fn count_in_order(b: &[u32], from: usize, q: Query) -> usize
 
 // The entries that come in order, written to the first places in one walk from the start.
 fn write_in_order(b: &[u32], from: usize, q: Query, list: &mut [u32]) -> usize
-    requires { ⌜ Readable (now b) × (from ≡ startIn (now b) q) × (inOrder q ≡ true) × (length (queried q (tuplesOf (now b))) ≤ length (now list)) ⌝ }
+    requires { ⌜ Readable (now b) × (from ≡ startIn (now b) q) × (entriesInOrder q ≡ true) × (length (queried q (tuplesOf (now b))) ≤ length (now list)) ⌝ }
     ensures { λ r. ⌜ r ≡ length (queried q (tuplesOf (now (b .entry)))) ⌝ }
-    ensures list { λ _. ⌜ now (list .exit) ≡ written (queried q (tuplesOf (now (b .entry)))) (now (list .entry)) ⌝ }
+    ensures list { λ _. ⌜ now (list .exit) ≡ writtenPairs (queried q (tuplesOf (now (b .entry)))) (now (list .entry)) ⌝ }
 {
     let mut done = 0;
     let mut seen: u64 = 0;
@@ -440,7 +440,7 @@ fn count_pairs(b: &[u32], from: usize, q: PairQuery) -> usize
 fn write_pairs(b: &[u32], from: usize, q: PairQuery, list: &mut [u32]) -> usize
     requires { ⌜ Readable (now b) × (from ≡ startIn (now b) (Query.Pairs q)) × (length (queried (Query.Pairs q) (tuplesOf (now b))) ≤ length (now list)) ⌝ }
     ensures { λ r. ⌜ r ≡ length (queried (Query.Pairs q) (tuplesOf (now (b .entry)))) ⌝ }
-    ensures list { λ _. ⌜ now (list .exit) ≡ written (queried (Query.Pairs q) (tuplesOf (now (b .entry)))) (now (list .entry)) ⌝ }
+    ensures list { λ _. ⌜ now (list .exit) ≡ writtenPairs (queried (Query.Pairs q) (tuplesOf (now (b .entry)))) (now (list .entry)) ⌝ }
 {
     if pairs_in_order(q) {
         return write_in_order(b, from, Query::Pairs(q), list);
@@ -505,7 +505,7 @@ pub fn count_entries(b: &[u32], hint: usize, q: Query) -> usize
 pub fn write_entries(b: &[u32], hint: usize, q: Query, list: &mut [u32]) -> usize
     requires { ⌜ Readable (now b) × Hint (now b) hint × (length (queried q (tuplesOf (now b))) ≤ length (now list)) ⌝ }
     ensures { λ r. ⌜ r ≡ length (queried q (tuplesOf (now (b .entry)))) ⌝ }
-    ensures list { λ _. ⌜ now (list .exit) ≡ written (queried q (tuplesOf (now (b .entry)))) (now (list .entry)) ⌝ }
+    ensures list { λ _. ⌜ now (list .exit) ≡ writtenPairs (queried q (tuplesOf (now (b .entry)))) (now (list .entry)) ⌝ }
 {
     let from = first_record(b, hint, q);
     match q {

@@ -24,7 +24,7 @@ use Rattle.model.proofs.Demand1.{one-call-demand-1}
 use Rattle.run.specs.Runs.{Ran, RunDemand1, WholeRun}
 use Rattle.run.proofs.Demand.{ran-demand-1, ran-prepared}
 use Rattle.gaffdamson.specs.Numbers.{packed, packedPreparation, answerIn}
-use Rattle.gaffdamson.specs.Calls.{callOf, Called, preparationOf, PreparedAs}
+use Rattle.gaffdamson.specs.Calls.{callOfNumbers, Called, preparationOf, PreparedAs}
 use Rattle.gaffdamson.proofs.Apart.{answer-back}
 use Rattle.gaffdamson.proofs.gaffdamson_prepare.Kinds as prepare-kinds
 use Rattle.gaffdamson.proofs.gaffdamson_prepare.Reads as prepare-reads
@@ -47,7 +47,7 @@ pub data CalledFromC : List ℕ → CallMade → List ℕ → Type 0 where
       → reads.Learnt κs a r e
       → CalledFromC (a .0 .now)
       (record {
-        call = callOf (a .1 .0) (a .1 .1 .0) (a .1 .1 .1 .0) (a .1 .1 .1 .1 .0) (a .1 .1 .1 .1 .1 .0) (a .1 .1 .1 .1 .1 .1 .0) (a .1 .1 .1 .1 .1 .1 .1 .0);
+        call = callOfNumbers (a .1 .0) (a .1 .1 .0) (a .1 .1 .1 .0) (a .1 .1 .1 .1 .0) (a .1 .1 .1 .1 .1 .0) (a .1 .1 .1 .1 .1 .1 .0) (a .1 .1 .1 .1 .1 .1 .1 .0);
         lent = a .1 .1 .1 .1 .1 .1 .1 .1 .0 .now;
         answer = answerIn r;
         left = e .1 .1 .1 .1 .1 .1 .1 .1 .0 .now;

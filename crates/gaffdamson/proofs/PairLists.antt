@@ -23,7 +23,7 @@ use Rattle.model.proofs.CallLists.{MachineStep, whole-prepared}
 use Rattle.pairs.specs.InPairs.{CallInPairs, PairsMade, OneInPairs, exchangeInPairs}
 use Rattle.pairs.proofs.Lists.{pairs-machine, pairs-meet-demand-1}
 use Rattle.gaffdamson.specs.Numbers.{packedPreparation, answerIn}
-use Rattle.gaffdamson.specs.Calls.{callOf, CalledInPairs}
+use Rattle.gaffdamson.specs.Calls.{callOfNumbers, CalledInPairs}
 use Rattle.gaffdamson.proofs.Apart.{answer-back}
 use Rattle.gaffdamson.proofs.Lists.{PreparedFromC, c-prepared}
 use Rattle.gaffdamson.proofs.gaffdamson_call_pairs as call-pairs
@@ -43,7 +43,7 @@ pub data CalledInPairsFromC : List ℕ → PairsMade → List ℕ → Type 0 whe
       → Learnt κs a r e
       → CalledInPairsFromC (a .0 .now)
       (record {
-        call = callOf (a .1 .0) (a .1 .1 .0) (a .1 .1 .1 .0) (a .1 .1 .1 .1 .0) (a .1 .1 .1 .1 .1 .0) (a .1 .1 .1 .1 .1 .1 .0) (a .1 .1 .1 .1 .1 .1 .1 .0);
+        call = callOfNumbers (a .1 .0) (a .1 .1 .0) (a .1 .1 .1 .0) (a .1 .1 .1 .1 .0) (a .1 .1 .1 .1 .1 .0) (a .1 .1 .1 .1 .1 .1 .0) (a .1 .1 .1 .1 .1 .1 .1 .0);
         lent = a .1 .1 .1 .1 .1 .1 .1 .1 .0 .now;
         answer = answerIn r;
         left = e .1 .1 .1 .1 .1 .1 .1 .1 .0 .now;

@@ -16,21 +16,21 @@ use Rattle.model.specs.OneCall.{answerOf, OneCall}
 use Rattle.layouts.specs.Stored.{stored}
 use Rattle.fresh.specs.Prepare.{afterPreparing}
 use Rattle.pairs.specs.InPairs.{CallInPairs}
-use Rattle.run.specs.Words.{spaceOf}
+use Rattle.run.specs.Words.{spaceOfForm}
 use Rattle.gaffdamson.specs.Numbers.{PackedAs, packedPreparation}
 
 -- ---- one call
 
 -- the call with these fields; the space by its form (0: UNIVERSE, 2: nothing, any other number: the space numbered s), as in a run of calls
-unfoldable pub callOf : ℕ → ℕ → ℕ → ℕ → ℕ → ℕ → ℕ → Call
-callOf operator n g m v form s =
+unfoldable pub callOfNumbers : ℕ → ℕ → ℕ → ℕ → ℕ → ℕ → ℕ → Call
+callOfNumbers operator n g m v form s =
     record {
       operator = operator;
       n = record { 0 = n };
       g = record { 0 = g };
       m = record { 0 = m };
       v = v;
-      s = spaceOf form s;
+      s = spaceOfForm form s;
     }
 
 -- the answer of a call on any buffer: refusal 1 where it is no store, else the machine's

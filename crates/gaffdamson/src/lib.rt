@@ -12,7 +12,7 @@ ghost use Rattle.layouts.specs.Stored.{stored};
 ghost use Rattle.run.specs.Words.{bitOf};
 ghost use Rattle.run.specs.Runs.{Ran};
 ghost use Rattle.gaffdamson.specs.Numbers.{packed, PackedAs, packedPreparation};
-ghost use Rattle.gaffdamson.specs.Calls.{callOf, Called, CalledInPairs, PreparedAs};
+ghost use Rattle.gaffdamson.specs.Calls.{callOfNumbers, Called, CalledInPairs, PreparedAs};
 
 // A kind and what it carries, in one number.
 fn pack(kind: u32, number: u32) -> u64
@@ -41,7 +41,7 @@ fn pack_preparation(p: Preparation) -> u64
 
 // The call with these fields.
 fn call_of(operator: u32, n: u16, g: u16, m: u16, v: u32, form: u32, s: u16) -> Call
-    ensures { λ r. ⌜ r ≡ callOf operator n g m v form s ⌝ }
+    ensures { λ r. ⌜ r ≡ callOfNumbers operator n g m v form s ⌝ }
 {
     Call {
         operator,
@@ -83,7 +83,7 @@ pub extern "C" fn gaffdamson_call(
     s: u16,
     list: &mut [u32],
 ) -> u64
-    ensures { λ r. ⌜ Called (now (store .entry)) (now (list .entry)) (callOf operator n g m v form s) r (now (store .exit)) (now (list .exit)) ⌝ }
+    ensures { λ r. ⌜ Called (now (store .entry)) (now (list .entry)) (callOfNumbers operator n g m v form s) r (now (store .exit)) (now (list .exit)) ⌝ }
 {
     let call = call_of(operator, n, g, m, v, form, s);
     let answer = calls::execute(store, call, list);
@@ -103,7 +103,7 @@ pub extern "C" fn gaffdamson_call_pairs(
     s: u16,
     list: &mut [Pair],
 ) -> u64
-    ensures { λ r. ⌜ CalledInPairs (now (store .entry)) (now (list .entry)) (callOf operator n g m v form s) r (now (store .exit)) (now (list .exit)) ⌝ }
+    ensures { λ r. ⌜ CalledInPairs (now (store .entry)) (now (list .entry)) (callOfNumbers operator n g m v form s) r (now (store .exit)) (now (list .exit)) ⌝ }
 {
     let call = call_of(operator, n, g, m, v, form, s);
     let answer = pairs::execute_pairs(store, call, list);

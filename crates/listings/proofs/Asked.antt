@@ -25,7 +25,7 @@ use Rattle.entries.specs.declared.Part.the-variants.{Both, Edge, Node}
 use Rattle.entries.specs.declared.PairQuery.{PairQuery}
 use Rattle.entries.specs.declared.Query.{Query}
 use Rattle.entries.specs.declared.Query.the-variants.{Pairs, Nodes, Spaces, SpacesOf}
-use Rattle.entries.specs.Queries.{partOf, chosen, firstPairs, secondPairs, firstAt, secondAt, queried, written, mostOf}
+use Rattle.entries.specs.Queries.{partOf, chosen, firstPairs, secondPairs, firstAt, secondAt, queried, writtenPairs, mostOf}
 use Rattle.entries.proofs.Most.{queried-most}
 use Rattle.taken.specs.Selections.{passes}
 use Rattle.located.specs.declared.Near.{Near}
@@ -199,8 +199,8 @@ pub told-room : (l : Listing) (f : Fields) (q : Query) (ts : Tuples) (room : ℕ
 told-room l f q ts room h e = subst (λ (ps : List Pair). length ps ≤ room) (sym (told-listed l f q ts h e))
 
 pub told-written : (l : Listing) (f : Fields) (q : Query) (ts : Tuples) (list list′ : List ℕ) → NamesAsked l f → q ≡ queryOf l f
-    → list′ ≡ written (queried q ts) list → list′ ≡ written (listed l f ts) list
-told-written l f q ts list list′ h e W = W ∙ ap (λ (ps : List Pair). written ps list) (told-listed l f q ts h e)
+    → list′ ≡ writtenPairs (queried q ts) list → list′ ≡ writtenPairs (listed l f ts) list
+told-written l f q ts list list′ h e W = W ∙ ap (λ (ps : List Pair). writtenPairs ps list) (told-listed l f q ts h e)
 
 -- ---- what a function answers once it knows which operator it has
 

@@ -12,7 +12,7 @@ ghost use lib.ListN.{length};
 ghost use Prim.Native.Nat.{_≤_};
 ghost use Rattle.layouts.specs.Buffer.{tuplesOf};
 ghost use Rattle.model.specs.Steps.{listed};
-ghost use Rattle.entries.specs.Queries.{Readable, written, mostOf};
+ghost use Rattle.entries.specs.Queries.{Readable, writtenPairs, mostOf};
 ghost use Rattle.chain.specs.Links.{Linked};
 ghost use lib.Dec.{leb};
 ghost use Rattle.entries.specs.declared.Query.the-variants.{Pairs};
@@ -96,7 +96,7 @@ pub fn surely_fits(b: &[u32], l: Listing, f: Fields, room: usize) -> bool
 pub fn write_listed(b: &[u32], near: Near, l: Listing, f: Fields, list: &mut [u32]) -> usize
     requires { ⌜ Readable (now b) × NearIn (now b) near × NamesAsked l f × (length (listed l f (tuplesOf (now b))) ≤ length (now list)) ⌝ }
     ensures { λ r. ⌜ r ≡ length (listed l f (tuplesOf (now (b .entry)))) ⌝ }
-    ensures list { λ _. ⌜ now (list .exit) ≡ written (listed l f (tuplesOf (now (b .entry)))) (now (list .entry)) ⌝ }
+    ensures list { λ _. ⌜ now (list .exit) ≡ writtenPairs (listed l f (tuplesOf (now (b .entry)))) (now (list .entry)) ⌝ }
 {
     entries::write_entries(b, list_hint(l, near), query_of(l, f), list)
 }

@@ -18,7 +18,7 @@ use Rattle.chain.specs.declared.Place.{Place}
 use Rattle.chain.specs.Links.{Linked, Hint, placeIn}
 use Rattle.chain.proofs.Hints.{no-hint, place-hint}
 use Rattle.located.specs.declared.Near.{Near}
-use Rattle.located.specs.Located.{NearIn, beforeKey, near, nearNodes, nearUniverse, alsoIn, fartherOf, soughtIn, spaceAlone, withNode, withNodes, locatedIn, Told}
+use Rattle.located.specs.Located.{NearIn, beforeKey, near, nearNodes, nearUniverse, alsoIn, fartherOf, soughtIn, locatedSpace, locatedNode, locatedNodes, locatedIn, Told}
 use Rattle.located.specs.declared.Sought.{Sought}
 use Rattle.located.specs.declared.Located.{Located}
 
@@ -117,8 +117,8 @@ sought-told b k j p t K P T =
     λ i. record { before = before-told b k j p K P i; there = (T ∙ ap (λ (x : Key). present x (tuplesOf b)) K) i }
 
 pub nodes-located : (b : List ℕ) (space s n m : ℕ) (x y : Sought) (l : Located) → x ≡ soughtIn b (nodeKey s n) → y ≡ soughtIn b (nodeKey s m)
-    → l ≡ withNodes space x y → l ≡ withNodes space (soughtIn b (nodeKey s n)) (soughtIn b (nodeKey s m))
-nodes-located b space s n m x y l X Y L = L ∙ ap₂ (withNodes space) X Y
+    → l ≡ locatedNodes space x y → l ≡ locatedNodes space (soughtIn b (nodeKey s n)) (soughtIn b (nodeKey s m))
+nodes-located b space s n m x y l X Y L = L ∙ ap₂ (locatedNodes space) X Y
 
 -- ---- what is located, by what the operator reads and whether the space is there
 
@@ -137,39 +137,39 @@ module _ (b : List ℕ) (d : Decoded) where
 
   whole : Sought → Located
   whole space =
-      cond (not (r .s)) (spaceAlone 0 false)
-      (cond (not (space .there)) (spaceAlone (space .before) false)
-      (cond (r .m) (withNodes (space .before) (soughtIn b (nodeKey (f .s) (f .n))) (soughtIn b (nodeKey (f .s) (f .m))))
-      (cond (r .n) (withNode (space .before) (soughtIn b (nodeKey (f .s) (f .n)))) (spaceAlone (space .before) true))))
+      cond (not (r .s)) (locatedSpace 0 false)
+      (cond (not (space .there)) (locatedSpace (space .before) false)
+      (cond (r .m) (locatedNodes (space .before) (soughtIn b (nodeKey (f .s) (f .n))) (soughtIn b (nodeKey (f .s) (f .m))))
+      (cond (r .n) (locatedNode (space .before) (soughtIn b (nodeKey (f .s) (f .n)))) (locatedSpace (space .before) true))))
 
   whole-located : (space : Sought) → space ≡ soughtIn b (nodeKey (f .s) 0) → whole space ≡ locatedIn b d
   unfolding whole locatedIn
   whole-located space S = ap whole S
 
-  pub located-unread : (l : Located) → not (r .s) ≡ true → l ≡ spaceAlone 0 false → l ≡ locatedIn b d
+  pub located-unread : (l : Located) → not (r .s) ≡ true → l ≡ locatedSpace 0 false → l ≡ locatedIn b d
   unfolding whole
   located-unread l e L = L ∙ taken _ _ _ e ∙ whole-located (soughtIn b (nodeKey (f .s) 0)) refl
 
   module _ (e : not (r .s) ≡ false) (space : Sought) (S : space ≡ soughtIn b (nodeKey (f .s) 0)) where
-    pub located-absent : (l : Located) → not (space .there) ≡ true → l ≡ spaceAlone (space .before) false → l ≡ locatedIn b d
+    pub located-absent : (l : Located) → not (space .there) ≡ true → l ≡ locatedSpace (space .before) false → l ≡ locatedIn b d
     unfolding whole
     located-absent l t L = L ∙ taken _ _ _ t ∙ left _ _ _ e ∙ whole-located space S
 
     module _ (t : not (space .there) ≡ false) where
       pub located-both : (l : Located) → r .m ≡ true
-          → l ≡ withNodes (space .before) (soughtIn b (nodeKey (f .s) (f .n))) (soughtIn b (nodeKey (f .s) (f .m))) → l ≡ locatedIn b d
+          → l ≡ locatedNodes (space .before) (soughtIn b (nodeKey (f .s) (f .n))) (soughtIn b (nodeKey (f .s) (f .m))) → l ≡ locatedIn b d
       unfolding whole
       located-both l m L = L ∙ taken _ _ _ m ∙ left _ _ _ t ∙ left _ _ _ e ∙ whole-located space S
 
-      pub located-alone : (l : Located) → r .m ≡ false → not (r .n) ≡ true → l ≡ spaceAlone (space .before) true → l ≡ locatedIn b d
+      pub located-alone : (l : Located) → r .m ≡ false → not (r .n) ≡ true → l ≡ locatedSpace (space .before) true → l ≡ locatedIn b d
       unfolding whole
       located-alone l m n L = L ∙ left _ _ _ (not-yes (r .n) n) ∙ left _ _ _ m ∙ left _ _ _ t ∙ left _ _ _ e ∙ whole-located space S
 
       pub located-node : (l : Located) (x : Sought) → r .m ≡ false → not (r .n) ≡ false → x ≡ soughtIn b (nodeKey (f .s) (f .n))
-          → l ≡ withNode (space .before) x → l ≡ locatedIn b d
+          → l ≡ locatedNode (space .before) x → l ≡ locatedIn b d
       unfolding whole
       located-node l x m n X L =
-          L ∙ ap (withNode (space .before)) X ∙ taken _ _ _ (not-no (r .n) n) ∙ left _ _ _ m ∙ left _ _ _ t ∙ left _ _ _ e ∙ whole-located space S
+          L ∙ ap (locatedNode (space .before)) X ∙ taken _ _ _ (not-no (r .n) n) ∙ left _ _ _ m ∙ left _ _ _ t ∙ left _ _ _ e ∙ whole-located space S
 
 -- ---- what is located is so
 
@@ -188,10 +188,10 @@ module _ (b : List ℕ) (L : Linked b) (d : Decoded) where
 
   parts : (s t m n : Bool) → reads .s ≡ s → present (nodeKey (fields .s) 0) (tuplesOf b) ≡ t → reads .m ≡ m → reads .n ≡ n
       → Told b d
-      (cond (not s) (spaceAlone 0 false)
-      (cond (not t) (spaceAlone space-before false)
-      (cond m (withNodes space-before (soughtIn b (nodeKey (fields .s) (fields .n))) (soughtIn b (nodeKey (fields .s) (fields .m))))
-      (cond n (withNode space-before (soughtIn b (nodeKey (fields .s) (fields .n)))) (spaceAlone space-before true)))))
+      (cond (not s) (locatedSpace 0 false)
+      (cond (not t) (locatedSpace space-before false)
+      (cond m (locatedNodes space-before (soughtIn b (nodeKey (fields .s) (fields .n))) (soughtIn b (nodeKey (fields .s) (fields .m))))
+      (cond n (locatedNode space-before (soughtIn b (nodeKey (fields .s) (fields .n)))) (locatedSpace space-before true)))))
   unfolding soughtIn
   parts false t m n S T M N =
       record {

@@ -48,15 +48,15 @@ unfoldable pub soughtIn : List ℕ → Key → Sought
 soughtIn b k = record { before = beforeKey b k; there = present k (tuplesOf b) }
 
 -- a space without its nodes; a space that is there, with node n, or with nodes n and m
-abbrev pub spaceAlone : ℕ → Bool → Located
-spaceAlone before there = record { near = near before 0 0; space = there; node = false; second = false }
+abbrev pub locatedSpace : ℕ → Bool → Located
+locatedSpace before there = record { near = near before 0 0; space = there; node = false; second = false }
 
-abbrev pub withNode : ℕ → Sought → Located
-withNode space node =
+abbrev pub locatedNode : ℕ → Sought → Located
+locatedNode space node =
     record { near = near space (node .before) 0; space = true; node = node .there; second = false }
 
-abbrev pub withNodes : ℕ → Sought → Sought → Located
-withNodes space node second =
+abbrev pub locatedNodes : ℕ → Sought → Sought → Located
+locatedNodes space node second =
     record { near = near space (node .before) (second .before); space = true; node = node .there; second = second .there }
 
 -- the space of the call and, if it is there, its nodes, as far as the operator reads them
@@ -66,10 +66,10 @@ locatedIn b d =
     let f = d .fields in
     let space = soughtIn b (nodeKey (f .s) 0) in
     let node = soughtIn b (nodeKey (f .s) (f .n)) in
-    cond (not (reads .s)) (spaceAlone 0 false)
-    (cond (not (space .there)) (spaceAlone (space .before) false)
-    (cond (reads .m) (withNodes (space .before) node (soughtIn b (nodeKey (f .s) (f .m))))
-    (cond (reads .n) (withNode (space .before) node) (spaceAlone (space .before) true))))
+    cond (not (reads .s)) (locatedSpace 0 false)
+    (cond (not (space .there)) (locatedSpace (space .before) false)
+    (cond (reads .m) (locatedNodes (space .before) node (soughtIn b (nodeKey (f .s) (f .m))))
+    (cond (reads .n) (locatedNode (space .before) node) (locatedSpace (space .before) true))))
 
 -- what is told of a call's space and nodes is so, as far as its operator reads them; of nodes only where the space is there
 pub record Told (b : List ℕ) (d : Decoded) (l : Located) : Type 0 where

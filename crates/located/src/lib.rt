@@ -5,7 +5,7 @@ use model::Fields;
 ghost use mathlib.Core.Path.{_≡_};
 ghost use Rattle.chain.specs.Links.{Linked, Hint};
 ghost use Rattle.model.specs.Keys.{nodeKey};
-ghost use Rattle.located.specs.Located.{NearIn, beforeKey, near, nearNodes, nearUniverse, alsoIn, fartherOf, soughtIn, spaceAlone, withNode, withNodes, locatedIn};
+ghost use Rattle.located.specs.Located.{NearIn, beforeKey, near, nearNodes, nearUniverse, alsoIn, fartherOf, soughtIn, locatedSpace, locatedNode, locatedNodes, locatedIn};
 
 // Where to look in one space for what a call names: used records before the space, node n and node m, or 0.
 // They are hints: searches start behind them where that is right, and answers do not depend on them.
@@ -123,7 +123,7 @@ fn seek_node(b: &[u32], hint: usize, s: u32, n: u32) -> Sought
 
 // A space without its nodes.
 fn space_alone(before: usize, there: bool) -> Located
-    ensures { λ r. ⌜ r ≡ spaceAlone before there ⌝ }
+    ensures { λ r. ⌜ r ≡ locatedSpace before there ⌝ }
 {
     Located {
         near: Near {
@@ -139,7 +139,7 @@ fn space_alone(before: usize, there: bool) -> Located
 
 // A space that is there, with its node n.
 fn with_node(space: usize, node: Sought) -> Located
-    ensures { λ r. ⌜ r ≡ withNode space node ⌝ }
+    ensures { λ r. ⌜ r ≡ locatedNode space node ⌝ }
 {
     Located {
         near: Near {
@@ -155,7 +155,7 @@ fn with_node(space: usize, node: Sought) -> Located
 
 // A space that is there, with its nodes n and m.
 fn with_nodes(space: usize, node: Sought, second: Sought) -> Located
-    ensures { λ r. ⌜ r ≡ withNodes space node second ⌝ }
+    ensures { λ r. ⌜ r ≡ locatedNodes space node second ⌝ }
 {
     Located {
         near: Near {
@@ -172,7 +172,7 @@ fn with_nodes(space: usize, node: Sought, second: Sought) -> Located
 // Nodes n and m of a space that is there, found in one walk: the lesser first.
 fn locate_nodes(b: &[u32], space: usize, f: Fields) -> Located
     requires { ⌜ Linked (now b) × Hint (now b) space ⌝ }
-    ensures { λ r. ⌜ r ≡ withNodes space (soughtIn (now (b .entry)) (nodeKey (f .s) (f .n))) (soughtIn (now (b .entry)) (nodeKey (f .s) (f .m))) ⌝ }
+    ensures { λ r. ⌜ r ≡ locatedNodes space (soughtIn (now (b .entry)) (nodeKey (f .s) (f .n))) (soughtIn (now (b .entry)) (nodeKey (f .s) (f .m))) ⌝ }
 {
     if f.n <= f.m {
         let node = seek_node(b, space, f.s, f.n);

@@ -20,7 +20,7 @@ use Rattle.model.specs.Steps.{objectKeys, created, firstValue, destroyed, liste
 use Rattle.model.specs.OneCall.{answerOf, listAfter, writes}
 use Rattle.chain.specs.Links.{Linked, Edited}
 use Rattle.edit.proofs.Built.{unedited}
-use Rattle.entries.specs.Queries.{written}
+use Rattle.entries.specs.Queries.{writtenPairs}
 use Rattle.listings.specs.Lists.{NamesAsked}
 use Rattle.steps.specs.Objects.{Room, Bound}
 use Rattle.perform.specs.Perform.{NamesIn, NamesRead, ReadyFor, Ready, Performed}
@@ -109,8 +109,8 @@ module _ (op : Operator) (x : ℕ) (f : Fields) (b l : List ℕ) where
       (record { answer = ap YesNo h; list = refl; edited = unedited b (tuplesOf b) L refl; reading = λ w. refl })
 
   pub list-performed : (q : Listing) (l′ : List ℕ) (k : ℕ) → op ≡ Lists q → Linked b → k ≡ length (listed q f (tuplesOf b))
-      → l′ ≡ written (listed q f (tuplesOf b)) l → Performed op x f b l (Listed k) b l′
-  unfolding reply after answerOf listAfter written
+      → l′ ≡ writtenPairs (listed q f (tuplesOf b)) l → Performed op x f b l (Listed k) b l′
+  unfolding reply after answerOf listAfter writtenPairs
   list-performed q l′ k e L h w =
       subst (λ (y : Operator). Performed y x f b l (Listed k) b l′) (sym e)
       (record { answer = ap Listed h; list = w; edited = unedited b (tuplesOf b) L refl; reading = λ z. refl })

@@ -15,7 +15,7 @@ use Rattle.model.specs.Tuples.{present}
 use Rattle.layouts.specs.Buffer.{capacityOf, keyAt, tuplesOf}
 use Rattle.model.proofs.Bools.{or-cases, and-left, and-right, not-yes}
 use Rattle.model.proofs.Tuples.{same-key}
-use Rattle.presence.specs.Presence.{isAt, Held, Marked, Marks, MarksFit, markCount, nodeMark, edgeMark, edgeRecord, nodeSlot, edgeSlot, withMark, withNode, withEdge, withNamed, lookFrom, nodeShown, edgeShown}
+use Rattle.presence.specs.Presence.{isAt, Held, Marked, Marks, MarksFit, markCount, nodeMark, edgeMark, edgeRecord, nodeSlot, edgeSlot, withMark, withNodeMark, withEdgeMark, withNamed, lookFrom, nodeShown, edgeShown}
 
 -- ---- places
 
@@ -243,7 +243,7 @@ module _ (P : ℕ → Type 0) (i : ℕ) (p : P i) where
 -- what holds of every mark, and of the marks of a key and its record
 module _ (P : ℕ → Type 0) (k : Key) (i : ℕ) (n : k .g ≡ 0 → k .n ≢ 0 → P (nodeMark (k .s) (k .n))) (r : P (edgeMark i)) where
   named-all : (ms : List ℕ) → ((j : ℕ) → P (getD ms j 0)) → (j : ℕ) → P (getD (withNamed ms k i) j 0)
-  unfolding withNamed withNode withEdge
+  unfolding withNamed withNodeMark withEdgeMark
   named-all ms h = go (eqb (k .g) 0) refl (eqb (k .n) 0) refl (eqb (k .s) 0)
     where
       go : (g : Bool) → eqb (k .g) 0 ≡ g → (z : Bool) → eqb (k .n) 0 ≡ z → (s : Bool) → (j : ℕ)
@@ -268,7 +268,7 @@ mark-length (suc left) ms at i =
     (mark-length left ms ((at + 1021) % markCount) i)
 
 named-length : (ms : List ℕ) (k : Key) (i : ℕ) → length (withNamed ms k i) ≡ length ms
-unfolding withNamed withNode withEdge
+unfolding withNamed withNodeMark withEdgeMark
 named-length ms k i =
     same-length (eqb (k .g) 0) (cond (eqb (k .n) 0) ms (withMark 64 ms (nodeSlot (k .s) (k .n)) (nodeMark (k .s) (k .n))))
     (cond (eqb (k .s) 0) (withMark 64 ms (edgeSlot k) (edgeMark i)) ms) ms
@@ -299,21 +299,21 @@ module _ (b ms : List ℕ) (k : Key) (i : ℕ) (low : k .n ≤ 65535) (ms′ : L
 -- ---- one mark put
 
 module _ (ms : List ℕ) (k : Key) where
-  pub node-none : k .n ≡ 0 → ms ≡ withNode ms k
-  unfolding withNode
+  pub node-none : k .n ≡ 0 → ms ≡ withNodeMark ms k
+  unfolding withNodeMark
   node-none e = simp (eq-eqb (k .n) 0 e)
 
-  pub node-some : k .n ≢ 0 → (at w : ℕ) → at ≡ nodeSlot (k .s) (k .n) → w ≡ nodeMark (k .s) (k .n) → (ms′ : List ℕ) → ms′ ≡ withMark 64 ms at w → ms′ ≡ withNode ms k
-  unfolding withNode
+  pub node-some : k .n ≢ 0 → (at w : ℕ) → at ≡ nodeSlot (k .s) (k .n) → w ≡ nodeMark (k .s) (k .n) → (ms′ : List ℕ) → ms′ ≡ withMark 64 ms at w → ms′ ≡ withNodeMark ms k
+  unfolding withNodeMark
   node-some n at w e f ms′ g = g ∙ ap₂ (withMark 64 ms) e f ∙ simp (ne-eqb (k .n) 0 n)
 
   module _ (i : ℕ) where
-    pub edge-none : k .s ≢ 0 → ms ≡ withEdge ms k i
-    unfolding withEdge
+    pub edge-none : k .s ≢ 0 → ms ≡ withEdgeMark ms k i
+    unfolding withEdgeMark
     edge-none n = simp (ne-eqb (k .s) 0 n)
 
-    pub edge-some : k .s ≡ 0 → (at w : ℕ) → at ≡ edgeSlot k → w ≡ edgeMark i → (ms′ : List ℕ) → ms′ ≡ withMark 64 ms at w → ms′ ≡ withEdge ms k i
-    unfolding withEdge
+    pub edge-some : k .s ≡ 0 → (at w : ℕ) → at ≡ edgeSlot k → w ≡ edgeMark i → (ms′ : List ℕ) → ms′ ≡ withMark 64 ms at w → ms′ ≡ withEdgeMark ms k i
+    unfolding withEdgeMark
     edge-some e at w f g ms′ h = h ∙ ap₂ (withMark 64 ms) f g ∙ simp (eq-eqb (k .s) 0 e)
 
 -- what is left of the search for a place, at a place with so many to go

@@ -16,7 +16,7 @@ use Rattle.model.specs.Numbers.{everyUpTo}
 use Rattle.model.specs.Rules.{smallKey, noEdgeWithoutNode, edgeHasEnd}
 use Rattle.model.proofs.Bools.{and-left, and-right, not-yes}
 use Rattle.presence.specs.declared.ends.Found.{Found}
-use Rattle.presence.specs.Presence.{withNode, withEdge, withNamed, nodeShown, edgeShown, nodeSettled, edgeSettled, settled, endThere, endShown, nothingKept, foundWith, listWith, everyEnd, goodKey, shapedKey}
+use Rattle.presence.specs.Presence.{withNodeMark, withEdgeMark, withNamed, nodeShown, edgeShown, nodeSettled, edgeSettled, settled, endThere, endShown, nothingKept, foundWith, listWith, everyEnd, goodKey, shapedKey}
 
 -- ---- the words of a good key
 
@@ -159,7 +159,7 @@ module _ (b ms list : List ℕ) (j k : Key) (f : Found) (at : ℕ) where
     unfolding foundWith settled nothingKept
     take-node-found r e = ap (λ (x : Bool). record { sure = x; kept = f .kept }) e ∙ simp (eq-eqb (k .g) 0 g)
 
-    pub take-node-marks : (ms′ : List ℕ) → ms′ ≡ withNode ms k → ms′ ≡ withNamed ms k at
+    pub take-node-marks : (ms′ : List ℕ) → ms′ ≡ withNodeMark ms k → ms′ ≡ withNamed ms k at
     unfolding withNamed
     take-node-marks ms′ e = e ∙ simp (eq-eqb (k .g) 0 g)
 
@@ -173,7 +173,7 @@ module _ (b ms list : List ℕ) (j k : Key) (f : Found) (at : ℕ) where
     unfolding foundWith settled nothingKept
     take-edge-found r m e h = ap₂ (λ (x : Bool) (y : ℕ). record { sure = x; kept = y }) e h ∙ simp (ne-eqb (k .g) 0 g)
 
-    pub take-edge-marks : (ms′ : List ℕ) → ms′ ≡ withEdge ms k at → ms′ ≡ withNamed ms k at
+    pub take-edge-marks : (ms′ : List ℕ) → ms′ ≡ withEdgeMark ms k at → ms′ ≡ withNamed ms k at
     unfolding withNamed
     take-edge-marks ms′ e = e ∙ simp (ne-eqb (k .g) 0 g)
 

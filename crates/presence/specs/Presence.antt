@@ -156,16 +156,16 @@ withMark zero marks at w = marks
 withMark (suc left) marks at w = cond (eqb (getD marks at 0) 0) (set marks at w) (withMark left marks ((at + 1021) % markCount) w)
 
 -- with the mark of a key without g, where it is a node's
-unfoldable pub withNode : List ℕ → Key → List ℕ
-withNode marks k = cond (eqb (k .n) 0) marks (withMark 64 marks (nodeSlot (k .s) (k .n)) (nodeMark (k .s) (k .n)))
+unfoldable pub withNodeMark : List ℕ → Key → List ℕ
+withNodeMark marks k = cond (eqb (k .n) 0) marks (withMark 64 marks (nodeSlot (k .s) (k .n)) (nodeMark (k .s) (k .n)))
 
 -- with the mark of an edge tuple, where it is one of 0
-unfoldable pub withEdge : List ℕ → Key → ℕ → List ℕ
-withEdge marks k i = cond (eqb (k .s) 0) (withMark 64 marks (edgeSlot k) (edgeMark i)) marks
+unfoldable pub withEdgeMark : List ℕ → Key → ℕ → List ℕ
+withEdgeMark marks k i = cond (eqb (k .s) 0) (withMark 64 marks (edgeSlot k) (edgeMark i)) marks
 
 -- with the mark of a tuple in record i that other tuples may name
 unfoldable pub withNamed : List ℕ → Key → ℕ → List ℕ
-withNamed marks k i = cond (eqb (k .g) 0) (withNode marks k) (withEdge marks k i)
+withNamed marks k i = cond (eqb (k .g) 0) (withNodeMark marks k) (withEdgeMark marks k i)
 
 -- marks whose records are records, whatever their keys
 pub record MarksFit (b marks : List ℕ) : Type 0 where

@@ -12,7 +12,7 @@ ghost use lib.ListN.{length, getD, set};
 ghost use Rattle.model.specs.Keys.{nodeKey};
 ghost use Rattle.model.specs.Tuples.{present};
 ghost use Rattle.layouts.specs.Buffer.{tuplesOf};
-ghost use Rattle.presence.specs.Presence.{Walkable, Sorted, Marks, MarksFit, markCount, nodeMark, edgeMark, edgeRecord, nodeSlot, edgeSlot, withMark, withNode, withEdge, nodeShown, edgeShown};
+ghost use Rattle.presence.specs.Presence.{Walkable, Sorted, Marks, MarksFit, markCount, nodeMark, edgeMark, edgeRecord, nodeSlot, edgeSlot, withMark, withNodeMark, withEdgeMark, nodeShown, edgeShown};
 
 // The mark of node n in s.
 fn node_mark(s: u32, n: u32) -> u32
@@ -85,7 +85,7 @@ fn put_mark(marks: &mut [u32], from: usize, w: u32)
 // Marks a key without g, where it is a node's.
 pub fn mark_node(marks: &mut [u32], k: Key)
     requires { ⌜ (length (now marks) ≡ markCount) × (k .s ≤ 65535) × (k .n ≤ 65535) ⌝ }
-    ensures { λ _. ⌜ now (marks .exit) ≡ withNode (now (marks .entry)) k ⌝ }
+    ensures { λ _. ⌜ now (marks .exit) ≡ withNodeMark (now (marks .entry)) k ⌝ }
 {
     if k.n == 0 {
         return;
@@ -96,7 +96,7 @@ pub fn mark_node(marks: &mut [u32], k: Key)
 // Marks an edge tuple in record i, where it is one of 0.
 pub fn mark_edge(marks: &mut [u32], k: Key, i: usize)
     requires { ⌜ (length (now marks) ≡ markCount) × (i ≤ 4096) ⌝ }
-    ensures { λ _. ⌜ now (marks .exit) ≡ withEdge (now (marks .entry)) k i ⌝ }
+    ensures { λ _. ⌜ now (marks .exit) ≡ withEdgeMark (now (marks .entry)) k i ⌝ }
 {
     if k.s != 0 {
         return;

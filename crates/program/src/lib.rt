@@ -2,7 +2,7 @@
 // No contract can say what is read or written: what a script prints is in the contracts of crate script.
 use libc::STDIN_FILENO;
 use libc::STDOUT_FILENO;
-ghost use Rattle.script.specs.Runs.{Ready, ScriptRun};
+ghost use Rattle.script.specs.Runs.{RunReady, ScriptRun};
 
 // The words of a store with 2,048 records: 4, and 6 for each.
 const STORE_WORDS: usize = 12292;
@@ -13,7 +13,7 @@ const INPUT_BYTES: usize = 65537;
 
 // Runs the lines of a script and writes what they print, block by block.
 fn run_lines(store: &mut [u32], list: &mut [u32], script: &[u8])
-    requires { ⌜ Ready (now store) (now list) ⌝ }
+    requires { ⌜ RunReady (now store) (now list) ⌝ }
     ensures { λ _. ⌜ ScriptRun (now (store .entry)) (now (list .entry)) (now (script .entry)) (now (store .exit)) (now (list .exit)) ⌝ }
 {
     let mut out = io::large_buffer();

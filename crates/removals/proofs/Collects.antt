@@ -20,7 +20,7 @@ use Rattle.model.proofs.Entries.{Member, pairs-sound, nodes-sound, only-sound}
 use Rattle.model.proofs.Steps.{every-member, pair-named}
 use Rattle.chain.specs.Links.{Linked, Edited}
 use Rattle.edit.proofs.Built.{unedited, store-tuples}
-use Rattle.entries.specs.Queries.{Readable, written}
+use Rattle.entries.specs.Queries.{Readable, writtenPairs}
 use Rattle.entries.proofs.Counted.{entries-most}
 use Rattle.model.specs.declared.Fields.{Fields}
 use Rattle.steps.proofs.Named.{edited-twice}
@@ -94,21 +94,21 @@ each-node s (p ∷ ps) rest ts h =
     each-node s ps rest (remove (nodeTaken s (pack p)) ts) (h .1)
     ∙ ap (λ (n : ℕ). removeNodes s ps (remove (nodeTaken s n) ts)) (pack-node p (h .0 .0))
 
-pub collected-fits : (ps : List Pair) (l₀ l : List ℕ) (count : ℕ) → l ≡ written ps l₀ → count ≡ length ps → count ≤ length l
-unfolding written
+pub collected-fits : (ps : List Pair) (l₀ l : List ℕ) (count : ℕ) → l ≡ writtenPairs ps l₀ → count ≡ length ps → count ≤ length l
+unfolding writtenPairs
 collected-fits ps l₀ l count e f =
     let long : length l ≡ length (map pack ps) + length (drop (length ps) l₀) = ap length e ∙ length-append (map pack ps) (drop (length ps) l₀) in
     omega (arith, long, length-map ps pack, f)
 
-pub collected-named : (ps : List Pair) (l₀ l : List ℕ) (count : ℕ) → l ≡ written ps l₀ → count ≡ length ps → NodesListed ps → NamedBelow l count
-unfolding written
+pub collected-named : (ps : List Pair) (l₀ l : List ℕ) (count : ℕ) → l ≡ writtenPairs ps l₀ → count ≡ length ps → NodesListed ps → NamedBelow l count
+unfolding writtenPairs
 collected-named ps l₀ l count e f h i low z =
     named-written ps (drop (length ps) l₀) h i (omega (arith, low, f)) (ap (λ (xs : List ℕ). getD xs i 0) (sym e) ∙ z)
 
 pub collected-removed : {b b′ : List ℕ} (ps : List Pair) (l₀ l : List ℕ) (count s : ℕ)
-    → l ≡ written ps l₀ → count ≡ length ps → NodesListed ps
+    → l ≡ writtenPairs ps l₀ → count ≡ length ps → NodesListed ps
     → Edited b b′ (removeEach s (take count l) (tuplesOf b)) → Edited b b′ (removeNodes s ps (tuplesOf b))
-unfolding written
+unfolding writtenPairs
 collected-removed {b} {b′} ps l₀ l count s e n h E =
     subst (Edited b b′) ((λ i. removeEach s (take (n i) (e i)) (tuplesOf b)) ∙ each-node s ps (drop (length ps) l₀) (tuplesOf b) h) E
 

@@ -7,7 +7,7 @@ use Rattle.model.specs.Tuples.{fresh}
 use Rattle.model.specs.CallLists.{CallMade}
 use Rattle.model.specs.OneCall.{answerOf, pack, listAfter}
 use Rattle.model.proofs.Cases.{computed}
-use Rattle.run.specs.Words.{spaceOf, callAt, callsFrom, callsIn, kindOf, numberOf}
+use Rattle.run.specs.Words.{spaceOfForm, callAt, callsFrom, callsIn, kindOf, numberOf}
 use Rattle.run.specs.Runs.{callMade, callsMade, answersAfter, listsAfter}
 
 -- space 9 stands in the upper half of the third word: 9 × 65,536 is 589,824
@@ -32,9 +32,9 @@ exampleMade = callsMade 10 fresh (callsIn exampleCalls) exampleLists
 
 pub example-answers : answersAfter exampleMade (20 ∷ 21 ∷ 22 ∷ 23 ∷ 24 ∷ 25 ∷ 26 ∷ 27 ∷ 28 ∷ 29 ∷ 30 ∷ 31 ∷ 32 ∷ 33 ∷ 34 ∷ 35 ∷ 36 ∷ [])
     ≡ 1 ∷ 9 ∷ 1 ∷ 7 ∷ 1 ∷ 7 ∷ 3 ∷ 1 ∷ 4 ∷ 2 ∷ 2 ∷ 3 ∷ 0 ∷ 2 ∷ 0 ∷ 12 ∷ 36 ∷ []
-unfolding computed answerOf pack listAfter spaceOf callAt callsFrom callsIn kindOf numberOf callMade callsMade answersAfter
+unfolding computed answerOf pack listAfter spaceOfForm callAt callsFrom callsIn kindOf numberOf callMade callsMade answersAfter
 example-answers = refl
 
 pub example-lists : listsAfter exampleMade exampleLists ≡ 0 ∷ 9 ∷ 73 ∷ 74 ∷ []
-unfolding computed answerOf pack listAfter spaceOf callAt callsFrom callsIn callMade callsMade listsAfter
+unfolding computed answerOf pack listAfter spaceOfForm callAt callsFrom callsIn callMade callsMade listsAfter
 example-lists = refl

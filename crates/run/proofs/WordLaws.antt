@@ -12,33 +12,33 @@ use Rattle.model.specs.declared.Space.{Space}
 use Rattle.model.specs.declared.Space.the-variants.{Universe, Numbered, Nothing}
 use Rattle.model.specs.declared.Answer.{Answer}
 use Rattle.layouts.specs.Buffer.{word}
-use Rattle.run.specs.Words.{callWords, answerWords, spaceOf, lower, upper, callAt, requestAt, callsFrom, kindOf, numberOf, putAnswer}
+use Rattle.run.specs.Words.{callWords, answerWords, spaceOfForm, lower, upper, callAt, requestAt, callsFrom, kindOf, numberOf, putAnswer}
 
 -- ---- a call
 
-pub no-number : (form s : ℕ) → form ≡ 0 → Universe ≡ spaceOf form s
-unfolding spaceOf
-no-number form s e = sym (ap (λ (f : ℕ). spaceOf f s) e)
+pub no-number : (form s : ℕ) → form ≡ 0 → Universe ≡ spaceOfForm form s
+unfolding spaceOfForm
+no-number form s e = sym (ap (λ (f : ℕ). spaceOfForm f s) e)
 
-pub no-space : (form s : ℕ) → form ≡ 2 → Nothing ≡ spaceOf form s
-unfolding spaceOf
-no-space form s e = sym (ap (λ (f : ℕ). spaceOf f s) e)
+pub no-space : (form s : ℕ) → form ≡ 2 → Nothing ≡ spaceOfForm form s
+unfolding spaceOfForm
+no-space form s e = sym (ap (λ (f : ℕ). spaceOfForm f s) e)
 
-pub a-number : (form s : ℕ) → (form ≡ 0 → ⊥) → (form ≡ 2 → ⊥) → Numbered (record { 0 = s }) ≡ spaceOf form s
-unfolding spaceOf
+pub a-number : (form s : ℕ) → (form ≡ 0 → ⊥) → (form ≡ 2 → ⊥) → Numbered (record { 0 = s }) ≡ spaceOfForm form s
+unfolding spaceOfForm
 a-number form s h k =
     sym (ap₂ (λ (a b : Bool). cond a Universe (cond b Nothing (Numbered (record { 0 = s })))) (ne-eqb form 0 h) (ne-eqb form 2 k))
 
 pub call-joined : (ws : List ℕ) (i n g m u : ℕ) (s : Space)
     → n ≡ lower (word ws (callWords * i + 1)) → g ≡ upper (word ws (callWords * i + 1)) → m ≡ lower (word ws (callWords * i + 2))
-    → u ≡ upper (word ws (callWords * i + 2)) → s ≡ spaceOf (word ws (callWords * i + 4)) u
+    → u ≡ upper (word ws (callWords * i + 2)) → s ≡ spaceOfForm (word ws (callWords * i + 4)) u
     → _≡_ {A = Call}
     (record { operator = word ws (callWords * i); n = record { 0 = n }; g = record { 0 = g }; m = record { 0 = m }; v = word ws (callWords * i + 3); s = s })
     (callAt ws i)
 unfolding callAt
 call-joined ws i n g m u s en eg em eu es =
-    let space : s ≡ spaceOf (word ws (callWords * i + 4)) (upper (word ws (callWords * i + 2)))
-    = es ∙ ap (spaceOf (word ws (callWords * i + 4))) eu in
+    let space : s ≡ spaceOfForm (word ws (callWords * i + 4)) (upper (word ws (callWords * i + 2)))
+    = es ∙ ap (spaceOfForm (word ws (callWords * i + 4))) eu in
     λ j. record {
       operator = word ws (callWords * i);
       n = record { 0 = en j };

@@ -26,8 +26,8 @@ abbrev pub answerWords : ℕ
 answerWords = 2
 
 -- the form of a space: 0 is UNIVERSE, 2 is nothing (request 1), any other number the numbered space s
-unfoldable pub spaceOf : ℕ → ℕ → Space
-spaceOf form s = cond (eqb form 0) Universe (cond (eqb form 2) Nothing (Numbered (record { 0 = s })))
+unfoldable pub spaceOfForm : ℕ → ℕ → Space
+spaceOfForm form s = cond (eqb form 0) Universe (cond (eqb form 2) Nothing (Numbered (record { 0 = s })))
 
 -- the name in the lower half of a word, and that in the upper half
 abbrev pub lower : ℕ → ℕ
@@ -45,7 +45,7 @@ callAt ws i =
       g = record { 0 = upper (word ws (callWords * i + 1)) };
       m = record { 0 = lower (word ws (callWords * i + 2)) };
       v = word ws (callWords * i + 3);
-      s = spaceOf (word ws (callWords * i + 4)) (upper (word ws (callWords * i + 2)));
+      s = spaceOfForm (word ws (callWords * i + 4)) (upper (word ws (callWords * i + 2)));
     }
 
 -- its sixth word: the length of the answer list that is lent to it

@@ -12,7 +12,7 @@ ghost use lib.Dec.{leb};
 ghost use lib.ListN.{length};
 ghost use Rattle.model.specs.OneCall.{listCount};
 ghost use Rattle.layouts.specs.Stored.{stored};
-ghost use Rattle.run.specs.Words.{spaceOf, lower, upper, callAt, roomAt, requestAt, callsFrom, kindOf, bitOf, numberOf, putAnswer};
+ghost use Rattle.run.specs.Words.{spaceOfForm, lower, upper, callAt, roomAt, requestAt, callsFrom, kindOf, bitOf, numberOf, putAnswer};
 ghost use Rattle.run.specs.Runs.{roomsOf, callMade, callsMade, OneRun, Left, Ran};
 
 // The name in the lower half of a word.
@@ -31,7 +31,7 @@ fn upper_half(w: u32) -> u16
 
 // The space of a call: its form (0 UNIVERSE, 2 nothing), and its number where it has one. Public for the crates above.
 pub fn space_of(form: u32, s: u16) -> Space
-    ensures { λ r. ⌜ r ≡ spaceOf form s ⌝ }
+    ensures { λ r. ⌜ r ≡ spaceOfForm form s ⌝ }
 {
     if form == 0 {
         return Space::Universe;

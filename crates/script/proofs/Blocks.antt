@@ -17,7 +17,7 @@ use Rattle.lines.proofs.LineLaws.{no-lines}
 use Rattle.print.specs.Answers.{answerLine, mostLine}
 use Rattle.script.specs.declared.Block.{Block}
 use Rattle.script.specs.Scripts.{lineOutcome, linesOutput, linesFinal}
-use Rattle.script.specs.Runs.{Ready, LineStep, Run, unrun, lineList, linesList, runBefore, runLines, BlockRun, ScriptRun}
+use Rattle.script.specs.Runs.{RunReady, LineStep, Run, unrun, lineList, linesList, runBefore, runLines, BlockRun, ScriptRun}
 use Rattle.script.proofs.LineRuns.{line-size}
 
 -- a run of the first of some lines, and then the lines that are left
@@ -58,7 +58,7 @@ run-as-all room ts l (x ∷ xs) =
 
 -- the lines of a script before place `at`, run on a store
 pub record Going (b₀ l₀ : List ℕ) (script : Text) (b l : List ℕ) (at : ℕ) : Type 0 where
-  pub ready : Ready b l
+  pub ready : RunReady b l
   pub within : at ≤ length script
   pub lines : List Text
   pub called : Trace LineStep (b₀, l₀) lines (b, l)
@@ -67,7 +67,7 @@ pub record Going (b₀ l₀ : List ℕ) (script : Text) (b l : List ℕ) (at : �
   pub list : linesList (tuplesOf b) l (linesOf (drop at script)) ≡ linesList (tuplesOf b₀) l₀ (linesOf script)
 
 module _ (b₀ l₀ : List ℕ) (script : Text) where
-  pub blocks-start : Ready b₀ l₀ → Going b₀ l₀ script b₀ l₀ 0
+  pub blocks-start : RunReady b₀ l₀ → Going b₀ l₀ script b₀ l₀ 0
   blocks-start R = record { ready = R; within = omega arith; lines = []; called = end; split = refl; final = refl; list = refl }
 
   pub next-block : (b l b′ l′ : List ℕ) (at : ℕ) (out : Text) (r : Block) (out′ : Text) → Going b₀ l₀ script b l at

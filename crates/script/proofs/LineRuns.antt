@@ -30,7 +30,7 @@ use Rattle.print.specs.Answers.{answerText, answerLine, mostLine, Put, Printabl
 use Rattle.print.proofs.Lengths.{line-printable}
 use Rattle.script.specs.Scripts.{scriptRecords, scriptPlaces, readingOutcome, lineOutcome}
 use Rattle.layouts.proofs.Sizes.{capacity-length}
-use Rattle.script.specs.Runs.{Ready, LineCalled, call, no-call, LineStep, LineRun, lineList, LineDemand1}
+use Rattle.script.specs.Runs.{RunReady, LineCalled, call, no-call, LineStep, LineRun, lineList, LineDemand1}
 
 -- ---- what was run
 
@@ -40,11 +40,11 @@ words-fit l f i = omega (arith, f i)
 
 module _ (b l : List ℕ) (line : Text) (out : Text) (at : ℕ) where
   -- the machine of a script is that of the store and its list
-  as-machine : (c : Call) → Ready b l → machine (capacityOf b) (tuplesOf b) c (length l) ≡ machine scriptRecords (tuplesOf b) c scriptPlaces
+  as-machine : (c : Call) → RunReady b l → machine (capacityOf b) (tuplesOf b) c (length l) ≡ machine scriptRecords (tuplesOf b) c scriptPlaces
   as-machine c R = ap₂ (λ (C room : ℕ). machine C (tuplesOf b) c room) (R .records) (R .places)
 
   -- what a caller of the call is told is what the line answers
-  call-reply : (c : Call) (a : Answer) (b′ l′ : List ℕ) → Ready b l → readLine line ≡ Read c → OnStore stored b l c a b′ l′ → observed a l′ ≡ lineOutcome (tuplesOf b) line .answer
+  call-reply : (c : Call) (a : Answer) (b′ l′ : List ℕ) → RunReady b l → readLine line ≡ Read c → OnStore stored b l c a b′ l′ → observed a l′ ≡ lineOutcome (tuplesOf b) line .answer
   unfolding lineOutcome readingOutcome tuplesOf
   call-reply c a b′ l′ R e O =
       ap₂ observed (O .answer) (O .list)
@@ -53,12 +53,12 @@ module _ (b l : List ℕ) (line : Text) (out : Text) (at : ℕ) where
       ∙ ap (λ (r : Reading). readingOutcome (tuplesOf b) r .answer) (sym e)
 
   -- there is room for the answer of a call
-  pub call-printable : (c : Call) (a : Answer) (b′ l′ : List ℕ) → Ready b l → OnStore stored b l c a b′ l′ → length l′ ≡ length l → ((i : ℕ) → Fits w32 (getD l′ i 0)) → at + mostLine ≤ length out
+  pub call-printable : (c : Call) (a : Answer) (b′ l′ : List ℕ) → RunReady b l → OnStore stored b l c a b′ l′ → length l′ ≡ length l → ((i : ℕ) → Fits w32 (getD l′ i 0)) → at + mostLine ≤ length out
       → Printable (answerLine (observed a l′)) a l′ out at
   call-printable c a b′ l′ R O k f room =
       line-printable a l′ out at (omega (arith, answer-within stored b l b′ l′ c a O k)) (omega (arith, R .places)) (words-fit l′ f) room
 
-  pub call-run : (x : Reading) (c : Call) (a : Answer) (b′ l′ : List ℕ) (end : ℕ) (out′ : Text) → Ready b l → x ≡ readLine line → x ≡ Read c → OnStore stored b l c a b′ l′ → length l′ ≡ length l
+  pub call-run : (x : Reading) (c : Call) (a : Answer) (b′ l′ : List ℕ) (end : ℕ) (out′ : Text) → RunReady b l → x ≡ readLine line → x ≡ Read c → OnStore stored b l c a b′ l′ → length l′ ≡ length l
       → ((i : ℕ) → Fits w32 (getD l′ i 0)) → at + mostLine ≤ length out → Put (answerLine (observed a l′)) out at end out′ → LineRun b l line out at b′ l′ end out′
   call-run x c a b′ l′ end out′ R d r O k f room P =
       let e : readLine line ≡ Read c = sym d ∙ r in
@@ -106,12 +106,12 @@ module _ (b l : List ℕ) (line : Text) (out : Text) (at : ℕ) where
 
 -- what a line leaves of the store and the list
 pub record LineLeft (b l : List ℕ) (line : Text) (b′ l′ : List ℕ) : Type 0 where
-  pub ready : Ready b′ l′
+  pub ready : RunReady b′ l′
   pub state : tuplesOf b′ ≡ lineOutcome (tuplesOf b) line .state
   pub size : length b′ ≡ length b
   pub list : l′ ≡ lineList (tuplesOf b) (readLine line) l
 
-module _ (b l : List ℕ) (R : Ready b l) where
+module _ (b l : List ℕ) (R : RunReady b l) where
   left-of : (r : Reading) (line : Text) (b′ l′ : List ℕ) → readLine line ≡ r → length l′ ≡ length l → LineCalled b l b′ l′ r → LineLeft b l line b′ l′
   unfolding lineOutcome readingOutcome lineList
   left-of (Read c) line b′ l′ e k (call store O) =
@@ -129,7 +129,7 @@ module _ (b l : List ℕ) (R : Ready b l) where
       }
   left-of (Refused number) line b′ l′ e k (no-call sb sl) =
       record {
-        ready = subst (λ (x : List ℕ). Ready x l′) (sym sb) (subst (Ready b) (sym sl) R);
+        ready = subst (λ (x : List ℕ). RunReady x l′) (sym sb) (subst (RunReady b) (sym sl) R);
         state = ap tuplesOf sb ∙ ap (λ (r : Reading). readingOutcome (tuplesOf b) r .state) (sym e);
         size = ap length sb;
         list = sl ∙ ap (λ (r : Reading). lineList (tuplesOf b) r l) (sym e);

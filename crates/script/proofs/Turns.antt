@@ -18,7 +18,7 @@ use Rattle.lines.specs.Calls.{readLine}
 use Rattle.lines.proofs.LineLaws.{no-lines, next-line, line-within}
 use Rattle.print.specs.Answers.{answerLine, Put, mostLine}
 use Rattle.script.specs.Scripts.{lineOutcome}
-use Rattle.script.specs.Runs.{Ready, LineStep, LineRun, Run, unrun, linesLength, lineList, runBefore, runLines, nextLine, BlockRun}
+use Rattle.script.specs.Runs.{RunReady, LineStep, LineRun, Run, unrun, linesLength, lineList, runBefore, runLines, nextLine, BlockRun}
 use Rattle.script.proofs.LineRuns.{LineLeft, line-left}
 
 -- the first line is run, and then those behind it
@@ -65,7 +65,7 @@ moved {whole} from at size short room onward unmoved = go (ltb from at) refl
 
 -- the lines of a script from place `from` to place `at`, run on a store and printed to the first `size` bytes of an output
 pub record Running (b₀ l₀ : List ℕ) (script : Text) (from : ℕ) (out₀ : Text) (b l : List ℕ) (at size : ℕ) (out : Text) : Type 0 where
-  pub ready : Ready b l
+  pub ready : RunReady b l
   pub words : length b ≡ length b₀
   pub within : at ≤ length script
   pub onward : from ≤ at
@@ -119,7 +119,7 @@ next-of script at line next some e n = go (ltb (at + length line) (length script
 -- ---- line after line
 
 module _ (b₀ l₀ : List ℕ) (script : Text) (from : ℕ) (out₀ : Text) where
-  pub run-start : Ready b₀ l₀ → from ≤ length script → Running b₀ l₀ script from out₀ b₀ l₀ from 0 out₀
+  pub run-start : RunReady b₀ l₀ → from ≤ length script → Running b₀ l₀ script from out₀ b₀ l₀ from 0 out₀
   unfolding linesLength
   run-start R h =
       let whole : length out₀ ≡ length out₀ - 0 = omega arith in

@@ -21,7 +21,7 @@ use Rattle.script.specs.declared.Block.{Block}
 use Rattle.script.specs.Scripts.{scriptRecords, scriptPlaces, lineOutcome, linesFinal}
 
 -- a store and an answer list for a script: "a store with C = 2,048 and an answer list of 2,048 places"
-pub record Ready (b l : List ℕ) : Type 0 where
+pub record RunReady (b l : List ℕ) : Type 0 where
   pub store : stored .isStore b ≡ true
   pub records : stored .capacityOf b ≡ scriptRecords
   pub places : length l ≡ scriptPlaces
@@ -92,7 +92,7 @@ nextLine size end = cond (ltb end size) (end + 1) end
 
 -- the lines of a script from place `from` on, run on a store until the output has no room for a line; `r` names where the next line starts and how many bytes were put
 pub record BlockRun (u : Run) (b l : List ℕ) (script : Text) (from : ℕ) (out : Text) (r : Block) (b′ l′ : List ℕ) (out′ : Text) : Type 0 where
-  pub ready : Ready b′ l′
+  pub ready : RunReady b′ l′
   -- the lines were run one after the other, so that all that holds of one call holds of each line that reads as one
   pub called : Trace LineStep (b, l) (u .lines) (b′, l′)
   pub state : stored .stateOf b′ ≡ u .state
@@ -109,7 +109,7 @@ pub record BlockRun (u : Run) (b l : List ℕ) (script : Text) (from : ℕ) (out
 
 -- what a script leaves of a store and a list when all its lines are run
 pub record ScriptRun (b l : List ℕ) (script : Text) (b′ l′ : List ℕ) : Type 0 where
-  pub ready : Ready b′ l′
+  pub ready : RunReady b′ l′
   pub called : Trace LineStep (b, l) (linesOf script) (b′, l′)
   pub state : stored .stateOf b′ ≡ linesFinal (stored .stateOf b) (linesOf script)
   pub list : l′ ≡ linesList (stored .stateOf b) l (linesOf script)

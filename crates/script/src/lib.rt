@@ -11,7 +11,7 @@ ghost use Rattle.layouts.specs.Stored.{stored};
 ghost use Rattle.lines.specs.Lines.{linesOf};
 ghost use Rattle.print.specs.Answers.{answerLine, mostLine, Put};
 ghost use Rattle.script.specs.Scripts.{mostInput};
-ghost use Rattle.script.specs.Runs.{Ready, LineRun, runLines, BlockRun, nextLine};
+ghost use Rattle.script.specs.Runs.{RunReady, LineRun, runLines, BlockRun, nextLine};
 
 // A bound for the bytes of any line of output, with its line feed.
 const MOST_LINE: usize = 24583;
@@ -34,7 +34,7 @@ pub fn run_line(
     out: &mut [u8],
     at: usize,
 ) -> usize
-    requires { ⌜ Ready (now store) (now list) × (at + mostLine ≤ length (now out)) ⌝ }
+    requires { ⌜ RunReady (now store) (now list) × (at + mostLine ≤ length (now out)) ⌝ }
     ensures { λ r. ⌜ LineRun (now (store .entry)) (now (list .entry)) (now (line .entry)) (now (out .entry)) at (now (store .exit)) (now (list .exit)) r (now (out .exit)) ⌝ }
 {
     let reading = lines::read_line(line);
@@ -66,7 +66,7 @@ pub fn run_block(
     from: usize,
     out: &mut [u8],
 ) -> Block
-    requires { ⌜ Ready (now store) (now list) × (from ≤ length (now script)) ⌝ }
+    requires { ⌜ RunReady (now store) (now list) × (from ≤ length (now script)) ⌝ }
     ensures { λ r. ⌜ BlockRun (runLines (length (now (out .entry))) (stored .stateOf (now (store .entry))) (now (list .entry)) (linesOf (drop from (now (script .entry))))) (now (store .entry)) (now (list .entry)) (now (script .entry)) from (now (out .entry)) r (now (store .exit)) (now (list .exit)) (now (out .exit)) ⌝ }
 {
     let mut at = from;

@@ -9,7 +9,11 @@ key-of-requires : tie.Need-key-of-requires
 key-of-requires c κs = subst (Inside _) (sym (same-number _ _ (c .before .pre .0) (c .before .pre .1))) (c .before .pre .1)
 
 returns : tie.Need-returns
-returns c = c .key-of .ensures ∙ ap (keyAt _) (same-number _ _ (c .before .before .pre .0) (c .before .before .pre .1))
+returns c =
+    let at-start : tie.Start = search in
+    c .key-of .ensures ∙ ap (keyAt _) (same-number _ _ (at-start .pre .0) (at-start .pre .1))
 
 pub used-key-spec : {M : Type 1} → statement M
-used-key-spec = tie.close (tie.spec key-of-requires returns)
+used-key-spec = tie.close (tie.spec
+    key-of-requires
+    returns)

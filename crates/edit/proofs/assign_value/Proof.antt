@@ -3,10 +3,6 @@ use Rattle.chain.proofs.Found.{found-inside}
 use borrow.Author.Needs.{needs}
 use Rattle.edit.proofs.assign_value.Statement.{statement}
 use Rattle.edit.proofs.assign_value.Tie as tie
-use Rattle.edit.proofs.assign_value.Reads as reads
-use Rattle.edit.proofs.assign_value.Lts as lts
-use Rattle.chain.proofs.find.Reads as find-reads
-use Rattle.words.proofs.put_value.Reads as put-value-reads
 
 pub assign-value-spec : {M : Type 1} → statement M
 assign-value-spec =

@@ -1,6 +1,6 @@
 use borrow.Author.Needs.{needs}
 use Rattle.entries.proofs.CodeTests.{start-of-case, count-of-case}
-use Rattle.entries.specs.Queries.{inOrder}
+use Rattle.entries.specs.Queries.{entriesInOrder}
 use mathlib.Core.Path.{ap}
 use Rattle.entries.proofs.count_entries.Statement.{statement}
 use Rattle.entries.proofs.count_entries.Tie as tie
@@ -28,8 +28,8 @@ enum-told c = search needs
 
 -- src/lib.rt:452:28
 count-in-order-requires : tie.Need-count-in-order-requires
-unfolding inOrder
-count-in-order-requires c κs = (c .before .before .before .before .pre .0, c .before .before .first-record .ensures, ap inOrder (c .enum-told .given .1))
+unfolding entriesInOrder
+count-in-order-requires c κs = (c .before .before .before .before .pre .0, c .before .before .first-record .ensures, ap entriesInOrder (c .enum-told .given .1))
 
 -- src/lib.rt:453:26
 enum-told-2 : tie.Need-enum-told-2
@@ -37,8 +37,8 @@ enum-told-2 c = search needs
 
 -- src/lib.rt:453:26
 count-in-order-requires-2 : tie.Need-count-in-order-requires-2
-unfolding inOrder
-count-in-order-requires-2 c κs = (c .before .before .before .before .pre .0, c .before .before .first-record .ensures, ap inOrder (c .enum-told2 .given .1))
+unfolding entriesInOrder
+count-in-order-requires-2 c κs = (c .before .before .before .before .pre .0, c .before .before .first-record .ensures, ap entriesInOrder (c .enum-told2 .given .1))
 
 -- src/lib.rt:454:31
 enum-told-3 : tie.Need-enum-told-3
@@ -46,8 +46,8 @@ enum-told-3 c = search needs
 
 -- src/lib.rt:454:31
 count-in-order-requires-3 : tie.Need-count-in-order-requires-3
-unfolding inOrder
-count-in-order-requires-3 c κs = (c .before .before .before .before .pre .0, c .before .before .first-record .ensures, ap inOrder (c .enum-told3 .given .1))
+unfolding entriesInOrder
+count-in-order-requires-3 c κs = (c .before .before .before .before .pre .0, c .before .before .first-record .ensures, ap entriesInOrder (c .enum-told3 .given .1))
 
 -- src/lib.rt:445:1
 returns : tie.Need-returns

@@ -1,4 +1,4 @@
-use Rattle.entries.specs.Queries.{inOrder}
+use Rattle.entries.specs.Queries.{entriesInOrder}
 use mathlib.Core.Path.{_∙_, sym}
 use Rattle.entries.proofs.count_pairs.Statement.{statement}
 use Rattle.entries.proofs.count_pairs.Tie as tie
@@ -14,7 +14,7 @@ pairs-in-order-requires c κs = tt
 
 -- src/lib.rt:427:9
 count-in-order-requires : tie.Need-count-in-order-requires
-unfolding inOrder
+unfolding entriesInOrder
 count-in-order-requires c κs = (c .before .before .before .pre .0, c .before .before .before .pre .1, sym (c .before .pairs-in-order .ensures) ∙ c .if1 .taken)
 
 -- src/lib.rt:427:9

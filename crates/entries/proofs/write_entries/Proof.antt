@@ -1,6 +1,6 @@
 use borrow.Author.Needs.{needs}
 use Rattle.entries.proofs.CodeTests.{start-of-case, count-of-case, room-of-case, list-of-case}
-use Rattle.entries.specs.Queries.{inOrder}
+use Rattle.entries.specs.Queries.{entriesInOrder}
 use mathlib.Core.Path.{ap}
 use Rattle.entries.proofs.write_entries.Statement.{statement}
 use Rattle.entries.proofs.write_entries.Tie as tie
@@ -28,8 +28,8 @@ enum-told c = search needs
 
 -- src/lib.rt:468:28
 write-in-order-requires : tie.Need-write-in-order-requires
-unfolding inOrder
-write-in-order-requires c κs = (c .before .before .before .before .before .before .pre .0, c .before .before .before .first-record .ensures, ap inOrder (c .before .enum-told .given .1), c .before .before .before .before .before .before .pre .2)
+unfolding entriesInOrder
+write-in-order-requires c κs = (c .before .before .before .before .before .before .pre .0, c .before .before .before .first-record .ensures, ap entriesInOrder (c .before .enum-told .given .1), c .before .before .before .before .before .before .pre .2)
 
 -- src/lib.rt:469:53
 enum-told-2 : tie.Need-enum-told-2
@@ -37,8 +37,8 @@ enum-told-2 c = search needs
 
 -- src/lib.rt:469:26
 write-in-order-requires-2 : tie.Need-write-in-order-requires-2
-unfolding inOrder
-write-in-order-requires-2 c κs = (c .before .before .before .before .before .before .pre .0, c .before .before .before .first-record .ensures, ap inOrder (c .before .enum-told2 .given .1), c .before .before .before .before .before .before .pre .2)
+unfolding entriesInOrder
+write-in-order-requires-2 c κs = (c .before .before .before .before .before .before .pre .0, c .before .before .before .first-record .ensures, ap entriesInOrder (c .before .enum-told2 .given .1), c .before .before .before .before .before .before .pre .2)
 
 -- src/lib.rt:470:58
 enum-told-3 : tie.Need-enum-told-3
@@ -46,8 +46,8 @@ enum-told-3 c = search needs
 
 -- src/lib.rt:470:31
 write-in-order-requires-3 : tie.Need-write-in-order-requires-3
-unfolding inOrder
-write-in-order-requires-3 c κs = (c .before .before .before .before .before .before .pre .0, c .before .before .before .first-record .ensures, ap inOrder (c .before .enum-told3 .given .1), c .before .before .before .before .before .before .pre .2)
+unfolding entriesInOrder
+write-in-order-requires-3 c κs = (c .before .before .before .before .before .before .pre .0, c .before .before .before .first-record .ensures, ap entriesInOrder (c .before .enum-told3 .given .1), c .before .before .before .before .before .before .pre .2)
 
 -- src/lib.rt:460:1
 same-length : tie.Need-same-length

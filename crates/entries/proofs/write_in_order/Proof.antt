@@ -1,4 +1,4 @@
-use Rattle.entries.proofs.Ascents.{rise-inside, rise-less, rise-fits, rise-most, rise-end, Filling, fill-start, fill-length, fill-skip, fill-index, fill-on, fill-end}
+use Rattle.entries.proofs.Ascents.{rise-inside, rise-less, rise-fits, rise-most, rise-end, FillingList, fill-start, fill-length, fill-skip, fill-index, fill-on, fill-end}
 use Rattle.entries.proofs.Bounds.{silent-end, silent-outside}
 use Rattle.chain.proofs.Walks.{remaining}
 use mathlib.Core.Path.{refl}
@@ -13,7 +13,7 @@ use Rattle.words.proofs.key_of.Reads as key-of-reads
 use Rattle.words.proofs.next_of.Reads as next-of-reads
 
 abbrev Inv-loop : tie.InvT-loop
-Inv-loop b from q list₀ done₀ seen₀ at₀ list done seen at = Filling b q list₀ list done seen at
+Inv-loop b from q list₀ done₀ seen₀ at₀ list done seen at = FillingList b q list₀ list done seen at
 
 abbrev μ-loop : tie.MeasureT-loop
 μ-loop b from q list₀ done₀ seen₀ at₀ list done seen at = remaining b at

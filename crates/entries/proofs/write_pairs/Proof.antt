@@ -1,5 +1,5 @@
 use borrow.Author.Needs.{needs}
-use Rattle.entries.specs.Queries.{inOrder}
+use Rattle.entries.specs.Queries.{entriesInOrder}
 use mathlib.Core.Path.{_∙_, sym}
 use Rattle.entries.proofs.write_pairs.Statement.{statement}
 use Rattle.entries.proofs.write_pairs.Tie as tie
@@ -15,7 +15,7 @@ pairs-in-order-requires c κs = tt
 
 -- src/lib.rt:439:9
 write-in-order-requires : tie.Need-write-in-order-requires
-unfolding inOrder
+unfolding entriesInOrder
 write-in-order-requires c κs = (c .before .before .before .before .before .pre .0, c .before .before .before .before .before .pre .1, sym (c .before .before .pairs-in-order .ensures) ∙ c .before .if1 .taken, c .before .before .before .before .before .pre .2)
 
 -- src/lib.rt:439:9

@@ -7,10 +7,7 @@ use Rattle.layouts.proofs.Prepared.{follower-most}
 use Rattle.fresh.proofs.Preparing.{chained-length, chained-more}
 use Rattle.fresh.proofs.chain_free.Statement.{statement}
 use Rattle.fresh.proofs.chain_free.Tie as tie
-use Rattle.fresh.proofs.chain_free.Reads as reads
-use Rattle.fresh.proofs.chain_free.Lts as lts
-use Rattle.words.proofs.put_next.Reads as put-next-reads
-use Rattle.fresh.proofs.follower_of.Reads as follower-of-reads
+use borrow.Author.Needs.{needs}
 
 abbrev Inv-loop : tie.InvT-loop
 Inv-loop b₀ c n₀ b n = (n ≤ c - 1) × (b ≡ chained c b₀ n)
@@ -22,29 +19,11 @@ loop-holds : tie.Need-loop-holds Inv-loop μ-loop
 unfolding chained
 loop-holds c = (omega arith, refl)
 
-add-loop : tie.Need-add-loop Inv-loop μ-loop
-add-loop c = omega arith
-
-add-follower-of : tie.Need-add-follower-of Inv-loop μ-loop
-add-follower-of c = omega arith
-
-follower-of-requires : tie.Need-follower-of-requires Inv-loop μ-loop
-follower-of-requires c κs = omega arith
-
-add-put-next : tie.Need-add-put-next Inv-loop μ-loop
-add-put-next c = omega arith
-
 put-next-requires : tie.Need-put-next-requires Inv-loop μ-loop
-put-next-requires c κs = (record { low = omega arith; high = omega (arith, ap length (c .before .before .before .loop .inv .1), chained-length (c .before .before .before .before .before .args .c) (c .before .before .before .before .before .args .b .now) (c .before .before .before .loop .n)) }, omega (arith, follower-most (c .before .before .before .before .before .args .c) (c .before .before .before .loop .n + 2)))
-
-add-n : tie.Need-add-n Inv-loop μ-loop
-add-n c = omega arith
-
-loop-less : tie.Need-loop-less Inv-loop μ-loop
-loop-less c = omega arith
-
-loop-again : tie.Need-loop-again Inv-loop μ-loop
-loop-again c = (omega arith, chained-more _ _ (c .before .before .before .before .before .before .loop .n) (c .before .before .before .before .before .before .loop .b) (c .before .before .put-next .last .0) (c .before .before .before .before .follower-of .result) (c .before .before .before .before .before .before .loop .inv .1) (c .before .before .before .before .follower-of .ensures) (c .before .before .put-next .ensures))
+put-next-requires c κs =
+    let at-at-loop : tie.At-loop Inv-loop μ-loop = search in
+    let at-start : tie.Start Inv-loop μ-loop = search in
+    (record { low = omega arith; high = omega (arith, ap length (at-at-loop .loop .inv .1), chained-length (at-start .args .c) (at-start .args .b .now) (at-at-loop .loop .n)) }, omega (arith, follower-most (at-start .args .c) (at-at-loop .loop .n + 2)))
 
 same-length : tie.Need-same-length Inv-loop μ-loop
 same-length c = ap length (c .before .loop .inv .1) ∙ chained-length _ _ _
@@ -59,13 +38,13 @@ chain-free-spec =
     Inv-loop
     μ-loop
     loop-holds
-    add-loop
-    add-follower-of
-    follower-of-requires
-    add-put-next
+    (λ c. omega arith)
+    (λ c. omega arith)
+    (λ c κs. omega arith)
+    (λ c. omega arith)
     put-next-requires
-    add-n
-    loop-less
-    loop-again
+    (λ c. omega arith)
+    (λ c. omega arith)
+    (λ c. search (needs, chained-more))
     same-length
     returns)

@@ -3,12 +3,6 @@ use native.Mathlib.Omega.{arith}
 use borrow.Author.Needs.{needs}
 use Rattle.fresh.proofs.fill.Statement.{statement}
 use Rattle.fresh.proofs.fill.Tie as tie
-use Rattle.fresh.proofs.fill.Reads as reads
-use Rattle.fresh.proofs.fill.Lts as lts
-use Rattle.fresh.proofs.chain_free.Reads as chain-free-reads
-use Rattle.fresh.proofs.put_heads.Reads as put-heads-reads
-use Rattle.fresh.proofs.put_universe.Reads as put-universe-reads
-use Rattle.words.proofs.capacity.Reads as capacity-reads
 
 chain-free-requires : tie.Need-chain-free-requires
 chain-free-requires c κs =

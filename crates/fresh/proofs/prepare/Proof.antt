@@ -3,10 +3,6 @@ use native.Mathlib.Omega.{arith}
 use borrow.Author.Needs.{needs}
 use Rattle.fresh.proofs.prepare.Statement.{statement}
 use Rattle.fresh.proofs.prepare.Tie as tie
-use Rattle.fresh.proofs.prepare.Reads as reads
-use Rattle.fresh.proofs.prepare.Lts as lts
-use Rattle.fresh.proofs.fill.Reads as fill-reads
-use Rattle.words.proofs.fits_length.Reads as fits-length-reads
 
 cast-t9 : tie.Need-cast-t9
 cast-t9 c =

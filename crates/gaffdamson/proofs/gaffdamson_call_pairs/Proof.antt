@@ -49,7 +49,7 @@ use Rattle.model.proofs.Call.Laws as CT′
 use Rattle.model.proofs.Pair as PT
 use Rattle.pairs.specs.InPairs.{CallInPairs}
 use Rattle.gaffdamson.specs.Numbers.{PackedAs}
-use Rattle.gaffdamson.specs.Calls.{callOf, CalledInPairs}
+use Rattle.gaffdamson.specs.Calls.{callOfNumbers, CalledInPairs}
 use Rattle.gaffdamson.proofs.Outcomes.{pairs-counted, called-in-pairs}
 use Rattle.gaffdamson.proofs.call_of as call-of
 use Rattle.gaffdamson.proofs.call_of.Symbol as call-of-def
@@ -102,8 +102,8 @@ module _ {M : Type 1} (𝓤 : URA M) (H : Heap 𝓤) (A : Atoms 𝓤) (mem′ : 
 
   -- of what `call_of` and `pack_answer` ensure, the clause alone: they have no last values
   call-told : (op n g m v form sp : ℕ) (c : Call)
-      → ent 𝓤 (ensured 𝓤 H A call-of.ended (call-of.clauses 𝓤 H A mem′ run) tt (op, (n, (g, (m, (v, (form, (sp, tt))))))) tt c) (fact 𝓤 (c ≡ callOf op n g m v form sp))
-  call-told op n g m v form sp c = exE 𝓤 _ (λ us. snd∗ 𝓤 (sem 𝓤 H A (lasts call-of.ended tt (op, (n, (g, (m, (v, (form, (sp, tt))))))) us)) (fact 𝓤 (c ≡ callOf op n g m v form sp)))
+      → ent 𝓤 (ensured 𝓤 H A call-of.ended (call-of.clauses 𝓤 H A mem′ run) tt (op, (n, (g, (m, (v, (form, (sp, tt))))))) tt c) (fact 𝓤 (c ≡ callOfNumbers op n g m v form sp))
+  call-told op n g m v form sp c = exE 𝓤 _ (λ us. snd∗ 𝓤 (sem 𝓤 H A (lasts call-of.ended tt (op, (n, (g, (m, (v, (form, (sp, tt))))))) us)) (fact 𝓤 (c ≡ callOfNumbers op n g m v form sp)))
 
   pack-told : (r : Answer) (k : ℕ) → ent 𝓤 (ensured 𝓤 H A pack-answer.ended (pack-answer.clauses 𝓤 H A mem′ run) tt (r, tt) tt k) (fact 𝓤 (PackedAs r k))
   pack-told r k = exE 𝓤 _ (λ us. snd∗ 𝓤 (sem 𝓤 H A (lasts pack-answer.ended tt (r, tt) us)) (fact 𝓤 (PackedAs r k)))
@@ -143,7 +143,7 @@ module _ {M : Type 1} (𝓤 : URA M) (H : Heap 𝓤) (A : Atoms 𝓤) (W : Given
   given-vals = s ∷ vint w32 op ∷ vint w16 n ∷ vint w16 g ∷ vint w16 m ∷ vint w32 v ∷ vint w32 form ∷ vint w16 sp ∷ s′ ∷ []
 
   abbrev the-call : Call
-  the-call = callOf op n g m v form sp
+  the-call = callOfNumbers op n g m v form sp
 
   -- the last values of what `execute_pairs` is lent: of the store, and of the list
   abbrev Lasts : Type 0

@@ -6,28 +6,29 @@ use mathlib.Core.Path.{_∙_, sym}
 use borrow.Author.Needs.{needs}
 use Rattle.taken.proofs.node_taken.Statement.{statement}
 use Rattle.taken.proofs.node_taken.Tie as tie
-use Rattle.taken.proofs.node_taken.Reads as reads
-use Rattle.taken.proofs.node_taken.Lts as lts
-use Rattle.taken.proofs.reaches_space.Reads as reaches-space-reads
 
--- src/lib.rt:121:9
-reaches-space-requires : tie.Need-reaches-space-requires
-reaches-space-requires c κs = search needs
-
--- src/lib.rt:122:9
 returns : tie.Need-returns
 unfolding nodeTaken
 returns c = and-no _ _ (sym (c .before .reaches-space .ensures) ∙ not-yes _ (c .if1 .taken))
 
--- src/lib.rt:125:9
 returns-2 : tie.Need-returns-2
 unfolding nodeTaken
-returns-2 c = or-yes _ _ (eq-eqb _ _ (c .if2 .taken)) ∙ and-yes _ _ (sym (c .before .before .before .before .reaches-space .ensures) ∙ not-no _ (c .before .before .before .if1 .left))
+returns-2 c =
+    let at-else1 : tie.Else1 = search in
+    let at-reaches-space : tie.After-reaches-space = search in
+    or-yes _ _ (eq-eqb _ _ (c .if2 .taken)) ∙ and-yes _ _ (sym (at-reaches-space .reaches-space .ensures) ∙ not-no _ (at-else1 .if1 .left))
 
--- src/lib.rt:118:1
 returns-3 : tie.Need-returns-3
 unfolding nodeTaken
-returns-3 c = or-no _ _ (ne-eqb _ _ (c .before .before .if2 .left)) ∙ and-yes _ _ (sym (c .before .before .before .before .before .before .reaches-space .ensures) ∙ not-no _ (c .before .before .before .before .before .if1 .left))
+returns-3 c =
+    let at-else2 : tie.Else2 = search in
+    let at-else1 : tie.Else1 = search in
+    let at-reaches-space : tie.After-reaches-space = search in
+    or-no _ _ (ne-eqb _ _ (at-else2 .if2 .left)) ∙ and-yes _ _ (sym (at-reaches-space .reaches-space .ensures) ∙ not-no _ (at-else1 .if1 .left))
 
 pub node-taken-spec : {M : Type 1} → statement M
-node-taken-spec = tie.close (tie.spec reaches-space-requires returns returns-2 returns-3)
+node-taken-spec = tie.close (tie.spec
+    (λ c κs. search needs)
+    returns
+    returns-2
+    returns-3)

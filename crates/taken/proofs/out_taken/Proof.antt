@@ -2,25 +2,13 @@ use Rattle.taken.proofs.Tests.{out-no-edge, out-other, out-pair}
 use borrow.Author.Needs.{needs}
 use Rattle.taken.proofs.out_taken.Statement.{statement}
 use Rattle.taken.proofs.out_taken.Tie as tie
-use Rattle.taken.proofs.out_taken.Reads as reads
-use Rattle.taken.proofs.out_taken.Lts as lts
-use Rattle.taken.proofs.passes_pair.Reads as passes-pair-reads
 
--- src/lib.rt:69:9
 returns : tie.Need-returns
 returns c = out-no-edge _ _ _ (c .if1 .taken)
 
--- src/lib.rt:72:9
-returns-2 : tie.Need-returns-2
-returns-2 c = out-other _ _ _ (c .before .before .if1 .left) (c .if2 .taken)
-
--- src/lib.rt:74:5
-passes-pair-requires : tie.Need-passes-pair-requires
-passes-pair-requires c κs = search needs
-
--- src/lib.rt:65:1
-returns-3 : tie.Need-returns-3
-returns-3 c = out-pair _ _ _ _ (c .before .before .before .if1 .left) (c .before .if2 .left) (c .passes-pair .ensures)
-
 pub out-taken-spec : {M : Type 1} → statement M
-out-taken-spec = tie.close (tie.spec returns returns-2 passes-pair-requires returns-3)
+out-taken-spec = tie.close (tie.spec
+    returns
+    (λ c. search out-other)
+    (λ c κs. search needs)
+    (λ c. search out-pair))

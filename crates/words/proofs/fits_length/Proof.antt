@@ -2,8 +2,6 @@ use borrow.Author.Tests.{le-leb, lt-leb}
 use Rattle.layouts.specs.Buffer.{leastLength, fitsLength}
 use Rattle.words.proofs.fits_length.Statement.{statement}
 use Rattle.words.proofs.fits_length.Tie as tie
-use Rattle.words.proofs.fits_length.Reads as reads
-use Rattle.words.proofs.fits_length.Lts as lts
 
 returns : tie.Need-returns
 unfolding fitsLength

@@ -2,9 +2,6 @@ use Rattle.layouts.specs.Buffer.{keyAt}
 use borrow.Author.Needs.{needs}
 use Rattle.words.proofs.key_of.Statement.{statement}
 use Rattle.words.proofs.key_of.Tie as tie
-use Rattle.words.proofs.key_of.Reads as reads
-use Rattle.words.proofs.key_of.Lts as lts
-use Rattle.words.proofs.word_of.Reads as word-of-reads
 
 returns : tie.Need-returns
 unfolding keyAt

@@ -2,10 +2,6 @@ use Rattle.layouts.specs.Buffer.{next}
 use borrow.Author.Needs.{needs}
 use Rattle.words.proofs.next_of.Statement.{statement}
 use Rattle.words.proofs.next_of.Tie as tie
-use Rattle.words.proofs.next_of.Reads as reads
-use Rattle.words.proofs.next_of.Lts as lts
-use Rattle.words.proofs.index_of.Reads as index-of-reads
-use Rattle.words.proofs.word_of.Reads as word-of-reads
 
 returns : tie.Need-returns
 unfolding next

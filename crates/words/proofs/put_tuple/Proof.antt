@@ -2,9 +2,6 @@ use Rattle.words.specs.Words.{putTuple}
 use borrow.Author.Needs.{needs}
 use Rattle.words.proofs.put_tuple.Statement.{statement}
 use Rattle.words.proofs.put_tuple.Tie as tie
-use Rattle.words.proofs.put_tuple.Reads as reads
-use Rattle.words.proofs.put_tuple.Lts as lts
-use Rattle.words.proofs.put_word.Reads as put-word-reads
 
 returns : tie.Need-returns
 unfolding putTuple
