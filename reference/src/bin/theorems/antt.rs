@@ -10,7 +10,8 @@ use gaffdamson_reference::machine::{Answer, Call, Key, Space, Value};
 use gaffdamson_reference::random::lists::Run;
 
 /// The files of the definitions that compute.
-const MODULES: [&str; 9] = [
+const MODULES: [&str; 11] = [
+    "Numbers",
     "Ordered",
     "Keys",
     "Tuples",
@@ -19,6 +20,7 @@ const MODULES: [&str; 9] = [
     "Steps",
     "Refusals",
     "Machine",
+    "Rules",
     "Buffer",
 ];
 
@@ -35,16 +37,16 @@ use Rattle.model.specs.Keys.{Tuple}
 use Rattle.model.specs.Tuples.{Tuples, fresh}
 use Rattle.model.specs.Pairs.{pair}
 use Rattle.model.specs.Steps.{Reply, refusal, name, valued, yesNo, pairs}
-use Rattle.model.specs.Machine.{Request}
+use Rattle.model.specs.Machine.{Request, calling}
 ";
 
 const ABBREVIATIONS: &str = "
 abbrev call : ℕ → ℕ → ℕ → ℕ → ℕ → Space → ℕ → Request
 call operator n g m v s room =
-    record {
+    calling (record {
       call = record { operator = operator; n = record { 0 = n }; g = record { 0 = g }; m = record { 0 = m }; v = v; s = s };
       room = room
-    }
+    })
 
 abbrev numbered : ℕ → Space
 numbered s = Numbered (record { 0 = s })
