@@ -1,18 +1,11 @@
 use native.Mathlib.Omega.{arith}
 use Prim.Native.Nat.{ℕ}
-use borrow.Author.Tests.{not-true, not-false}
-use mathlib.Core.Path.{_≡_, refl, ap, _∙_}
+use mathlib.Core.Path.{refl, ap, _∙_}
 use Rattle.model.specs.Keys.{edgeKey}
 use Rattle.presence.specs.Presence.{isAt, edgeRecord, lookFrom, edgeShown}
 use Rattle.presence.proofs.Hints.{edge-slot-below, Looking, look-start, look-found, look-none, look-next, look-end, at-mark, mark-record}
 use Rattle.presence.proofs.marks.edge_shown.Statement.{statement}
 use Rattle.presence.proofs.marks.edge_shown.Tie as tie
-use Rattle.presence.proofs.marks.edge_shown.Reads as reads
-use Rattle.presence.proofs.marks.edge_shown.Lts as lts
-use Rattle.presence.proofs.marks.edge_record.Reads as edge-record-reads
-use Rattle.presence.proofs.marks.edge_slot.Reads as edge-slot-reads
-use Rattle.presence.proofs.marks.mark_at.Reads as mark-at-reads
-use Rattle.presence.proofs.seek.is_at.Reads as is-at-reads
 
 abbrev Inv-loop : tie.InvT-loop
 Inv-loop b marks edge at₀ left₀ at left = Looking (λ (w : ℕ). isAt b (edgeRecord w) edge) marks at₀ at left
@@ -24,40 +17,42 @@ edge-slot-requires : tie.Need-edge-slot-requires Inv-loop μ-loop
 edge-slot-requires c κs = tt
 
 loop-holds : tie.Need-loop-holds Inv-loop μ-loop
-loop-holds c = look-start _ _ _ _ refl (omega (arith, c .edge-slot .ensures, edge-slot-below (c .before .before .before .args .k)))
-
-mark-at-requires : tie.Need-mark-at-requires Inv-loop μ-loop
-mark-at-requires c κs = omega (arith, c .before .loop .inv .below, c .before .before .before .before .before .pre .1 .size)
+loop-holds c =
+    let at-start : tie.Start Inv-loop μ-loop = search in
+    look-start _ _ _ _ refl (omega (arith, c .edge-slot .ensures, edge-slot-below (at-start .args .k)))
 
 edge-record-requires : tie.Need-edge-record-requires Inv-loop μ-loop
 edge-record-requires c κs = tt
 
-is-at-requires : tie.Need-is-at-requires Inv-loop μ-loop
-is-at-requires c κs = (c .before .before .before .before .before .before .before .pre .0, mark-record _ _ (c .before .before .before .before .before .before .before .pre .1) _ _ _ (c .before .mark-at .ensures) (c .edge-record .ensures))
-
 returns : tie.Need-returns Inv-loop μ-loop
 unfolding edgeShown
-returns c = look-found _ _ _ (c .before .before .before .before .before .loop .at) (c .before .before .before .before .before .loop .left) (c .before .before .before .before .before .loop .inv) (c .before .before .before .before .loop-test .taken) (at-mark (c .before .before .before .before .before .before .before .before .before .args .b .now) (c .before .before .before .before .before .before .before .before .before .args .marks .now) (c .before .before .before .before .before .loop .at) (c .before .before .before .before .before .before .before .before .before .args .k) _ _ (c .before .before .before .mark-at .ensures) (c .before .before .edge-record .ensures) _ refl _ _ (c .before .is-at .ensures) (c .if1 .taken)) ∙ ap (lookFrom (λ (w : ℕ). isAt (c .before .before .before .before .before .before .before .before .before .args .b .now) (edgeRecord w) (edgeKey 0 (c .before .before .before .before .before .before .before .before .before .args .k .n) (c .before .before .before .before .before .before .before .before .before .args .k .g) (c .before .before .before .before .before .before .before .before .before .args .k .m))) 64 (c .before .before .before .before .before .before .before .before .before .args .marks .now)) (c .before .before .before .before .before .before .edge-slot .ensures)
+returns c =
+    let at-edge-record : tie.After-edge-record Inv-loop μ-loop = search in
+    let at-mark-at : tie.After-mark-at Inv-loop μ-loop = search in
+    let at-in-loop : tie.In-loop Inv-loop μ-loop = search in
+    let at-at-loop : tie.At-loop Inv-loop μ-loop = search in
+    let at-edge-slot : tie.After-edge-slot Inv-loop μ-loop = search in
+    let at-start : tie.Start Inv-loop μ-loop = search in
+    look-found _ _ _ (at-at-loop .loop .at) (at-at-loop .loop .left) (at-at-loop .loop .inv) (at-in-loop .loop-test .taken) (at-mark (at-start .args .b .now) (at-start .args .marks .now) (at-at-loop .loop .at) (at-start .args .k) _ _ (at-mark-at .mark-at .ensures) (at-edge-record .edge-record .ensures) _ refl _ _ (c .before .is-at .ensures) (c .if1 .taken)) ∙ ap (lookFrom (λ (w : ℕ). isAt (at-start .args .b .now) (edgeRecord w) (edgeKey 0 (at-start .args .k .n) (at-start .args .k .g) (at-start .args .k .m))) 64 (at-start .args .marks .now)) (at-edge-slot .edge-slot .ensures)
 
 returns-2 : tie.Need-returns-2 Inv-loop μ-loop
 unfolding edgeShown
-returns-2 c = look-none _ _ _ (c .before .before .before .before .before .before .loop .at) (c .before .before .before .before .before .before .loop .left) (c .before .before .before .before .before .before .loop .inv) (c .before .before .before .before .before .loop-test .taken) (at-mark (c .before .before .before .before .before .before .before .before .before .before .args .b .now) (c .before .before .before .before .before .before .before .before .before .before .args .marks .now) (c .before .before .before .before .before .before .loop .at) (c .before .before .before .before .before .before .before .before .before .before .args .k) _ _ (c .before .before .before .before .mark-at .ensures) (c .before .before .before .edge-record .ensures) _ refl _ _ (c .before .before .is-at .ensures) (c .before .if1 .left)) _ (c .before .before .before .before .mark-at .ensures) (c .if2 .taken) ∙ ap (lookFrom (λ (w : ℕ). isAt (c .before .before .before .before .before .before .before .before .before .before .args .b .now) (edgeRecord w) (edgeKey 0 (c .before .before .before .before .before .before .before .before .before .before .args .k .n) (c .before .before .before .before .before .before .before .before .before .before .args .k .g) (c .before .before .before .before .before .before .before .before .before .before .args .k .m))) 64 (c .before .before .before .before .before .before .before .before .before .before .args .marks .now)) (c .before .before .before .before .before .before .before .edge-slot .ensures)
-
-add-at : tie.Need-add-at Inv-loop μ-loop
-add-at c = omega (arith, c .before .before .before .before .before .before .loop .inv .below)
-
-sub-left : tie.Need-sub-left Inv-loop μ-loop
-sub-left c = omega (arith, c .before .before .before .before .before .loop-test .taken)
-
-loop-less : tie.Need-loop-less Inv-loop μ-loop
-loop-less c = omega (arith, c .before .before .before .before .before .loop-test .taken)
-
-loop-again : tie.Need-loop-again Inv-loop μ-loop
-loop-again c = look-next _ _ _ (c .before .before .before .before .before .before .loop .at) (c .before .before .before .before .before .before .loop .left) (c .before .before .before .before .before .before .loop .inv) (c .before .before .before .before .before .loop-test .taken) (at-mark (c .before .before .before .before .before .before .before .before .before .before .args .b .now) (c .before .before .before .before .before .before .before .before .before .before .args .marks .now) (c .before .before .before .before .before .before .loop .at) (c .before .before .before .before .before .before .before .before .before .before .args .k) _ _ (c .before .before .before .before .mark-at .ensures) (c .before .before .before .edge-record .ensures) _ refl _ _ (c .before .before .is-at .ensures) (c .before .if1 .left)) _ (c .before .before .before .before .mark-at .ensures) (c .if2 .left)
+returns-2 c =
+    let at-is-at : tie.After-is-at Inv-loop μ-loop = search in
+    let at-edge-record : tie.After-edge-record Inv-loop μ-loop = search in
+    let at-mark-at : tie.After-mark-at Inv-loop μ-loop = search in
+    let at-in-loop : tie.In-loop Inv-loop μ-loop = search in
+    let at-at-loop : tie.At-loop Inv-loop μ-loop = search in
+    let at-edge-slot : tie.After-edge-slot Inv-loop μ-loop = search in
+    let at-start : tie.Start Inv-loop μ-loop = search in
+    look-none _ _ _ (at-at-loop .loop .at) (at-at-loop .loop .left) (at-at-loop .loop .inv) (at-in-loop .loop-test .taken) (at-mark (at-start .args .b .now) (at-start .args .marks .now) (at-at-loop .loop .at) (at-start .args .k) _ _ (at-mark-at .mark-at .ensures) (at-edge-record .edge-record .ensures) _ refl _ _ (at-is-at .is-at .ensures) (c .before .if1 .left)) _ (at-mark-at .mark-at .ensures) (c .if2 .taken) ∙ ap (lookFrom (λ (w : ℕ). isAt (at-start .args .b .now) (edgeRecord w) (edgeKey 0 (at-start .args .k .n) (at-start .args .k .g) (at-start .args .k .m))) 64 (at-start .args .marks .now)) (at-edge-slot .edge-slot .ensures)
 
 returns-3 : tie.Need-returns-3 Inv-loop μ-loop
 unfolding edgeShown
-returns-3 c = look-end _ _ _ (c .before .loop .at) (c .before .loop .left) (c .before .loop .inv) (c .loop-test .left) ∙ ap (lookFrom (λ (w : ℕ). isAt (c .before .before .before .before .before .args .b .now) (edgeRecord w) (edgeKey 0 (c .before .before .before .before .before .args .k .n) (c .before .before .before .before .before .args .k .g) (c .before .before .before .before .before .args .k .m))) 64 (c .before .before .before .before .before .args .marks .now)) (c .before .before .edge-slot .ensures)
+returns-3 c =
+    let at-edge-slot : tie.After-edge-slot Inv-loop μ-loop = search in
+    let at-start : tie.Start Inv-loop μ-loop = search in
+    look-end _ _ _ (c .before .loop .at) (c .before .loop .left) (c .before .loop .inv) (c .loop-test .left) ∙ ap (lookFrom (λ (w : ℕ). isAt (at-start .args .b .now) (edgeRecord w) (edgeKey 0 (at-start .args .k .n) (at-start .args .k .g) (at-start .args .k .m))) 64 (at-start .args .marks .now)) (at-edge-slot .edge-slot .ensures)
 
 pub edge-shown-spec : {M : Type 1} → statement M
 edge-shown-spec =
@@ -67,13 +62,13 @@ edge-shown-spec =
     μ-loop
     edge-slot-requires
     loop-holds
-    mark-at-requires
+    (λ c κs. omega arith)
     edge-record-requires
-    is-at-requires
+    (λ c κs. search mark-record)
     returns
     returns-2
-    add-at
-    sub-left
-    loop-less
-    loop-again
+    (λ c. omega arith)
+    (λ c. omega arith)
+    (λ c. omega arith)
+    (λ c. search (look-next, at-mark))
     returns-3)

@@ -3,11 +3,6 @@ use native.Mathlib.Omega.{arith}
 use borrow.Author.Needs.{needs}
 use Rattle.verify.proofs.chains.heads_fit.Statement.{statement}
 use Rattle.verify.proofs.chains.heads_fit.Tie as tie
-use Rattle.verify.proofs.chains.heads_fit.Reads as reads
-use Rattle.verify.proofs.chains.heads_fit.Lts as lts
-use Rattle.words.proofs.head_word.Reads as head-word-reads
-use Rattle.words.proofs.capacity.Reads as capacity-reads
-use Rattle.words.proofs.fits_length.Reads as fits-length-reads
 
 capacity-requires : tie.Need-capacity-requires
 capacity-requires c κs = search heads-there

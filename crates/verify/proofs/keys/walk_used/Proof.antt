@@ -13,20 +13,7 @@ use Rattle.verify.proofs.OneWalk.{Using, head-some, not-started, using-
 use Rattle.verify.proofs.UsedRuns.{run-unstarted, run-started, run-end, run-far, run-no, run-on}
 use Rattle.verify.proofs.keys.walk_used.Statement.{statement}
 use Rattle.verify.proofs.keys.walk_used.Tie as tie
-use Rattle.verify.proofs.keys.walk_used.Reads as reads
-use Rattle.verify.proofs.keys.walk_used.Lts as lts
-use Rattle.words.proofs.head_word.Reads as head-word-reads
-use Rattle.words.proofs.key_of.Reads as key-of-reads
-use Rattle.chain.proofs.next_of.Reads as next-of-reads
-use Rattle.verify.proofs.chains.step.Reads as step-reads
-use Rattle.presence.proofs.ends.take.Reads as take-reads
-use Rattle.verify.proofs.keys.ended.Reads as ended-reads
-use Rattle.verify.proofs.keys.free_start.Reads as free-start-reads
-use Rattle.verify.proofs.keys.key_follows.Reads as key-follows-reads
-use Rattle.verify.proofs.keys.may_meet.Reads as may-meet-reads
-use Rattle.verify.proofs.keys.starts_right.Reads as starts-right-reads
-use Rattle.verify.proofs.keys.stopped.Reads as stopped-reads
-use Rattle.words.proofs.capacity.Reads as capacity-reads
+use borrow.Author.Needs.{needs}
 
 abbrev Inv-loop : tie.InvT-loop
 Inv-loop b marks₀ list₀ c free₀ found₀ left₀ last₀ at₀ marks list free found left last at = (c ≡ capacityOf b) × Using b marks list found left last at free × (usedRun b left at last found free marks list ≡ usedRunOf b marks₀ list₀)
@@ -34,44 +21,32 @@ Inv-loop b marks₀ list₀ c free₀ found₀ left₀ last₀ at₀ marks list 
 abbrev μ-loop : tie.MeasureT-loop
 μ-loop b marks₀ list₀ c free₀ found₀ left₀ last₀ at₀ marks list free found left last at = left
 
-starts-right-requires : tie.Need-starts-right-requires Inv-loop μ-loop
-starts-right-requires c κs = c .before .before .before .pre .0
-
 stopped-requires : tie.Need-stopped-requires Inv-loop μ-loop
 stopped-requires c κs = tt
 
 returns : tie.Need-returns Inv-loop μ-loop
-returns c = (ap walkedOf (c .stopped .ensures) ∙ not-started (c .before .before .before .before .before .before .args .b .now) (c .before .before .before .before .before .before .pre .0) _ (c .before .before .starts-right .ensures) (not-true _ (c .before .if1 .taken)), (λ y. absurd (false≢true (sym (ap (λ (u : Used). u .ended) (c .stopped .ensures)) ∙ y)), run-unstarted (c .before .before .before .before .before .before .args .b .now) _ _ _ (c .before .before .starts-right .ensures) (not-true _ (c .before .if1 .taken)) _ (c .stopped .ensures)))
-
-capacity-requires : tie.Need-capacity-requires Inv-loop μ-loop
-capacity-requires c κs = omega (arith, c .before .before .before .before .before .pre .0 .least)
-
-free-start-requires : tie.Need-free-start-requires Inv-loop μ-loop
-free-start-requires c κs = c .before .before .before .before .before .before .pre .0
+returns c =
+    let at-starts-right : tie.After-starts-right Inv-loop μ-loop = search in
+    let at-start : tie.Start Inv-loop μ-loop = search in
+    (ap walkedOf (c .stopped .ensures) ∙ not-started (at-start .args .b .now) (at-start .pre .0) _ (at-starts-right .starts-right .ensures) (not-true _ (c .before .if1 .taken)), (λ y. absurd (false≢true (sym (ap (λ (u : Used). u .ended) (c .stopped .ensures)) ∙ y)), run-unstarted (at-start .args .b .now) _ _ _ (at-starts-right .starts-right .ensures) (not-true _ (c .before .if1 .taken)) _ (c .stopped .ensures)))
 
 sub-left : tie.Need-sub-left Inv-loop μ-loop
-sub-left c = omega (arith, c .before .capacity .ensures, some-record (c .before .before .before .before .before .before .before .args .b .now) (c .before .before .before .before .before .before .before .pre .0 .least) (c .before .before .before .before .before .before .before .pre .0 .most))
-
-head-word-requires : tie.Need-head-word-requires Inv-loop μ-loop
-head-word-requires c κs = omega (arith, c .before .before .before .before .before .before .before .pre .0 .least)
+sub-left c =
+    let at-start : tie.Start Inv-loop μ-loop = search in
+    omega (arith, c .before .capacity .ensures, some-record (at-start .args .b .now) (at-start .pre .0 .least) (at-start .pre .0 .most))
 
 next-of-requires : tie.Need-next-of-requires Inv-loop μ-loop
-next-of-requires c κs = record-inside _ _ (c .before .before .before .before .before .before .before .before .pre .0) (omega (arith, c .head-word .ensures, c .before .before .before .before .before .before .before .before .pre .0 .usedHead)) (head-some (c .before .before .before .before .before .before .before .before .args .b .now) _ (c .before .before .before .before .starts-right .ensures) (not-false _ (c .before .before .before .if1 .left)) _ (c .head-word .ensures))
-
-loop-holds : tie.Need-loop-holds Inv-loop μ-loop
-loop-holds c = (c .before .before .before .capacity .ensures, using-start (c .before .before .before .before .before .before .before .before .before .args .b .now) (c .before .before .before .before .before .before .before .before .before .pre .0) _ (c .before .before .before .before .before .starts-right .ensures) (not-false _ (c .before .before .before .before .if1 .left)) _ (c .before .head-word .ensures) _ _ (c .before .before .before .capacity .ensures) (c .next-of .ensures) _ (c .before .before .before .before .before .before .before .before .before .pre .1) _ (c .before .before .before .before .before .before .before .before .before .pre .2) _ (c .before .before .free-start .ensures), run-started (c .before .before .before .before .before .before .before .before .before .args .b .now) _ _ _ (c .before .before .before .before .before .starts-right .ensures) (not-false _ (c .before .before .before .before .if1 .left)) _ _ _ _ (c .before .before .before .capacity .ensures) (c .before .head-word .ensures) (c .next-of .ensures) (c .before .before .free-start .ensures))
+next-of-requires c κs =
+    let at-else1 : tie.Else1 Inv-loop μ-loop = search in
+    let at-starts-right : tie.After-starts-right Inv-loop μ-loop = search in
+    let at-start : tie.Start Inv-loop μ-loop = search in
+    record-inside _ _ (at-start .pre .0) (omega (arith, c .head-word .ensures, at-start .pre .0 .usedHead)) (head-some (at-start .args .b .now) _ (at-starts-right .starts-right .ensures) (not-false _ (at-else1 .if1 .left)) _ (c .head-word .ensures))
 
 may-meet-requires : tie.Need-may-meet-requires Inv-loop μ-loop
 may-meet-requires c κs = tt
 
 stopped-requires-2 : tie.Need-stopped-requires-2 Inv-loop μ-loop
 stopped-requires-2 c κs = tt
-
-same-length : tie.Need-same-length Inv-loop μ-loop
-same-length c = c .before .before .before .before .loop .inv .1 .fit .size ∙ sym (c .before .before .before .before .before .before .before .before .before .before .before .before .before .before .pre .1 .size)
-
-same-length-2 : tie.Need-same-length-2 Inv-loop μ-loop
-same-length-2 c = c .before .before .before .before .loop .inv .1 .listed .size ∙ sym (c .before .before .before .before .before .before .before .before .before .before .before .before .before .before .pre .2)
 
 returns-2 : tie.Need-returns-2 Inv-loop μ-loop
 returns-2 c = (ap walkedOf (c .stopped2 .ensures) ∙ using-far (c .before .before .before .before .before .before .before .before .before .before .before .before .before .before .args .b .now) (c .before .before .before .before .before .before .before .before .before .before .before .before .before .before .pre .0) _ _ (c .before .before .before .before .loop .found) (c .before .before .before .before .loop .left) (c .before .before .before .before .loop .last) (c .before .before .before .before .loop .at) (c .before .before .before .before .loop .free) (c .before .before .before .before .loop .inv .1) (c .before .before .before .loop-test .taken) _ (c .before .before .before .before .loop .inv .0) _ (c .before .before .may-meet .ensures) (not-true _ (c .before .if2 .taken)), (λ y. absurd (false≢true (sym (ap (λ (u : Used). u .ended) (c .stopped2 .ensures)) ∙ y)), run-far (c .before .before .before .before .before .before .before .before .before .before .before .before .before .before .args .b .now) (c .before .before .before .before .loop .left) (c .before .before .before .before .loop .at) (c .before .before .before .before .loop .last) (c .before .before .before .before .loop .found) (c .before .before .before .before .loop .free) (c .before .before .before .before .loop .marks) (c .before .before .before .before .loop .list) (c .before .before .before .loop-test .taken) _ (c .before .before .before .before .loop .inv .0) _ (c .before .before .may-meet .ensures) (not-true _ (c .before .if2 .taken)) _ (c .stopped2 .ensures) ∙ c .before .before .before .before .loop .inv .2))
@@ -82,9 +57,6 @@ key-of-requires c κs = record-inside _ _ (c .before .before .before .before .be
 next-of-requires-2 : tie.Need-next-of-requires-2 Inv-loop μ-loop
 next-of-requires-2 c κs = record-inside _ _ (c .before .before .before .before .before .before .before .before .before .before .before .before .before .before .pre .0) (using-high (c .before .before .before .before .before .before .before .before .before .before .before .before .before .before .args .b .now) (c .before .before .before .before .before .before .before .before .before .before .before .before .before .before .pre .0) _ _ (c .before .before .before .before .loop .found) (c .before .before .before .before .loop .left) (c .before .before .before .before .loop .last) (c .before .before .before .before .loop .at) (c .before .before .before .before .loop .free) (c .before .before .before .before .loop .inv .1) (c .before .before .before .loop-test .taken) _ (c .before .before .before .before .loop .inv .0) _ (c .before .before .may-meet .ensures) (not-false _ (c .before .if2 .left))) (c .before .before .before .loop-test .taken)
 
-key-of-requires-2 : tie.Need-key-of-requires-2 Inv-loop μ-loop
-key-of-requires-2 c κs = record-inside _ _ (c .before .before .before .before .before .before .before .before .before .before .before .before .before .before .before .pre .0) (c .before .before .before .before .before .loop .inv .1 .within) (c .before .before .before .before .before .loop .inv .1 .met)
-
 key-follows-requires : tie.Need-key-follows-requires Inv-loop μ-loop
 key-follows-requires c κs = tt
 
@@ -92,10 +64,16 @@ stopped-requires-3 : tie.Need-stopped-requires-3 Inv-loop μ-loop
 stopped-requires-3 c κs = tt
 
 same-length-3 : tie.Need-same-length-3 Inv-loop μ-loop
-same-length-3 c = c .before .before .before .before .before .before .before .before .before .loop .inv .1 .fit .size ∙ sym (c .before .before .before .before .before .before .before .before .before .before .before .before .before .before .before .before .before .before .before .pre .1 .size)
+same-length-3 c =
+    let at-at-loop : tie.At-loop Inv-loop μ-loop = search in
+    let at-start : tie.Start Inv-loop μ-loop = search in
+    at-at-loop .loop .inv .1 .fit .size ∙ sym (at-start .pre .1 .size)
 
 same-length-4 : tie.Need-same-length-4 Inv-loop μ-loop
-same-length-4 c = c .before .before .before .before .before .before .before .before .before .loop .inv .1 .listed .size ∙ sym (c .before .before .before .before .before .before .before .before .before .before .before .before .before .before .before .before .before .before .before .pre .2)
+same-length-4 c =
+    let at-at-loop : tie.At-loop Inv-loop μ-loop = search in
+    let at-start : tie.Start Inv-loop μ-loop = search in
+    at-at-loop .loop .inv .1 .listed .size ∙ sym (at-start .pre .2)
 
 returns-3 : tie.Need-returns-3 Inv-loop μ-loop
 returns-3 c = (ap walkedOf (c .stopped3 .ensures) ∙ using-no (c .before .before .before .before .before .before .before .before .before .before .before .before .before .before .before .before .before .before .before .args .b .now) (c .before .before .before .before .before .before .before .before .before .before .before .before .before .before .before .before .before .before .before .pre .0) _ _ (c .before .before .before .before .before .before .before .before .before .loop .found) (c .before .before .before .before .before .before .before .before .before .loop .left) (c .before .before .before .before .before .before .before .before .before .loop .last) (c .before .before .before .before .before .before .before .before .before .loop .at) (c .before .before .before .before .before .before .before .before .before .loop .free) (c .before .before .before .before .before .before .before .before .before .loop .inv .1) (c .before .before .before .before .before .before .before .before .loop-test .taken) _ (c .before .before .before .before .before .before .before .before .before .loop .inv .0) _ (c .before .before .before .before .before .before .before .may-meet .ensures) (not-false _ (c .before .before .before .before .before .before .if2 .left)) (c .before .before .before .before .before .key-of .result) (c .before .before .before .before .before .key-of .ensures) (c .before .before .before .key-of2 .result) (c .before .before .before .key-of2 .ensures) _ (c .before .before .key-follows .ensures) (not-true _ (c .before .if3 .taken)), (λ y. absurd (false≢true (sym (ap (λ (u : Used). u .ended) (c .stopped3 .ensures)) ∙ y)), run-no (c .before .before .before .before .before .before .before .before .before .before .before .before .before .before .before .before .before .before .before .args .b .now) (c .before .before .before .before .before .before .before .before .before .loop .left) (c .before .before .before .before .before .before .before .before .before .loop .at) (c .before .before .before .before .before .before .before .before .before .loop .last) (c .before .before .before .before .before .before .before .before .before .loop .found) (c .before .before .before .before .before .before .before .before .before .loop .free) (c .before .before .before .before .before .before .before .before .before .loop .marks) (c .before .before .before .before .before .before .before .before .before .loop .list) (c .before .before .before .before .before .before .before .before .loop-test .taken) _ (c .before .before .before .before .before .before .before .before .before .loop .inv .0) _ (c .before .before .before .before .before .before .before .may-meet .ensures) (not-false _ (c .before .before .before .before .before .before .if2 .left)) (c .before .before .before .before .before .key-of .result) (c .before .before .before .before .before .key-of .ensures) (c .before .before .before .key-of2 .result) (c .before .before .before .key-of2 .ensures) _ (c .before .before .key-follows .ensures) (not-true _ (c .before .if3 .taken)) _ (c .stopped3 .ensures) ∙ c .before .before .before .before .before .before .before .before .before .loop .inv .2))
@@ -115,20 +93,14 @@ loop-less c = let n : c .before .before .before .before .before .before .before 
 loop-again : tie.Need-loop-again Inv-loop μ-loop
 loop-again c = (c .before .before .before .before .before .before .before .before .before .before .before .before .before .before .before .before .loop .inv .0, using-next (c .before .before .before .before .before .before .before .before .before .before .before .before .before .before .before .before .before .before .before .before .before .before .before .before .before .before .args .b .now) (c .before .before .before .before .before .before .before .before .before .before .before .before .before .before .before .before .before .before .before .before .before .before .before .before .before .before .pre .0) _ _ (c .before .before .before .before .before .before .before .before .before .before .before .before .before .before .before .before .loop .found) (c .before .before .before .before .before .before .before .before .before .before .before .before .before .before .before .before .loop .left) (c .before .before .before .before .before .before .before .before .before .before .before .before .before .before .before .before .loop .last) (c .before .before .before .before .before .before .before .before .before .before .before .before .before .before .before .before .loop .at) (c .before .before .before .before .before .before .before .before .before .before .before .before .before .before .before .before .loop .free) (c .before .before .before .before .before .before .before .before .before .before .before .before .before .before .before .before .loop .inv .1) (c .before .before .before .before .before .before .before .before .before .before .before .before .before .before .before .loop-test .taken) _ (c .before .before .before .before .before .before .before .before .before .before .before .before .before .before .before .before .loop .inv .0) _ (c .before .before .before .before .before .before .before .before .before .before .before .before .before .before .may-meet .ensures) (not-false _ (c .before .before .before .before .before .before .before .before .before .before .before .before .before .if2 .left)) (c .before .before .before .before .before .before .before .before .before .before .before .before .key-of .result) (c .before .before .before .before .before .before .before .before .before .before .before .before .key-of .ensures) (c .before .before .before .before .before .before .before .before .before .before .key-of2 .result) (c .before .before .before .before .before .before .before .before .before .before .key-of2 .ensures) _ (c .before .before .before .before .before .before .before .before .before .key-follows .ensures) (not-false _ (c .before .before .before .before .before .before .before .before .if3 .left)) _ (c .before .before .before .before .before .take .ensures .0) _ (c .before .before .before .before .before .take .ensures .1 .0) _ (c .before .before .before .before .before .take .ensures .1 .1) _ (c .before .before .before .before .before .before .before .before .before .before .before .next-of2 .ensures) _ (c .step .ensures), run-on (c .before .before .before .before .before .before .before .before .before .before .before .before .before .before .before .before .before .before .before .before .before .before .before .before .before .before .args .b .now) (c .before .before .before .before .before .before .before .before .before .before .before .before .before .before .before .before .loop .left) (c .before .before .before .before .before .before .before .before .before .before .before .before .before .before .before .before .loop .at) (c .before .before .before .before .before .before .before .before .before .before .before .before .before .before .before .before .loop .last) (c .before .before .before .before .before .before .before .before .before .before .before .before .before .before .before .before .loop .found) (c .before .before .before .before .before .before .before .before .before .before .before .before .before .before .before .before .loop .free) (c .before .before .before .before .before .before .before .before .before .before .before .before .before .before .before .before .loop .marks) (c .before .before .before .before .before .before .before .before .before .before .before .before .before .before .before .before .loop .list) (c .before .before .before .before .before .before .before .before .before .before .before .before .before .before .before .loop-test .taken) _ (c .before .before .before .before .before .before .before .before .before .before .before .before .before .before .before .before .loop .inv .0) _ (c .before .before .before .before .before .before .before .before .before .before .before .before .before .before .may-meet .ensures) (not-false _ (c .before .before .before .before .before .before .before .before .before .before .before .before .before .if2 .left)) (c .before .before .before .before .before .before .before .before .before .before .before .before .key-of .result) (c .before .before .before .before .before .before .before .before .before .before .before .before .key-of .ensures) (c .before .before .before .before .before .before .before .before .before .before .key-of2 .result) (c .before .before .before .before .before .before .before .before .before .before .key-of2 .ensures) _ (c .before .before .before .before .before .before .before .before .before .key-follows .ensures) (not-false _ (c .before .before .before .before .before .before .before .before .if3 .left)) (using-left (c .before .before .before .before .before .before .before .before .before .before .before .before .before .before .before .before .before .before .before .before .before .before .before .before .before .before .args .b .now) (c .before .before .before .before .before .before .before .before .before .before .before .before .before .before .before .before .before .before .before .before .before .before .before .before .before .before .pre .0) _ _ (c .before .before .before .before .before .before .before .before .before .before .before .before .before .before .before .before .loop .found) (c .before .before .before .before .before .before .before .before .before .before .before .before .before .before .before .before .loop .left) (c .before .before .before .before .before .before .before .before .before .before .before .before .before .before .before .before .loop .last) (c .before .before .before .before .before .before .before .before .before .before .before .before .before .before .before .before .loop .at) (c .before .before .before .before .before .before .before .before .before .before .before .before .before .before .before .before .loop .free) (c .before .before .before .before .before .before .before .before .before .before .before .before .before .before .before .before .loop .inv .1) (c .before .before .before .before .before .before .before .before .before .before .before .before .before .before .before .loop-test .taken) _ (c .before .before .before .before .before .before .before .before .before .before .before .before .before .before .before .before .loop .inv .0) _ (c .before .before .before .before .before .before .before .before .before .before .before .before .before .before .may-meet .ensures) (not-false _ (c .before .before .before .before .before .before .before .before .before .before .before .before .before .if2 .left))) _ (c .before .before .before .before .before .take .ensures .0) _ (c .before .before .before .before .before .take .ensures .1 .0) _ (c .before .before .before .before .before .take .ensures .1 .1) _ (c .before .before .before .before .before .before .before .before .before .before .before .next-of2 .ensures) _ (c .step .ensures) ∙ c .before .before .before .before .before .before .before .before .before .before .before .before .before .before .before .before .loop .inv .2)
 
-sub-ended : tie.Need-sub-ended Inv-loop μ-loop
-sub-ended c = omega (arith, c .before .loop .inv .0, c .before .loop .inv .1 .few)
-
 ended-requires : tie.Need-ended-requires Inv-loop μ-loop
 ended-requires c κs = tt
 
-same-length-5 : tie.Need-same-length-5 Inv-loop μ-loop
-same-length-5 c = c .before .before .loop .inv .1 .fit .size ∙ sym (c .before .before .before .before .before .before .before .before .before .before .before .before .pre .1 .size)
-
-same-length-6 : tie.Need-same-length-6 Inv-loop μ-loop
-same-length-6 c = c .before .before .loop .inv .1 .listed .size ∙ sym (c .before .before .before .before .before .before .before .before .before .before .before .before .pre .2)
-
 returns-4 : tie.Need-returns-4 Inv-loop μ-loop
-returns-4 c = (ap walkedOf (c .ended .ensures) ∙ ap (λ (n : ℕ). record { ended = true; count = n - c .before .before .loop .left; last = c .before .before .loop .last }) (c .before .before .loop .inv .0) ∙ using-end (c .before .before .before .before .before .before .before .before .before .before .before .before .args .b .now) (c .before .before .before .before .before .before .before .before .before .before .before .before .pre .0) _ _ (c .before .before .loop .found) (c .before .before .loop .left) (c .before .before .loop .last) (c .before .before .loop .at) (c .before .before .loop .free) (c .before .before .loop .inv .1) (c .before .loop-test .left), (λ y. subst (λ (u : Used). UsedFound (c .before .before .before .before .before .before .before .before .before .before .before .before .args .b .now) (c .before .before .loop .marks) (c .before .before .loop .list) (u .found) (u .free)) (sym (c .ended .ensures)) (using-found (c .before .before .before .before .before .before .before .before .before .before .before .before .args .b .now) (c .before .before .before .before .before .before .before .before .before .before .before .before .pre .0) _ _ (c .before .before .loop .found) (c .before .before .loop .left) (c .before .before .loop .last) (c .before .before .loop .at) (c .before .before .loop .free) (c .before .before .loop .inv .1) (c .before .loop-test .left)), run-end (c .before .before .before .before .before .before .before .before .before .before .before .before .args .b .now) (c .before .before .loop .left) (c .before .before .loop .at) (c .before .before .loop .last) (c .before .before .loop .found) (c .before .before .loop .free) (c .before .before .loop .marks) (c .before .before .loop .list) (c .before .loop-test .left) _ (c .before .before .loop .inv .0) _ (c .ended .ensures) ∙ c .before .before .loop .inv .2))
+returns-4 c =
+    let at-at-loop : tie.At-loop Inv-loop μ-loop = search in
+    let at-start : tie.Start Inv-loop μ-loop = search in
+    (ap walkedOf (c .ended .ensures) ∙ ap (λ (n : ℕ). record { ended = true; count = n - at-at-loop .loop .left; last = at-at-loop .loop .last }) (at-at-loop .loop .inv .0) ∙ using-end (at-start .args .b .now) (at-start .pre .0) _ _ (at-at-loop .loop .found) (at-at-loop .loop .left) (at-at-loop .loop .last) (at-at-loop .loop .at) (at-at-loop .loop .free) (at-at-loop .loop .inv .1) (c .before .loop-test .left), (λ y. subst (λ (u : Used). UsedFound (at-start .args .b .now) (at-at-loop .loop .marks) (at-at-loop .loop .list) (u .found) (u .free)) (sym (c .ended .ensures)) (using-found (at-start .args .b .now) (at-start .pre .0) _ _ (at-at-loop .loop .found) (at-at-loop .loop .left) (at-at-loop .loop .last) (at-at-loop .loop .at) (at-at-loop .loop .free) (at-at-loop .loop .inv .1) (c .before .loop-test .left)), run-end (at-start .args .b .now) (at-at-loop .loop .left) (at-at-loop .loop .at) (at-at-loop .loop .last) (at-at-loop .loop .found) (at-at-loop .loop .free) (at-at-loop .loop .marks) (at-at-loop .loop .list) (c .before .loop-test .left) _ (at-at-loop .loop .inv .0) _ (c .ended .ensures) ∙ at-at-loop .loop .inv .2))
 
 pub walk-used-spec : {M : Type 1} → statement M
 walk-used-spec =
@@ -136,23 +108,23 @@ walk-used-spec =
     (tie.spec
     Inv-loop
     μ-loop
-    starts-right-requires
+    (λ c κs. search needs)
     stopped-requires
     returns
-    capacity-requires
-    free-start-requires
+    (λ c κs. omega arith)
+    (λ c κs. search needs)
     sub-left
-    head-word-requires
+    (λ c κs. omega arith)
     next-of-requires
-    loop-holds
+    (λ c. search (using-start, not-false, run-started))
     may-meet-requires
     stopped-requires-2
-    same-length
-    same-length-2
+    (λ c. search needs)
+    (λ c. search needs)
     returns-2
     key-of-requires
     next-of-requires-2
-    key-of-requires-2
+    (λ c κs. search record-inside)
     key-follows-requires
     stopped-requires-3
     same-length-3
@@ -163,8 +135,8 @@ walk-used-spec =
     sub-left-2
     loop-less
     loop-again
-    sub-ended
+    (λ c. omega arith)
     ended-requires
-    same-length-5
-    same-length-6
+    (λ c. search needs)
+    (λ c. search needs)
     returns-4)
