@@ -28,7 +28,7 @@ use Rattle.model.proofs.Steps.{Passed, passed, agrees, agree, n-named, g-named,
 use Rattle.model.proofs.Refusals.{stopped, none≢some, idle-form}
 use Rattle.edit.proofs.Built.{store-tuples, edited-store}
 use Rattle.listings.proofs.Stores.{names-asked}
-use Rattle.perform.specs.Perform.{NamesIn, ReadyFor, Ready, Performed}
+use Rattle.calls.specs.Perform.{NamesIn, ReadyFor, Ready, Performed}
 use Rattle.refusals.specs.Numbers.{stopNumber, ofStore}
 use Rattle.refusals.proofs.Stops.{call-passes, call-stops, nothing-passes, all-pass, store-stops}
 

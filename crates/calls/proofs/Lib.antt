@@ -1,3 +1,4 @@
+pub mod Performs
 pub mod Known
 pub mod AtOnce
 pub mod Lists

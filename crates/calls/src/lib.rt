@@ -1,4 +1,6 @@
 // The entry: one call of the operators 1 to 57 on a buffer.
+mod perform;
+
 use located::Near;
 use model::Answer;
 use model::Call;

@@ -4,7 +4,7 @@ use mathlib.Core.List.{List, [], _∷_, _++_}
 use mathlib.Core.Logic.{_↔_, _≢_}
 use mathlib.Core.Option.{Option, none, some}
 use mathlib.Core.Path.{_≡_, refl, sym, ap, ap₂, _∙_, subst}
-use Prim.Native.Nat.{ℕ, _+_, _-_, _≤_}
+use Prim.Native.Nat.{ℕ, suc, _+_, _-_, _≤_}
 use native.Mathlib.Omega.{arith}
 use lib.Dec.{eqb, ltb}
 use lib.ListN.{length}
@@ -14,14 +14,16 @@ use Rattle.model.specs.declared.Decoded.{Decoded}
 use Rattle.model.specs.declared.Key.{Key}
 use Rattle.model.specs.declared.Listing.{Listing}
 use Rattle.model.specs.declared.Operator.{Operator}
-use Rattle.model.specs.declared.Operator.the-variants.{List as Lists}
+use Rattle.model.specs.declared.Direction.the-variants.{Outpointing, Inpointing, Adjacent}
+use Rattle.model.specs.declared.Object.{Object}
+use Rattle.model.specs.declared.Operator.the-variants.{Create, Bind, Value as Values, Exists, Destroy, List as Lists}
 use Rattle.model.specs.declared.Fields.{Fields}
 use Rattle.model.specs.declared.Pair.{Pair}
 use Rattle.model.specs.declared.Row.{Row}
 use Rattle.model.specs.Operators.{readsOf, asksOf, rowOf}
-use Rattle.model.specs.Tuples.{Tuples, missing}
+use Rattle.model.specs.Tuples.{Tuples, present, add, missing}
 use Rattle.layouts.specs.Buffer.{word, capacityOf, tuplesOf}
-use Rattle.model.specs.Steps.{decoded, listed, wouldList, wouldAdd}
+use Rattle.model.specs.Steps.{decoded, objectKeys, created, listed, wouldList, wouldAdd}
 use Rattle.model.specs.Refusals.{Stop, stop, first, selectsNothing, noOperator, listShort, full, ofCall, ofTuples, ifLookedUp, earlier, refusalOf}
 use Rattle.model.proofs.Bools.{equal, not-yes}
 use Rattle.layouts.proofs.Store.{tuples-fit}
@@ -195,3 +197,37 @@ pub full-told : (b : List ℕ) (d : Decoded) (r a : ℕ) → Linked b → r ≡ 
     → a ≡ length (missing (wouldAdd (d .operator) (d .fields)) (tuplesOf b)) → ltb r a ≡ full (capacityOf b) d (tuplesOf b)
 unfolding full
 full-told b d r a L F A = ap₂ ltb F A ∙ left-over (capacityOf b) (length (tuplesOf b)) _ (tuples-fit b (L .chains))
+
+-- no more are missing than there are keys
+length-missing : (ks : List Key) (ts : Tuples) → length (missing ks ts) ≤ length ks
+unfolding missing
+length-missing [] ts = omega arith
+length-missing (k ∷ ks) ts = go (present k ts) (length-missing ks ts) (length-missing ks (add k ts))
+  where
+    go : (t : Bool) → length (missing ks ts) ≤ length ks → length (missing ks (add k ts)) ≤ length ks
+        → length (cond t (missing ks ts) (k ∷ missing ks (add k ts))) ≤ suc (length ks)
+    go true h g = omega arith
+    go false h g = omega arith
+
+-- and an operator would add at most four
+would-add-most : (op : Operator) (f : Fields) → length (wouldAdd op f) ≤ 4
+unfolding wouldAdd created objectKeys
+would-add-most (Create (Object.P Outpointing)) f = omega arith
+would-add-most (Create (Object.P Inpointing)) f = omega arith
+would-add-most (Create (Object.P Adjacent)) f = omega arith
+would-add-most (Create Object.UN) f = omega arith
+would-add-most (Create Object.US) f = omega arith
+would-add-most (Bind o) f = omega arith
+would-add-most (Values o) f = omega arith
+would-add-most (Exists o) f = omega arith
+would-add-most (Destroy r) f = omega arith
+would-add-most (Lists l) f = omega arith
+
+-- where so many records are free the store is not full
+pub never-full : (b : List ℕ) (d : Decoded) (r : ℕ) → Linked b → r ≡ capacityOf b - length (tuplesOf b) → 4 ≤ r → false ≡ full (capacityOf b) d (tuplesOf b)
+unfolding full
+never-full b d r L R h =
+    let ts : Tuples = tuplesOf b in
+    let most = length-missing (wouldAdd (d .operator) (d .fields)) ts in
+    let four = would-add-most (d .operator) (d .fields) in
+    sym (le-ltb (capacityOf b) (length ts + length (missing (wouldAdd (d .operator) (d .fields)) ts)) (omega (arith, R, h, most, four)))

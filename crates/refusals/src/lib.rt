@@ -149,12 +149,19 @@ fn free_records(b: &[u32]) -> usize
     words::head_word(b, 0) - words::head_word(b, 3)
 }
 
-// Condition 10: fewer records are free than the call would add tuples.
+// No call adds more tuples: those of an adjacent pair, in its space and in UNIVERSE.
+const MOST_ADDED: usize = 4;
+
+// Condition 10: fewer records are free than the call would add tuples. They are counted only where more could be added than are free.
 fn is_full(b: &[u32], near: Near, universe: Near, d: Decoded) -> bool
     requires { ⌜ Linked (now b) × NearIn (now b) near × NearIn (now b) universe ⌝ }
     ensures { λ r. ⌜ r ≡ full (capacityOf (now (b .entry))) d (tuplesOf (now (b .entry))) ⌝ }
 {
-    free_records(b) < count_added(b, near, universe, d)
+    let free = free_records(b);
+    if free >= MOST_ADDED {
+        return false;
+    }
+    free < count_added(b, near, universe, d)
 }
 
 // The number of the first of the conditions 2, 3, 12 and 4 that stops a call, whatever the store holds; 0 for none.

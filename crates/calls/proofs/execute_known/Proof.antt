@@ -11,7 +11,7 @@ use Rattle.operators.proofs.decode.Reads as decode-reads
 use Rattle.operators.proofs.first_argument.Reads as first-argument-reads
 use Rattle.operators.proofs.row_of.Reads as row-of-reads
 use Rattle.operators.proofs.selects_nothing.Reads as selects-nothing-reads
-use Rattle.perform.proofs.idle.Reads as idle-reads
+use Rattle.calls.proofs.perform.idle.Reads as idle-reads
 use Rattle.refusals.proofs.refusal_of_call.Reads as refusal-of-call-reads
 
 pub execute-known-spec : {M : Type 1} → statement M

@@ -11,7 +11,7 @@ use Rattle.located.proofs.also_in_universe.Reads as also-in-universe-reads
 use Rattle.located.proofs.locate.Reads as locate-reads
 use Rattle.located.proofs.locate_universe.Reads as locate-universe-reads
 use Rattle.operators.proofs.first_argument.Reads as first-argument-reads
-use Rattle.perform.proofs.perform.Reads as perform-reads
+use Rattle.calls.proofs.perform.perform.Reads as perform-reads
 use Rattle.refusals.proofs.refusal_of.Reads as refusal-of-reads
 
 refusal-of-requires : tie.Need-refusal-of-requires

@@ -1,4 +1,4 @@
-use Rattle.refusals.proofs.Stops.{full-told}
+use Rattle.refusals.proofs.Stops.{never-full, full-told}
 use borrow.Author.Needs.{needs}
 use Rattle.refusals.proofs.is_full.Statement.{statement}
 use Rattle.refusals.proofs.is_full.Tie as tie
@@ -12,5 +12,6 @@ is-full-spec =
     tie.close
     (tie.spec
     (λ c κs. search needs)
+    (λ c. search never-full)
     (λ c κs. search needs)
     (λ c. search full-told))

@@ -1,11 +1,11 @@
-use Rattle.perform.proofs.Performs.{idle-as}
+use Rattle.calls.proofs.Performs.{idle-as}
 use Rattle.model.specs.OneCall.{answerOf}
 use Rattle.model.specs.Steps.{idleReply}
 use borrow.Author.Needs.{needs}
-use Rattle.perform.proofs.idle.Statement.{statement}
-use Rattle.perform.proofs.idle.Tie as tie
-use Rattle.perform.proofs.idle.Reads as reads
-use Rattle.perform.proofs.idle.Lts as lts
+use Rattle.calls.proofs.perform.idle.Statement.{statement}
+use Rattle.calls.proofs.perform.idle.Tie as tie
+use Rattle.calls.proofs.perform.idle.Reads as reads
+use Rattle.calls.proofs.perform.idle.Lts as lts
 
 returns : tie.Need-returns
 unfolding answerOf idleReply

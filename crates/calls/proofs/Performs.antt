@@ -23,7 +23,7 @@ use Rattle.edit.proofs.Built.{unedited}
 use Rattle.entries.specs.Queries.{writtenPairs}
 use Rattle.listings.specs.Lists.{NamesAsked}
 use Rattle.steps.specs.Objects.{Room, Bound}
-use Rattle.perform.specs.Perform.{NamesIn, NamesRead, ReadyFor, Ready, Performed}
+use Rattle.calls.specs.Perform.{NamesIn, NamesRead, ReadyFor, Ready, Performed}
 
 -- ---- D
 

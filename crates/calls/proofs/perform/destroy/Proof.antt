@@ -1,10 +1,10 @@
 use Rattle.edit.proofs.Built.{store-linked}
-use Rattle.perform.proofs.Performs.{pair-edge, pair-second, named-edge, named-second, named-edge-of-nodes, named-node, named-space, removed-as}
+use Rattle.calls.proofs.Performs.{pair-edge, pair-second, named-edge, named-second, named-edge-of-nodes, named-node, named-space, removed-as}
 use borrow.Author.Needs.{needs}
-use Rattle.perform.proofs.destroy.Statement.{statement}
-use Rattle.perform.proofs.destroy.Tie as tie
-use Rattle.perform.proofs.destroy.Reads as reads
-use Rattle.perform.proofs.destroy.Lts as lts
+use Rattle.calls.proofs.perform.destroy.Statement.{statement}
+use Rattle.calls.proofs.perform.destroy.Tie as tie
+use Rattle.calls.proofs.perform.destroy.Reads as reads
+use Rattle.calls.proofs.perform.destroy.Lts as lts
 use Rattle.removals.proofs.destroy_edges.Reads as destroy-edges-reads
 use Rattle.removals.proofs.destroy_edges_between.Reads as destroy-edges-between-reads
 use Rattle.removals.proofs.destroy_edges_named.Reads as destroy-edges-named-reads

@@ -13,7 +13,7 @@ ghost use Rattle.model.specs.Steps.{destroyed, idleReply};
 ghost use Rattle.model.specs.OneCall.{answerOf};
 ghost use Rattle.chain.specs.Links.{Edited};
 ghost use Rattle.located.specs.Located.{NearIn};
-ghost use Rattle.perform.specs.Perform.{NamesRead, Ready, Performed};
+ghost use Rattle.calls.specs.Perform.{NamesRead, Ready, Performed};
 
 // D: removes what the operator names.
 fn destroy(b: &mut [u32], near: Near, r: Removal, f: Fields)

@@ -1,13 +1,13 @@
 use Rattle.listings.proofs.Stores.{store-readable}
 use Rattle.edit.proofs.Built.{store-linked}
-use Rattle.perform.proofs.Performs.{ready-create, ready-destroy, ready-names, ready-room, create-performed, bind-performed, value-performed, exists-performed, destroy-performed, list-performed}
+use Rattle.calls.proofs.Performs.{ready-create, ready-destroy, ready-names, ready-room, create-performed, bind-performed, value-performed, exists-performed, destroy-performed, list-performed}
 use borrow.Author.Needs.{needs}
-use Rattle.perform.proofs.perform.Statement.{statement}
-use Rattle.perform.proofs.perform.Tie as tie
-use Rattle.perform.proofs.perform.Reads as reads
-use Rattle.perform.proofs.perform.Lts as lts
+use Rattle.calls.proofs.perform.perform.Statement.{statement}
+use Rattle.calls.proofs.perform.perform.Tie as tie
+use Rattle.calls.proofs.perform.perform.Reads as reads
+use Rattle.calls.proofs.perform.perform.Lts as lts
 use Rattle.listings.proofs.write_listed.Reads as write-listed-reads
-use Rattle.perform.proofs.destroy.Reads as destroy-reads
+use Rattle.calls.proofs.perform.destroy.Reads as destroy-reads
 use Rattle.steps.proofs.bind.Reads as bind-reads
 use Rattle.steps.proofs.create.Reads as create-reads
 use Rattle.steps.proofs.exists.Reads as exists-reads
