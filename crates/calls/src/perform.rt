@@ -1,5 +1,4 @@
 // The step of an operator on a store, where nothing stops the call.
-// `perform` and `idle` are pub for the crate above, which has proved what `perform` requires.
 use located::Near;
 use model::Answer;
 use model::Fields;

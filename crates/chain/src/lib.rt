@@ -1,5 +1,4 @@
 // The used and free chains of the buffer.
-// Each function is pub for the crates above, which have proved what it requires.
 use model::Key;
 ghost use mathlib.Core.Path.{_≡_};
 ghost use Prim.Native.Nat.{_+_, _≤_, _<_};

@@ -1,6 +1,5 @@
 // Tuples added, set and removed.
 // A hint is a used record, or 0: the walk for a key starts behind it where its key is below.
-// Each function is pub for the crates above, which have proved what it requires.
 use model::Key;
 use taken::Selection;
 use taken::Span;
@@ -13,7 +12,7 @@ ghost use Rattle.chain.specs.Links.{Linked, Hint, KeepsHints, placeIn, Edited, 
 ghost use Rattle.taken.specs.Selections.{takenBy};
 ghost use Rattle.edit.specs.Edits.{Adding, Assigned, Turned, sweepStart};
 
-// Is a key present, by the record at its place. Public for the crates above, which have sought the place.
+// Is a key present, by the record at its place.
 pub fn held_at(b: &[u32], k: Key, at: usize) -> bool
     requires { ⌜ Linked (now b) × (at ≡ placeIn (keyAt (now b)) k 0 (usedOf (now b)) .at) ⌝ }
     ensures { λ r. ⌜ r ≡ present k (tuplesOf (now (b .entry))) ⌝ }

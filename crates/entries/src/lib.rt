@@ -1,5 +1,4 @@
 // The entries that an S operator lists, counted and written.
-// Each function is pub for the crates above, which have proved what it requires.
 use model::Direction;
 use model::Key;
 ghost use mathlib.Core.List.{[], _∷_};

@@ -25,10 +25,8 @@ use Rattle.lines.specs.declared.Reading.{Reading}
 use Rattle.lines.specs.declared.Reading.the-variants.{Read}
 use Rattle.lines.specs.declared.arguments.SpaceArgument.{SpaceArgument}
 use Rattle.lines.specs.declared.arguments.SpaceArgument.the-variants.{Given, NotASpace}
-use Rattle.lines.specs.declared.numbers.Numeral.{Numeral}
-use Rattle.lines.specs.declared.numbers.Numeral.the-variants.{Value, NotANumber}
 use Rattle.lines.specs.Calls.{refused, withNumber, takeNumber, takeSpace, complete}
-use Rattle.lines.specs.Places.{wordsBehind, asNumber, ofWord, firstOf, argumentAt, fieldAt, spaceOf, numeralOf}
+use Rattle.lines.specs.Places.{wordsBehind, asNumber, ofWord, firstOf, argumentAt, fieldAt, spaceOf}
 use Rattle.lines.proofs.LineLaws.{part-before}
 use Rattle.lines.proofs.WordLaws.{behind-end, word-behind}
 
@@ -57,35 +55,13 @@ is-nothing most w end r e f q i j =
     let t : sameText w (hyphen ∷ []) ≡ true = sym i ∙ j in
     rw (s, t)
 
-pub is-unreadable : (most : ℕ) (w : Text) (end : ℕ) (r : Bool) → r ≡ sameText w (U ∷ []) → r ≡ false → (q : Bool) → q ≡ sameText w (hyphen ∷ []) → q ≡ false → (x : Numeral)
-    → x ≡ numeralOf (readNumber most w) → x ≡ NotANumber → Unreadable ≡ ofWord most w end
-unfolding ofWord asNumber numeralOf
-is-unreadable most w end r e f q i j x g h =
+pub is-number : (most : ℕ) (w : Text) (end : ℕ) (r : Bool) → r ≡ sameText w (U ∷ []) → r ≡ false → (q : Bool) → q ≡ sameText w (hyphen ∷ []) → q ≡ false
+    → (x : Argument) → x ≡ asNumber (readNumber most w) end → x ≡ ofWord most w end
+unfolding ofWord
+is-number most w end r e f q i j x g =
     let s : sameText w (U ∷ []) ≡ false = sym e ∙ f in
     let t : sameText w (hyphen ∷ []) ≡ false = sym i ∙ j in
-    rw (s, t) (go (readNumber most w) (sym g ∙ h))
-  where
-    go : (o : Option ℕ) → numeralOf o ≡ NotANumber → Unreadable ≡ asNumber o end
-    go none k = refl
-    go (some y) k =
-        let z : _≡_ {A = ℕ} 0 1 = cc in
-        absurd (omega arith)
-
-pub is-number : (most : ℕ) (w : Text) (end : ℕ) (r : Bool) → r ≡ sameText w (U ∷ []) → r ≡ false → (q : Bool) → q ≡ sameText w (hyphen ∷ []) → q ≡ false → (x : Numeral) (v : ℕ)
-    → x ≡ numeralOf (readNumber most w) → x ≡ Value v → Number v end ≡ ofWord most w end
-unfolding ofWord asNumber numeralOf
-is-number most w end r e f q i j x v g h =
-    let s : sameText w (U ∷ []) ≡ false = sym e ∙ f in
-    let t : sameText w (hyphen ∷ []) ≡ false = sym i ∙ j in
-    rw (s, t) (go (readNumber most w) (sym g ∙ h))
-  where
-    go : (o : Option ℕ) → numeralOf o ≡ Value v → Number v end ≡ asNumber o end
-    go none k =
-        let z : _≡_ {A = ℕ} 0 1 = cc in
-        absurd (omega arith)
-    go (some y) k =
-        let z : y ≡ v = cc in
-        ap (λ (n : ℕ). Number n end) (sym z)
+    g ∙ rw (s, t)
 
 pub none-behind : (most : ℕ) (line : Text) (end : ℕ) → length line ≤ end → Missing ≡ argumentAt most line end
 unfolding argumentAt firstOf

@@ -2,7 +2,7 @@
 use mathlib.Core.Bool.{Bool, true, false, cond, _&&_, and-true, true≢false}
 use mathlib.Core.List.{[], _∷_}
 use mathlib.Core.Path.{_≡_, refl, sym, ap, _∙_}
-use mathlib.Core.Option.{none, some}
+use mathlib.Core.Option.{Option, none, some}
 use Prim.Native.Nat.{ℕ, _+_, _-_, _*_, _≤_, _<_}
 use native.Mathlib.Omega.{arith}
 use lib.Dec.{eqb, leb}
@@ -11,9 +11,9 @@ use borrow.Author.Tests.{le-leb, lt-leb}
 use Rattle.text.specs.Bytes.{Text}
 use Rattle.text.specs.Numerals.{digitZero, isDigit, allDigits, plainDigits, numberAfter, readNumber}
 use Rattle.text.proofs.Reading.{rest, digit-yes, digit-below, digit-above, grows}
-use Rattle.lines.specs.declared.numbers.Numeral.{Numeral}
-use Rattle.lines.specs.declared.numbers.Numeral.the-variants.{Value, NotANumber}
-use Rattle.lines.specs.Places.{numeralOf, leadingZero, readDigits}
+use Rattle.lines.specs.declared.Argument.{Argument}
+use Rattle.lines.specs.declared.Argument.the-variants.{Number, Unreadable}
+use Rattle.lines.specs.Places.{asNumber, leadingZero, readDigits}
 
 -- the first digit
 
@@ -67,32 +67,32 @@ all-digits-read most a w i h l =
     rw (p, q)
 
 -- a word read as far as place i: the number so far is `value`
-module _ (most : ℕ) (w : Text) (value i : ℕ) (S : readDigits most 0 w ≡ readDigits most value (drop i w)) where
-  pub stop-below : i < length w → getD w i 0 < digitZero → NotANumber ≡ numeralOf (readDigits most 0 w)
-  unfolding numeralOf
-  stop-below h l = sym (ap numeralOf (S ∙ byte-below most value w i h l))
+module _ (most : ℕ) (w : Text) (end value i : ℕ) (S : readDigits most 0 w ≡ readDigits most value (drop i w)) where
+  pub stop-below : i < length w → getD w i 0 < digitZero → Unreadable ≡ asNumber (readDigits most 0 w) end
+  unfolding asNumber
+  stop-below h l = sym (ap (λ (o : Option ℕ). asNumber o end) (S ∙ byte-below most value w i h l))
 
-  pub stop-above : i < length w → digitZero + 9 < getD w i 0 → NotANumber ≡ numeralOf (readDigits most 0 w)
-  unfolding numeralOf
-  stop-above h l = sym (ap numeralOf (S ∙ byte-above most value w i h l))
+  pub stop-above : i < length w → digitZero + 9 < getD w i 0 → Unreadable ≡ asNumber (readDigits most 0 w) end
+  unfolding asNumber
+  stop-above h l = sym (ap (λ (o : Option ℕ). asNumber o end) (S ∙ byte-above most value w i h l))
 
   pub digit-taken : (d : ℕ) → i < length w → digitZero ≤ getD w i 0 → getD w i 0 ≤ digitZero + 9 → d ≡ getD w i 0 - digitZero → readDigits most 0 w ≡ readDigits most (value * 10 + d) (drop (i + 1) w)
   digit-taken d h l u e = S ∙ one-digit most value d w i h l u e
 
-  pub stop-past : (d limit : ℕ) → i < length w → digitZero ≤ getD w i 0 → getD w i 0 ≤ digitZero + 9 → d ≡ getD w i 0 - digitZero → limit < value * 10 + d → limit ≡ most → NotANumber ≡ numeralOf (readDigits most 0 w)
-  unfolding numeralOf
-  stop-past d limit h l u e past k = sym (ap numeralOf (digit-taken d h l u e ∙ digits-past most (value * 10 + d) (drop (i + 1) w) (omega arith)))
+  pub stop-past : (d limit : ℕ) → i < length w → digitZero ≤ getD w i 0 → getD w i 0 ≤ digitZero + 9 → d ≡ getD w i 0 - digitZero → limit < value * 10 + d → limit ≡ most → Unreadable ≡ asNumber (readDigits most 0 w) end
+  unfolding asNumber
+  stop-past d limit h l u e past k = sym (ap (λ (o : Option ℕ). asNumber o end) (digit-taken d h l u e ∙ digits-past most (value * 10 + d) (drop (i + 1) w) (omega arith)))
 
-  pub digits-ended : length w ≤ i → value ≤ most → Value value ≡ numeralOf (readDigits most 0 w)
-  unfolding numeralOf
-  digits-ended h l = sym (ap numeralOf (S ∙ all-digits-read most value w i h l))
+  pub digits-ended : length w ≤ i → value ≤ most → Number value end ≡ asNumber (readDigits most 0 w) end
+  unfolding asNumber
+  digits-ended h l = sym (ap (λ (o : Option ℕ). asNumber o end) (S ∙ all-digits-read most value w i h l))
 
 -- the whole word
 
-pub no-digits : (most : ℕ) (w : Text) → length w ≡ 0 → NotANumber ≡ numeralOf (readNumber most w)
-unfolding numeralOf readNumber plainDigits
-no-digits most [] h = refl
-no-digits most (b ∷ bs) h = absurd (omega arith)
+pub no-digits : (most : ℕ) (w : Text) (end : ℕ) → length w ≡ 0 → Unreadable ≡ asNumber (readNumber most w) end
+unfolding asNumber readNumber plainDigits
+no-digits most [] end h = refl
+no-digits most (b ∷ bs) end h = absurd (omega arith)
 
 zero-leads : (most : ℕ) (w : Text) → leadingZero w ≡ true → readNumber most w ≡ none
 unfolding readNumber plainDigits leadingZero
@@ -102,9 +102,9 @@ zero-leads most (b ∷ []) e =
     absurd (true≢false z)
 zero-leads most (b ∷ c ∷ bs) e = rw e
 
-pub zero-refused : (most : ℕ) (w : Text) (r : Bool) → r ≡ leadingZero w → r ≡ true → NotANumber ≡ numeralOf (readNumber most w)
-unfolding numeralOf
-zero-refused most w r e f = sym (ap numeralOf (zero-leads most w (sym e ∙ f)))
+pub zero-refused : (most : ℕ) (w : Text) (end : ℕ) (r : Bool) → r ≡ leadingZero w → r ≡ true → Unreadable ≡ asNumber (readNumber most w) end
+unfolding asNumber
+zero-refused most w end r e f = sym (ap (λ (o : Option ℕ). asNumber o end) (zero-leads most w (sym e ∙ f)))
 
 digits-whole : (most : ℕ) (w : Text) → (length w ≡ 0 → ⊥) → leadingZero w ≡ false → readDigits most 0 w ≡ readNumber most w
 unfolding readNumber readDigits plainDigits leadingZero allDigits
@@ -112,5 +112,5 @@ digits-whole most [] n e = absurd (n refl)
 digits-whole most (b ∷ []) n e = ap (λ (t : Bool). cond (t && leb (numberAfter 0 (b ∷ [])) most) (some (numberAfter 0 (b ∷ []))) none) (and-true (isDigit b))
 digits-whole most (b ∷ c ∷ bs) n e = rw e
 
-pub digits-read : (most : ℕ) (w : Text) (r : Bool) → (length w ≡ 0 → ⊥) → r ≡ leadingZero w → r ≡ false → (x : Numeral) → x ≡ numeralOf (readDigits most 0 w) → x ≡ numeralOf (readNumber most w)
-digits-read most w r n e f x k = k ∙ ap numeralOf (digits-whole most w n (sym e ∙ f))
+pub digits-read : (most : ℕ) (w : Text) (end : ℕ) (r : Bool) → (length w ≡ 0 → ⊥) → r ≡ leadingZero w → r ≡ false → (x : Argument) → x ≡ asNumber (readDigits most 0 w) end → x ≡ asNumber (readNumber most w) end
+digits-read most w end r n e f x k = k ∙ ap (λ (o : Option ℕ). asNumber o end) (digits-whole most w n (sym e ∙ f))

@@ -8,8 +8,6 @@ use lib.ListN.{length, drop}
 use Rattle.text.specs.Bytes.{Text, sameText, U, hyphen}
 use Rattle.text.specs.Numerals.{digitZero, allDigits, numberAfter, readNumber}
 use Rattle.model.specs.declared.Space.the-variants.{Universe, Numbered, Nothing}
-use Rattle.lines.specs.declared.numbers.Numeral.{Numeral}
-use Rattle.lines.specs.declared.numbers.Numeral.the-variants.{Value, NotANumber}
 use Rattle.lines.specs.declared.arguments.SpaceArgument.{SpaceArgument}
 use Rattle.lines.specs.declared.arguments.SpaceArgument.the-variants.{Given, NotASpace}
 use Rattle.lines.specs.declared.Argument.{Argument}
@@ -52,11 +50,6 @@ spaceOf optional end (Universal after) = Given Universe after
 spaceOf optional end (NoSelection after) = Given Nothing after
 spaceOf optional end Missing = cond optional (Given Universe end) NotASpace
 spaceOf optional end Unreadable = NotASpace
-
--- a number, or none
-unfoldable pub numeralOf : Option ℕ → Numeral
-numeralOf none = NotANumber
-numeralOf (some x) = Value x
 
 -- "without a leading zero": does a word of several bytes begin with the digit 0
 unfoldable pub leadingZero : Text → Bool

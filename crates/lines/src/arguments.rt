@@ -1,6 +1,5 @@
 // The arguments of a call, each by the place where the word before it ends.
 use super::Argument;
-use super::numbers::Numeral;
 use super::numbers::number_in;
 use super::words::end_of;
 use letters::same;
@@ -28,10 +27,7 @@ fn of_word(word: &[u8], end: usize, most: u32) -> Argument
     if same(word, b"-") {
         return Argument::NoSelection(end);
     }
-    let Numeral::Value(x) = number_in(word, most) else {
-        return Argument::Unreadable;
-    };
-    Argument::Number(x, end)
+    number_in(word, end, most)
 }
 
 // The argument behind the word that ends at a place.

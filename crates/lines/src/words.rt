@@ -5,7 +5,6 @@ ghost use lib.ListN.{length, drop};
 ghost use Rattle.text.specs.Bytes.{before};
 
 // The place of the first byte `end` from a place on; the text's length where there is none.
-// It is pub for the modules beside it, which have proved what it requires.
 pub fn end_of(text: &[u8], from: usize, end: u8) -> usize
     requires { ⌜ from ≤ length (now text) ⌝ }
     ensures { λ r. ⌜ r ≡ from + length (before end (drop from (now (text .entry)))) ⌝ }

@@ -1,5 +1,4 @@
 // The query of each S operator, and its list.
-// Each function is pub for the crate above, which has proved what it requires.
 use entries::PairQuery;
 use entries::Part;
 use entries::Query;

@@ -1,5 +1,4 @@
 // What a call names, located once: where it is to be sought, and what of it is there.
-// Each function is pub for the crate above, which has proved what it requires.
 use model::Decoded;
 use model::Fields;
 ghost use mathlib.Core.Path.{_≡_};

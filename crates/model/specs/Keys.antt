@@ -1,5 +1,5 @@
 -- Document 01, "Names and tuples": keys, tuples and their order.
--- Names are numbers here and have no upper bound: the bound of 65,535 is a rule of the store (Buffer.antt), so the order below serves names of any width.
+-- Names are numbers here and have no upper bound: the bound of 65,535 is a rule of the store (Rules.antt), so the order below serves names of any width.
 use mathlib.Core.Bool.{Bool, not, _&&_}
 use Prim.Native.Nat.{ℕ, compare, Ordering}
 use lib.Dec.{eqb, isEq}

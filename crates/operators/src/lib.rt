@@ -257,7 +257,7 @@ fn zero_if_read(read: bool, name: u16) -> bool
     read && name == 0
 }
 
-// Condition 3: a name that is read is 0. Public for the crates above, which know the fields that are read.
+// Condition 3: a name that is read is 0.
 pub fn zero_name(c: Call, r: Reads) -> bool
     requires { ⌜ r ≡ readsOf (c .operator) ⌝ }
     ensures { λ z. ⌜ z ≡ zeroName c ⌝ }

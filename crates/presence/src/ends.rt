@@ -15,7 +15,6 @@ ghost use Rattle.layouts.specs.Buffer.{capacityOf, keyAt, tuplesOf};
 ghost use Rattle.presence.specs.Presence.{Walkable, Sorted, Marks, MarksFit, markCount, goodKey, Listed, keptCount, nodeSettled, edgeSettled, endThere, endShown, everyEnd, foundWith, listWith, withNamed};
 
 // What the walk of the used chain finds.
-// It is pub for the crate above.
 pub struct Found {
     // Is all there that the tuples name, but for second ends that are kept.
     pub sure: bool,
@@ -96,7 +95,6 @@ fn keep_end(marks: &[u32], list: &mut [u16], kept: usize, k: Key, at: usize) -> 
 }
 
 // Takes record `at` with key k, which follows another: looks for what it names, keeps it where its second end is not shown, and marks it.
-// It is pub for the crate above, which has proved what it requires.
 pub fn take(
     b: &[u32],
     marks: &mut [u32],
@@ -153,7 +151,6 @@ fn end_there(b: &[u32], marks: &[u32], i: usize) -> bool
 }
 
 // Are the second ends there of the records that are kept.
-// It is pub for the root of the crate, which has proved what it requires.
 pub fn all_ends(b: &[u32], marks: &[u32], list: &[u16], kept: usize) -> bool
     requires { ⌜ Sorted (now b) × Marks (now b) (now marks) × Listed (now b) (now list) kept ⌝ }
     ensures { λ r. ⌜ r ≡ everyEnd (now (b .entry)) (now (list .entry)) kept ⌝ }

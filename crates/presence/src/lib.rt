@@ -14,7 +14,6 @@ ghost use Rattle.presence.specs.Presence.{Sorted, supported, Decided};
 
 // Is all there that the tuples name, after the walk of the used chain.
 // What the walk found can only say yes; where it does not, the whole chain is searched again, and the first edge tuple without both ends ends the check.
-// It is pub for the crate above, which has proved what it requires.
 pub fn named_right(b: &[u32], marks: &[u32], list: &[u16], found: Found) -> bool
     requires { ⌜ Sorted (now b) × Decided (now b) (now marks) (now list) found ⌝ }
     ensures { λ r. ⌜ r ≡ everyKey (supported (tuplesOf (now (b .entry)))) (tuplesOf (now (b .entry))) ⌝ }

@@ -160,7 +160,6 @@ fn put_answer_text(out: &mut [u8], at: usize, a: Answer, list: &[u32]) -> usize
 }
 
 // Writes the line of an answer, with the list that was lent to the call, and says where the line ends.
-// It is pub for the crate above, which has proved what it requires.
 pub fn put_answer(out: &mut [u8], at: usize, a: Answer, list: &[u32]) -> usize
     requires { ⌜ Printable (answerLine (observed a (now list))) a (now list) (now out) at ⌝ }
     ensures { λ r. ⌜ Put (answerLine (observed a (now (list .entry)))) (now (out .entry)) at r (now (out .exit)) ⌝ }

@@ -1,5 +1,4 @@
 // Which condition stops a call: 2, 3, 12 and 4 by the call alone, 5 to 10 by what the store holds.
-// Each function is pub for the crate above, which has proved what it requires.
 use located::Located;
 use located::Near;
 use model::Call;

@@ -1,5 +1,4 @@
 // What the D operators remove from a store.
-// Each function is pub for the crate above, which has proved what it requires.
 use located::Near;
 use model::Direction;
 use model::Fields;

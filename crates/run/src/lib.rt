@@ -29,7 +29,7 @@ fn upper_half(w: u32) -> u16
     (w / 65536) as u16
 }
 
-// The space of a call: its form (0 UNIVERSE, 2 nothing), and its number where it has one. Public for the crates above.
+// The space of a call: its form (0 UNIVERSE, 2 nothing), and its number where it has one.
 pub fn space_of(form: u32, s: u16) -> Space
     ensures { λ r. ⌜ r ≡ spaceOfForm form s ⌝ }
 {
@@ -88,7 +88,7 @@ fn lists_fit(calls: &[u32], count: usize, room: usize) -> bool
     true
 }
 
-// The kind of an answer. Public for the crates above.
+// The kind of an answer.
 pub fn kind_of(a: Answer) -> u32
     ensures { λ r. ⌜ r ≡ kindOf a ⌝ }
 {
@@ -101,7 +101,7 @@ pub fn kind_of(a: Answer) -> u32
     }
 }
 
-// 1 for yes, 0 for no. Public for the crates above.
+// 1 for yes, 0 for no.
 pub fn bit_of(b: bool) -> u32
     ensures { λ r. ⌜ r ≡ bitOf b ⌝ }
 {
@@ -111,7 +111,7 @@ pub fn bit_of(b: bool) -> u32
     0
 }
 
-// What an answer carries; the count of a list that a store gives fits. Public for the crates above, which have proved that.
+// What an answer carries; the count of a list that a store gives fits.
 pub fn number_of(a: Answer) -> u32
     requires { ⌜ listCount a ≤ 4294967295 ⌝ }
     ensures { λ r. ⌜ r ≡ numberOf a ⌝ }

@@ -1,5 +1,4 @@
 // What V, X, B and C do to a store.
-// Each function is pub for the crate above, which has proved what it requires.
 use located::Near;
 use model::Direction;
 use model::Fields;

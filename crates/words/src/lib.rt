@@ -1,5 +1,4 @@
 // One word or one record of the buffer: read and written.
-// Each function is pub for the crates above, which have proved that the record is there.
 use model::Key;
 ghost use mathlib.Core.Path.{_≡_};
 ghost use Prim.Native.Nat.{_+_, _≤_, _<_};

@@ -1,7 +1,11 @@
-use Rattle.lines.proofs.ArgumentLaws.{is-universe, is-nothing, is-unreadable, is-number}
+use Rattle.lines.proofs.ArgumentLaws.{is-universe, is-nothing, is-number}
 use borrow.Author.Needs.{needs}
 use Rattle.lines.proofs.arguments.of_word.Statement.{statement}
 use Rattle.lines.proofs.arguments.of_word.Tie as tie
+use Rattle.lines.proofs.arguments.of_word.Reads as reads
+use Rattle.lines.proofs.arguments.of_word.Lts as lts
+use Rattle.letters.proofs.same.Reads as same-reads
+use Rattle.lines.proofs.numbers.number_in.Reads as number-in-reads
 
 pub of-word-spec : {M : Type 1} → statement M
 of-word-spec =
@@ -14,7 +18,4 @@ of-word-spec =
     (λ c κs. search needs)
     (λ c. search is-nothing)
     (λ c κs. search needs)
-    (λ c. search needs)
-    (λ c. search needs)
-    (λ c. search is-unreadable)
     (λ c. search is-number))

@@ -9,10 +9,10 @@ use Rattle.lines.proofs.numbers.digits_in.Tie as tie
 use borrow.Author.Needs.{needs}
 
 abbrev Inv-loop : tie.InvT-loop
-Inv-loop word most limit value₀ i₀ value i = (value ≤ most) × (limit ≡ most) × (i ≤ length word) × (readDigits most 0 word ≡ readDigits most value (drop i word))
+Inv-loop word end most limit value₀ i₀ value i = (value ≤ most) × (limit ≡ most) × (i ≤ length word) × (readDigits most 0 word ≡ readDigits most value (drop i word))
 
 abbrev μ-loop : tie.MeasureT-loop
-μ-loop word most limit value₀ i₀ value i = length word - i
+μ-loop word end most limit value₀ i₀ value i = length word - i
 
 loop-holds : tie.Need-loop-holds Inv-loop μ-loop
 loop-holds c = (omega arith, refl, omega arith, refl)
