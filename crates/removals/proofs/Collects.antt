@@ -49,6 +49,9 @@ pub removing-none : (b : List ℕ) (s : ℕ) (ns : List ℕ) (count : ℕ) → L
 unfolding removeEach
 removing-none b s ns count L = record { low = omega arith; done = unedited b (tuplesOf b) L refl }
 
+pub removing-linked : (b₀ : List ℕ) (s : ℕ) (ns : List ℕ) (count : ℕ) (b : List ℕ) (i : ℕ) → Removing b₀ s ns count b i → Linked b
+removing-linked b₀ s ns count b i R = R .done .linked
+
 pub removing-next : (b₀ : List ℕ) (s : ℕ) (ns : List ℕ) (count : ℕ) (b b′ : List ℕ) (i : ℕ)
     → Removing b₀ s ns count b i → i < count → count ≤ length ns → Edited b b′ (remove (nodeTaken s (getD ns i 0)) (tuplesOf b))
     → Removing b₀ s ns count b′ (i + 1)
