@@ -224,7 +224,7 @@ unfoldable pub everyEnd : List ℕ → List ℕ → ℕ → Bool
 everyEnd b list kept = everyUpTo (λ (j : ℕ). endThere (tuplesOf b) (keyAt b (getD list (j - 1) 0))) kept
 
 -- the first so many places of a list name records with good keys
-pub record Listed (b list : List ℕ) (kept : ℕ) : Type 0 where
+pub record KeptRecords (b list : List ℕ) (kept : ℕ) : Type 0 where
   pub size : length list ≡ keptCount
   pub few : kept ≤ keptCount
   pub named : (j : ℕ) → j < kept → (getD list j 0 ≢ 0) × (getD list j 0 ≤ capacityOf b) × (goodKey (keyAt b (getD list j 0)) ≡ true)
@@ -232,5 +232,5 @@ pub record Listed (b list : List ℕ) (kept : ℕ) : Type 0 where
 -- what a walk of the used chain finds of the tuples: marks, and records whose second ends decide where it is sure
 pub record Decided (b marks list : List ℕ) (f : Found) : Type 0 where
   pub shows : Marks b marks
-  pub listed : Listed b list (f .kept)
+  pub listed : KeptRecords b list (f .kept)
   pub decided : f .sure ≡ true → everyKey (supported (tuplesOf b)) (tuplesOf b) ≡ everyEnd b list (f .kept)

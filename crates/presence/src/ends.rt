@@ -12,7 +12,7 @@ ghost use mathlib.Core.Path.{_≡_};
 ghost use Prim.Native.Nat.{suc, _≤_, _<_};
 ghost use lib.ListN.{length, getD, set};
 ghost use Rattle.layouts.specs.Buffer.{capacityOf, keyAt, tuplesOf};
-ghost use Rattle.presence.specs.Presence.{Walkable, Sorted, Marks, MarksFit, markCount, goodKey, Listed, keptCount, nodeSettled, edgeSettled, endThere, endShown, everyEnd, foundWith, listWith, withNamed};
+ghost use Rattle.presence.specs.Presence.{Walkable, Sorted, Marks, MarksFit, markCount, goodKey, KeptRecords, keptCount, nodeSettled, edgeSettled, endThere, endShown, everyEnd, foundWith, listWith, withNamed};
 
 // What the walk of the used chain finds.
 pub struct Found {
@@ -152,7 +152,7 @@ fn end_there(b: &[u32], marks: &[u32], i: usize) -> bool
 
 // Are the second ends there of the records that are kept.
 pub fn all_ends(b: &[u32], marks: &[u32], list: &[u16], kept: usize) -> bool
-    requires { ⌜ Sorted (now b) × Marks (now b) (now marks) × Listed (now b) (now list) kept ⌝ }
+    requires { ⌜ Sorted (now b) × Marks (now b) (now marks) × KeptRecords (now b) (now list) kept ⌝ }
     ensures { λ r. ⌜ r ≡ everyEnd (now (b .entry)) (now (list .entry)) kept ⌝ }
 {
     let mut j = kept;

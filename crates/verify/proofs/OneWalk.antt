@@ -18,7 +18,7 @@ use Rattle.model.specs.Rules.{ascendsFromUniverse, everyKey, smallKey, noEdgeWi
 use Rattle.model.specs.Numbers.{everyUpTo}
 use Rattle.model.proofs.Bools.{and-left, and-right, and-both, not-yes, not-no}
 use Rattle.model.proofs.Tuples.{same-key}
-use Rattle.presence.specs.Presence.{Walkable, endsWithin, UsedEnds, Held, Marks, MarksFit, withNamed, tuplesFrom, shapedKey, goodKey, supported, settled, endThere, nothingKept, foundWith, listWith, everyEnd, Listed, keptCount}
+use Rattle.presence.specs.Presence.{Walkable, endsWithin, UsedEnds, Held, Marks, MarksFit, withNamed, tuplesFrom, shapedKey, goodKey, supported, settled, endThere, nothingKept, foundWith, listWith, everyEnd, KeptRecords, keptCount}
 use Rattle.verify.specs.Checks.{walkedOn, walkedFrom, stepped, FreeWalk, UsedFound, keysRight, mayMeet, keyFollows, stoppedWalk, startsRight, usedWalk}
 use Rattle.verify.specs.declared.chains.Walk.{Walk}
 use Rattle.presence.specs.declared.ends.Found.{Found}
@@ -83,7 +83,7 @@ module _ (b : List ℕ) (U : UsedEnds b) where
 -- ---- records that are kept
 
 -- one record more, where its second end is not shown
-module _ (b : List ℕ) (list : List ℕ) (kept : ℕ) (L : Listed b list kept) (at : ℕ) (at≢ : at ≢ 0) (high : at ≤ capacityOf b)
+module _ (b : List ℕ) (list : List ℕ) (kept : ℕ) (L : KeptRecords b list kept) (at : ℕ) (at≢ : at ≢ 0) (high : at ≤ capacityOf b)
     (good : goodKey (keyAt b at) ≡ true) (room : kept < keptCount) where
   abbrev Named : ℕ → Type 0
   Named x = (x ≢ 0) × (x ≤ capacityOf b) × (goodKey (keyAt b x) ≡ true)
@@ -91,7 +91,7 @@ module _ (b : List ℕ) (list : List ℕ) (kept : ℕ) (L : Listed b list kept) 
   kept-at : getD (set list kept at) kept 0 ≡ at
   kept-at = let h : kept < length list = omega (arith, L .size) in getD-set-same list kept at 0 h
 
-  put-listed : Listed b (set list kept at) (suc kept)
+  put-listed : KeptRecords b (set list kept at) (suc kept)
   put-listed = record { size = length-set list kept at ∙ L .size; few = omega arith; named = λ j h. go j (eqb j kept) refl h }
     where
       go : (j : ℕ) (t : Bool) → eqb j kept ≡ t → j < suc kept → Named (getD (set list kept at) j 0)
@@ -102,9 +102,9 @@ module _ (b : List ℕ) (list : List ℕ) (kept : ℕ) (L : Listed b list kept) 
           let l : j < kept = omega arith in
           subst Named (sym (getD-set-other list kept j at 0 n)) (L .named j l)
 
-  pub keep-listed : (t : Bool) (list′ : List ℕ) (kept′ : ℕ) → list′ ≡ cond t list (set list kept at) → kept′ ≡ cond t kept (suc kept) → Listed b list′ kept′
-  keep-listed true list′ kept′ e f = subst (λ (x : ℕ). Listed b list′ x) (sym f) (subst (λ (xs : List ℕ). Listed b xs kept) (sym e) L)
-  keep-listed false list′ kept′ e f = subst (λ (x : ℕ). Listed b list′ x) (sym f) (subst (λ (xs : List ℕ). Listed b xs (suc kept)) (sym e) put-listed)
+  pub keep-listed : (t : Bool) (list′ : List ℕ) (kept′ : ℕ) → list′ ≡ cond t list (set list kept at) → kept′ ≡ cond t kept (suc kept) → KeptRecords b list′ kept′
+  keep-listed true list′ kept′ e f = subst (λ (x : ℕ). KeptRecords b list′ x) (sym f) (subst (λ (xs : List ℕ). KeptRecords b xs kept) (sym e) L)
+  keep-listed false list′ kept′ e f = subst (λ (x : ℕ). KeptRecords b list′ x) (sym f) (subst (λ (xs : List ℕ). KeptRecords b xs (suc kept)) (sym e) put-listed)
 
 -- the ends of the records before it are the same
 same-before : (b list : List ℕ) (kept at m : ℕ) → m ≤ kept
@@ -194,7 +194,7 @@ pub record Using (b ms list : List ℕ) (f : Found) (left last at : ℕ) (free :
   pub met : last ≢ 0
   pub within : last ≤ capacityOf b
   pub fit : MarksFit b ms
-  pub listed : Listed b list (f .kept)
+  pub listed : KeptRecords b list (f .kept)
   pub room : f .kept + left < capacityOf b
   pub beside : FreeWalk b free left
   pub keyed : endsWithin (capacityOf b) (usedChain b) ≡ true → Keyed b (keyAt b last) at ms
