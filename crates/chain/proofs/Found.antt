@@ -13,7 +13,7 @@ use Rattle.model.specs.Keys.{keyOf, compareKeys, sameKey}
 use Rattle.model.specs.Tuples.{Tuples, present, valueAt}
 use Rattle.layouts.specs.Buffer.{capacityOf, keyAt, tupleAt, usedOf, tuplesOf}
 use Rattle.model.proofs.Order.{keys, opposite}
-use Rattle.model.proofs.Ordered.{Below, below-not-held, above-not-held, ascending-tail, above-less}
+use Rattle.model.proofs.Ordered.{isLess-true, Below, below-not-held, above-not-held, ascending-tail, above-less}
 use Rattle.layouts.specs.Chains.{Within}
 use Rattle.words.specs.Words.{Inside}
 use Rattle.words.proofs.Words.{inside}
@@ -60,11 +60,6 @@ module _ (b : List ℕ) (k : Key) where
     pub stop : NotBelow post
     pub at-place : placeIn (keyAt b) k last is ≡ place (lastOf last pre) (headOf post)
 
-  pub is-less : (o : Ordering) → isLess o ≡ true → o ≡ Ordering·lt
-  is-less Ordering·lt e = refl
-  is-less Ordering·eq e = absurd (false≢true e)
-  is-less Ordering·gt e = absurd (false≢true e)
-
   pub parted : (last : ℕ) (is : List ℕ) → Parted last is
   unfolding placeIn tupleAt
   parted last [] = record { pre = []; post = []; split = refl; below = tt; stop = tt; at-place = refl }
@@ -76,7 +71,7 @@ module _ (b : List ℕ) (k : Key) where
             pre = i ∷ P .pre;
             post = P .post;
             split = ap (λ (js : List ℕ). i ∷ js) (P .split);
-            below = (is-less (compareKeys (keyAt b i) k) e, P .below);
+            below = (isLess-true (compareKeys (keyAt b i) k) e, P .below);
             stop = P .stop;
             at-place = ap (λ (t : Bool). cond t (placeIn (keyAt b) k i is) (place last i)) e ∙ P .at-place;
           }

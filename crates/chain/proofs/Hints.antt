@@ -14,6 +14,7 @@ use Rattle.model.specs.Keys.{keyOf, compareKeys}
 use Rattle.layouts.specs.Buffer.{word, capacityOf, next, keyAt, tupleAt, usedOf, tuplesOf}
 use Rattle.layouts.specs.Chains.{Chain, Within, Rest}
 use Rattle.model.proofs.Order.{keys}
+use Rattle.model.proofs.Ordered.{isLess-true}
 use Rattle.layouts.proofs.Chains.{start-within}
 use Rattle.words.specs.Words.{Inside}
 use Rattle.words.proofs.Words.{inside}
@@ -22,7 +23,7 @@ use Rattle.chain.specs.Links.{Linked, Reached, Hint, startOf, afterIn, p
 use Rattle.chain.proofs.Walks.{used-rest}
 use Rattle.chain.proofs.Paths.{chain-split, within-right}
 use Rattle.chain.proofs.Places.{Seeking, seek-start}
-use Rattle.chain.proofs.Found.{is-less, lastOf, snoc, at-place}
+use Rattle.chain.proofs.Found.{lastOf, snoc, at-place}
 
 pub no-hint : (b : List ℕ) → Hint b 0
 no-hint b h = absurd (h refl)
@@ -87,7 +88,7 @@ module _ (b : List ℕ) where
           whole =
               ap (placeIn (keyAt b) k 0) (R .split)
               ∙ skip k 0 hint (R .before) (R .after) (subst (λ (is : List ℕ). Ascending keyOf compareKeys (map (tupleAt b) is)) (R .split) (L .ascends))
-              (is-less b k (compareKeys (keyAt b hint) k) e)
+              (isLess-true (compareKeys (keyAt b hint) k) e)
               ∙ ap (placeIn (keyAt b) k hint) (sym (S .1));
         }
 

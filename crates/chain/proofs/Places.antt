@@ -3,7 +3,7 @@ use mathlib.Core.Bool.{Bool, true, false, cond}
 use mathlib.Core.List.{List}
 use mathlib.Core.Logic.{_≢_}
 use mathlib.Core.Path.{_≡_, refl, sym, ap, _∙_, subst}
-use Prim.Native.Nat.{ℕ, _<_, _%_}
+use Prim.Native.Nat.{ℕ, _%_}
 use native.Mathlib.Omega.{arith}
 use Rattle.model.specs.declared.Key.{Key}
 use Rattle.model.specs.Ordered.{isLess}
@@ -13,7 +13,7 @@ use Rattle.chain.specs.Links.{Linked, place, placeIn}
 use Rattle.layouts.proofs.Store.{capacity-most}
 use Rattle.words.specs.Words.{Inside}
 use Rattle.words.proofs.Words.{inside-most}
-use Rattle.chain.proofs.Walks.{remaining, Step, step, falls, at-end, used-rest}
+use Rattle.chain.proofs.Walks.{Step, step, at-end, used-rest}
 use Rattle.layouts.specs.Chains.{Rest}
 
 -- a store has fewer than 4,096 records
@@ -32,9 +32,6 @@ module _ (b : List ℕ) (k : Key) where
   module _ (before at : ℕ) (S : Seeking b k before at) where
     pub seek-inside : at ≢ 0 → Inside b at
     seek-inside h = step b at (S .walked) h .inside
-
-    pub seek-less : at ≢ 0 → (after : ℕ) → after ≡ next b at → remaining b after < remaining b at
-    seek-less h after e = subst (λ (i : ℕ). remaining b i < remaining b at) (sym e) (falls b at (S .walked) h)
 
     -- what the rest gives where the key is below or not
     turn : at ≢ 0 → (key : Key) (t : Bool) → key ≡ keyAt b at → t ≡ isLess (compareKeys key k)

@@ -1,7 +1,7 @@
 -- A tuple linked or unlinked: what is read afterwards, and that the chains are chains again.
 -- First from the words to a record of plain reads (`Inserted`, `Removed`), then from the reads to the rules.
 use mathlib.Core.Bool.{Bool, true, false}
-use mathlib.Core.List.{List, _∷_, _++_, map}
+use mathlib.Core.List.{List, _∷_, _++_, map, map-append}
 use mathlib.Core.Logic.{_≢_}
 use mathlib.Core.Path.{_≡_, refl, sym, ap, ap₂, _∙_, subst}
 use Prim.Native.Nat.{ℕ, _+_, _-_, _≤_, _<_}
@@ -19,7 +19,7 @@ use Rattle.words.specs.Words.{Inside, putNext, putTuple}
 use Rattle.words.proofs.Words.{next-head, tuple-head, word-head, past-head, length-putNext, word-putNext, next-putNext, next-putNext-other, tuple-putNext, past-putNext, length-putTuple, word-putTuple, next-putTuple, tuple-putTuple, tuple-putTuple-other, past-putTuple}
 use Rattle.layouts.proofs.Sizes.{capacity-length}
 use Rattle.chain.specs.Links.{Linking, insertAfter, Unlinking, removeAfter}
-use Rattle.chain.proofs.Paths.{Path, chain-split, path-chain, path-agree, map-agree, counted-within, within-left, within-right, map-append}
+use Rattle.chain.proofs.Paths.{Path, chain-split, path-chain, path-agree, map-agree, counted-within, within-left, within-right}
 
 -- ---- what is read after a tuple is linked
 

@@ -53,10 +53,10 @@ step b at R h = go (R .rest) (R .chain) (R .within) (R .short)
         }
 
 -- each step leaves fewer
-pub falls : (b : List ℕ) (at : ℕ) (R : Rest b at) → at ≢ 0 → remaining b (next b at) < remaining b at
-falls b at R h =
+pub falls : (b : List ℕ) (at : ℕ) (R : Rest b at) → at ≢ 0 → (after : ℕ) → after ≡ next b at → remaining b after < remaining b at
+falls b at R h after e =
     let S = step b at R h in
-    omega (arith, remaining-is b at R, remaining-is b (next b at) (S .after), ap length (S .split))
+    omega (arith, remaining-is b at R, remaining-is b (next b at) (S .after), ap length (S .split), ap (remaining b) e)
 
 -- the used chain from its head
 unfoldable pub used-rest : (b : List ℕ) → ChainRules b (usedOf b) (freeOf b) → Rest b (word b 1)

@@ -1,6 +1,6 @@
 -- A key's tuple added: linked at the key's place it is the tuple list with the key put in.
 use mathlib.Core.Bool.{Bool, true, false, cond, not}
-use mathlib.Core.List.{List, [], _∷_, _++_, map, append-assoc}
+use mathlib.Core.List.{List, [], _∷_, _++_, map, append-assoc, map-append}
 use mathlib.Core.Logic.{_≢_}
 use mathlib.Core.Option.{Option, none, some}
 use mathlib.Core.Path.{_≡_, refl, sym, ap, ap₂, _∙_, subst, subst₂}
@@ -27,7 +27,6 @@ use Rattle.words.proofs.Words.{inside}
 use Rattle.chain.specs.declared.Place.{Place}
 use Rattle.chain.specs.Links.{Linked, placeIn, Edited, Linking, insertAfter, KeepsHints}
 use Rattle.chain.proofs.Found.{snoc, NotBelow, AtPlace, at-place, above-all, find-at, present-found, place-inside}
-use Rattle.chain.proofs.Paths.{map-append}
 use Rattle.chain.proofs.Relinked.{Inserted, insert-reads, Parts, inserting, apart, inserted-rules, inserted-tuples}
 use Rattle.edit.specs.Edits.{Adding}
 use Rattle.edit.proofs.Built.{edited, unedited, length-tuples}

@@ -1,6 +1,6 @@
 -- A walk that removes: what was walked is kept but for what the selection takes, what is left is still to do.
 use mathlib.Core.Bool.{Bool, true, false, cond}
-use mathlib.Core.List.{List, [], _∷_, _++_, map, append-assoc}
+use mathlib.Core.List.{List, [], _∷_, _++_, map, append-assoc, map-append}
 use mathlib.Core.Logic.{_≢_}
 use mathlib.Core.Option.{Option, none, some}
 use mathlib.Core.Path.{_≡_, refl, sym, ap, ap₂, _∙_, subst, subst₂}
@@ -29,7 +29,7 @@ use Rattle.chain.specs.declared.Place.{Place}
 use Rattle.chain.specs.Links.{Linked, placeIn, Edited, Unlinking, removeAfter}
 use Rattle.chain.proofs.Found.{lastOf, snoc, at-place}
 use Rattle.chain.proofs.Walks.{remaining, remaining-is, at-end}
-use Rattle.chain.proofs.Paths.{chain-split, within-right, map-append}
+use Rattle.chain.proofs.Paths.{chain-split, within-right}
 use Rattle.chain.proofs.Relinked.{Removed, remove-reads, Parts, removing, apart, removed-rules}
 use Rattle.taken.specs.declared.Selection.{Selection}
 use Rattle.taken.specs.declared.Span.{Span}

@@ -17,7 +17,7 @@ use Rattle.model.specs.OneCall.{pack}
 use Rattle.model.proofs.Bools.{or-left, or-right}
 use Rattle.model.specs.Tuples.{Tuples}
 use Rattle.words.specs.Words.{Inside}
-use Rattle.chain.proofs.Walks.{remaining, Step, step, falls}
+use Rattle.chain.proofs.Walks.{Step, step}
 use Rattle.layouts.specs.Chains.{Rest}
 use Rattle.entries.specs.declared.Query.{Query}
 use Rattle.entries.specs.Queries.{firstAt, secondAt, queried, code, headCode, codes, rising, Readable, startIn, entriesInOrder, writtenPairs}
@@ -67,9 +67,6 @@ module _ (b : List ℕ) (q : Query) (R : Readable b) (o : entriesInOrder q ≡ t
   module _ (done seen at : ℕ) (W : Rising b q done seen at) where
     pub rise-inside : at ≢ 0 → Inside b at
     rise-inside h = step b at (W .walked) h .inside
-
-    pub rise-less : at ≢ 0 → (after : ℕ) → after ≡ next b at → remaining b after < remaining b at
-    rise-less h after e = subst (λ (i : ℕ). remaining b i < remaining b at) (sym e) (falls b at (W .walked) h)
 
     -- one record: its code, and none besides
     turn : (h : at ≢ 0) (k : Key) (e : ℕ) → k ≡ keyAt b at → e ≡ headCode (firstAt q k) → (T : Step b at (W .walked .rest))

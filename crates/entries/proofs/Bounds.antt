@@ -1,6 +1,6 @@
 -- Which records of the used chain can give entries: a stretch from a query's start to the first key outside.
 use mathlib.Core.Bool.{Bool, true, false, cond, not, _&&_, _||_, false≢true}
-use mathlib.Core.List.{List, [], _∷_, _++_, map}
+use mathlib.Core.List.{List, [], _∷_, _++_, map, map-append}
 use mathlib.Core.Logic.{_⊎_, inl, inr, ⊎-elim, _≢_}
 use mathlib.Core.Path.{_≡_, refl, sym, ap, _∙_, subst}
 use Prim.Native.Nat.{ℕ, _≤_, _<_, compare, Ordering, Ordering·lt, Ordering·eq, Ordering·gt}
@@ -24,7 +24,7 @@ use Rattle.chain.specs.declared.Place.{Place}
 use Rattle.chain.specs.Links.{Linked, placeIn}
 use Rattle.layouts.proofs.Chains.{start-within}
 use Rattle.chain.proofs.Walks.{Step, step, at-end, used-rest}
-use Rattle.chain.proofs.Paths.{chain-split, map-append}
+use Rattle.chain.proofs.Paths.{chain-split}
 use Rattle.chain.proofs.Found.{headOf, NotBelow, at-place}
 use Rattle.entries.specs.declared.PairQuery.{PairQuery}
 use Rattle.entries.specs.declared.Query.{Query}

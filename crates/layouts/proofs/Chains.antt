@@ -35,7 +35,7 @@ walk-chain link (suc most) (suc i) is e = go (walk link most (link (suc i))) ref
     go none f ih h = absurd (none≢some-list h)
     go (some js) f ih h = subst (Chain link (suc i)) (some-list h) (λ z. omega arith, refl, ih js f)
 
-walk-zero : (link : ℕ → ℕ) (most : ℕ) → walk link most 0 ≡ some []
+pub walk-zero : (link : ℕ → ℕ) (most : ℕ) → walk link most 0 ≡ some []
 unfolding walk
 walk-zero link zero = refl
 walk-zero link (suc most) = refl

@@ -13,7 +13,7 @@ use Rattle.model.specs.declared.Reads.{Reads}
 use Rattle.model.specs.Keys.{nodeKey}
 use Rattle.model.specs.Tuples.{present}
 use Rattle.layouts.specs.Buffer.{keyAt, usedOf, tuplesOf}
-use Rattle.model.proofs.Bools.{clash, not-yes, not-no}
+use Rattle.model.proofs.Bools.{clash, not-yes, not-no, cond-yes, cond-no}
 use Rattle.chain.specs.declared.Place.{Place}
 use Rattle.chain.specs.Links.{Linked, Hint, placeIn}
 use Rattle.chain.proofs.Hints.{no-hint, place-hint}
@@ -122,12 +122,6 @@ nodes-located b space s n m x y l X Y L = L ∙ ap₂ (locatedNodes space) X Y
 
 -- ---- what is located, by what the operator reads and whether the space is there
 
-taken : {A : Type 0} (t : Bool) (x y : A) → t ≡ true → x ≡ cond t x y
-taken t x y e = ap (λ (u : Bool). cond u x y) (sym e)
-
-left : {A : Type 0} (t : Bool) (x y : A) → t ≡ false → y ≡ cond t x y
-left t x y e = ap (λ (u : Bool). cond u x y) (sym e)
-
 module _ (b : List ℕ) (d : Decoded) where
   abbrev r : Reads
   r = d .row .reads
@@ -148,28 +142,28 @@ module _ (b : List ℕ) (d : Decoded) where
 
   pub located-unread : (l : Located) → not (r .s) ≡ true → l ≡ locatedSpace 0 false → l ≡ locatedIn b d
   unfolding whole
-  located-unread l e L = L ∙ taken _ _ _ e ∙ whole-located (soughtIn b (nodeKey (f .s) 0)) refl
+  located-unread l e L = L ∙ cond-yes _ _ _ e ∙ whole-located (soughtIn b (nodeKey (f .s) 0)) refl
 
   module _ (e : not (r .s) ≡ false) (space : Sought) (S : space ≡ soughtIn b (nodeKey (f .s) 0)) where
     pub located-absent : (l : Located) → not (space .there) ≡ true → l ≡ locatedSpace (space .before) false → l ≡ locatedIn b d
     unfolding whole
-    located-absent l t L = L ∙ taken _ _ _ t ∙ left _ _ _ e ∙ whole-located space S
+    located-absent l t L = L ∙ cond-yes _ _ _ t ∙ cond-no _ _ _ e ∙ whole-located space S
 
     module _ (t : not (space .there) ≡ false) where
       pub located-both : (l : Located) → r .m ≡ true
           → l ≡ locatedNodes (space .before) (soughtIn b (nodeKey (f .s) (f .n))) (soughtIn b (nodeKey (f .s) (f .m))) → l ≡ locatedIn b d
       unfolding whole
-      located-both l m L = L ∙ taken _ _ _ m ∙ left _ _ _ t ∙ left _ _ _ e ∙ whole-located space S
+      located-both l m L = L ∙ cond-yes _ _ _ m ∙ cond-no _ _ _ t ∙ cond-no _ _ _ e ∙ whole-located space S
 
       pub located-alone : (l : Located) → r .m ≡ false → not (r .n) ≡ true → l ≡ locatedSpace (space .before) true → l ≡ locatedIn b d
       unfolding whole
-      located-alone l m n L = L ∙ left _ _ _ (not-yes (r .n) n) ∙ left _ _ _ m ∙ left _ _ _ t ∙ left _ _ _ e ∙ whole-located space S
+      located-alone l m n L = L ∙ cond-no _ _ _ (not-yes (r .n) n) ∙ cond-no _ _ _ m ∙ cond-no _ _ _ t ∙ cond-no _ _ _ e ∙ whole-located space S
 
       pub located-node : (l : Located) (x : Sought) → r .m ≡ false → not (r .n) ≡ false → x ≡ soughtIn b (nodeKey (f .s) (f .n))
           → l ≡ locatedNode (space .before) x → l ≡ locatedIn b d
       unfolding whole
       located-node l x m n X L =
-          L ∙ ap (locatedNode (space .before)) X ∙ taken _ _ _ (not-no (r .n) n) ∙ left _ _ _ m ∙ left _ _ _ t ∙ left _ _ _ e ∙ whole-located space S
+          L ∙ ap (locatedNode (space .before)) X ∙ cond-yes _ _ _ (not-no (r .n) n) ∙ cond-no _ _ _ m ∙ cond-no _ _ _ t ∙ cond-no _ _ _ e ∙ whole-located space S
 
 -- ---- what is located is so
 

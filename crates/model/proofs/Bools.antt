@@ -1,7 +1,7 @@
 -- Tests taken apart and put together.
-use mathlib.Core.Bool.{Bool, true, false, not, _&&_, _||_, true≢false, false≢true}
+use mathlib.Core.Bool.{Bool, true, false, cond, not, _&&_, _||_, true≢false, false≢true}
 use mathlib.Core.Logic.{_⊎_, inl, inr}
-use mathlib.Core.Path.{_≡_, refl, sym, _∙_}
+use mathlib.Core.Path.{_≡_, refl, sym, ap, _∙_}
 
 pub or-cases : (a b : Bool) → (a || b) ≡ true → (a ≡ true) ⊎ (b ≡ true)
 or-cases true b e = inl refl
@@ -58,6 +58,26 @@ not-yes false e = refl
 pub no-not : (a : Bool) → a ≡ false → not a ≡ true
 no-not true e = absurd (true≢false e)
 no-not false e = refl
+
+-- the first of two tests decides, or leaves it to the second
+pub or-first : (a b : Bool) → a ≡ true → true ≡ (a || b)
+or-first a b e = ap (λ (x : Bool). x || b) (sym e)
+
+pub or-second : (a b : Bool) → a ≡ false → b ≡ (a || b)
+or-second a b e = ap (λ (x : Bool). x || b) (sym e)
+
+pub and-first : (a b : Bool) → a ≡ false → false ≡ (a && b)
+and-first a b e = ap (λ (x : Bool). x && b) (sym e)
+
+pub and-second : (a b : Bool) → a ≡ true → b ≡ (a && b)
+and-second a b e = ap (λ (x : Bool). x && b) (sym e)
+
+-- what is chosen by a test
+pub cond-yes : {A : Type 0} (t : Bool) (x y : A) → t ≡ true → x ≡ cond t x y
+cond-yes t x y e = ap (λ (u : Bool). cond u x y) (sym e)
+
+pub cond-no : {A : Type 0} (t : Bool) (x y : A) → t ≡ false → y ≡ cond t x y
+cond-no t x y e = ap (λ (u : Bool). cond u x y) (sym e)
 
 -- a test that cannot pass has failed
 pub failed : (a : Bool) → (a ≡ true → ⊥) → a ≡ false

@@ -1,5 +1,5 @@
 -- Each S list is strictly ascending and holds exactly the entries that document 01 says (specs/Entries.antt): sound and complete.
-use mathlib.Core.Bool.{Bool, true, false, cond, not, _&&_, _||_, false≢true, or-false}
+use mathlib.Core.Bool.{Bool, true, false, cond, not, _&&_, _||_, false≢true, or-false, or-assoc}
 use mathlib.Core.List.{List, [], _∷_, _++_, map}
 use mathlib.Core.Logic.{_⊎_, inl, inr, ⊎-elim, _≢_, _↔_}
 use mathlib.Core.Path.{_≡_, refl, sym, ap, _∙_, subst}
@@ -49,15 +49,11 @@ member-ascending q [] = refl
 member-ascending q (p ∷ ps) =
     holds-put itself comparePairs pairs q p (ascending ps) ∙ ap (λ (b : Bool). samePair q p || b) (member-ascending q ps)
 
-or-left-first : (a b c : Bool) → (a || (b || c)) ≡ ((a || b) || c)
-or-left-first true b c = refl
-or-left-first false b c = refl
-
 pub member-append : (q : Pair) (ps rs : List Pair) → member q (ps ++ rs) ≡ (member q ps || member q rs)
 unfolding holds
 member-append q [] rs = refl
 member-append q (p ∷ ps) rs =
-    ap (λ (b : Bool). samePair q p || b) (member-append q ps rs) ∙ or-left-first (samePair q p) (member q ps) (member q rs)
+    ap (λ (b : Bool). samePair q p || b) (member-append q ps rs) ∙ sym (or-assoc (samePair q p) (member q ps) (member q rs))
 
 -- what is gathered comes from a key that is present ..
 pub gather-sound : (f : Key → List Pair) (ts : Tuples) (q : Pair) → Member q (gather f ts) → (k : Key) × Has k ts × Member q (f k)

@@ -1,5 +1,5 @@
 -- A stopped call and a call that only reads change nothing; "full" is answered exactly when it should be; what a D operator leaves.
-use mathlib.Core.Bool.{Bool, true, false, cond, not, _&&_, _||_, false≢true, true≢false}
+use mathlib.Core.Bool.{Bool, true, false, cond, not, _&&_, _||_, false≢true, true≢false, and-true}
 use mathlib.Core.List.{List, [], _∷_, _++_}
 use mathlib.Core.Logic.{_↔_}
 use mathlib.Core.Option.{Option, none, some}
@@ -268,11 +268,7 @@ and-not-or false b c = refl
 pub present-removeNodes : (k : Key) (s : ℕ) (ps : List Pair) (ts : Tuples)
     → present k (removeNodes s ps ts) ≡ (present k ts && not (anyPair (λ (p : Pair). nodeTaken s (nodeOf p) k) ps))
 unfolding removeNodes anyPair
-present-removeNodes k s [] ts = and-true′ (present k ts)
-  where
-    and-true′ : (b : Bool) → b ≡ (b && true)
-    and-true′ true = refl
-    and-true′ false = refl
+present-removeNodes k s [] ts = sym (and-true (present k ts))
 present-removeNodes k s (p ∷ ps) ts =
     present-removeNodes k s ps (remove (nodeTaken s (nodeOf p)) ts)
     ∙ ap (λ (b : Bool). b && not (anyPair (λ (p : Pair). nodeTaken s (nodeOf p) k) ps)) (present-remove k (nodeTaken s (nodeOf p)) ts)

@@ -79,9 +79,6 @@ pub no-s : (c : Call) (r : Reads) (a b d : Bool) → r ≡ readsOf (c .operator)
 no-s c r a b d e p x q y s z given =
     given ∙ sym (ap (λ (u : Bool). u && zeroSpace (c .s)) given) ∙ left-to-space c r a b d e p x q y s z
 
-pub is-read : (a b : Bool) → a ≡ true → b ≡ (a && b)
-is-read a b e = ap (λ (x : Bool). x && b) (sym e)
-
 pub universe-asked : (c : Call) (asks : Asks) (u : Bool) → asks ≡ asksOf (c .operator) → not (asks .number) ≡ false → u ≡ isUniverse (c .s) → u ≡ destroysUniverse c
 unfolding destroysUniverse
 universe-asked c asks u e n f = f ∙ ap (λ (x : Bool). x && isUniverse (c .s)) (sym (not-no _ n) ∙ ap (λ (a : Asks). a .number) e)

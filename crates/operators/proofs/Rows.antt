@@ -13,7 +13,7 @@ use Rattle.model.specs.declared.Object.{Object}
 use Rattle.model.specs.declared.Operator.the-variants.{Create, Bind, Value as Values, Exists, Destroy, List as Lists}
 use Rattle.model.specs.declared.Removal.{Removal}
 use Rattle.model.specs.Operators.{table, operatorOf}
-use Rattle.operators.specs.Decode.{turn}
+use Rattle.operators.specs.Directions.{turn}
 use Rattle.operators.proofs.Ranges.{every}
 
 -- the third place of a row

@@ -1,1 +1,1 @@
-pub mod Decode
+pub mod Directions

@@ -20,7 +20,7 @@ ghost use Rattle.model.specs.Keys.{mostName};
 ghost use Rattle.model.specs.Steps.{spaceNumber, fieldsOf, decoded, firstArgument};
 ghost use Rattle.model.specs.Refusals.{zeroSpace, isUniverse, isNothing, selectsNothing, zeroName, lacksSpace, destroysUniverse};
 ghost use Rattle.model.specs.Machine.{FieldsFit};
-ghost use Rattle.operators.specs.Decode.{turn};
+ghost use Rattle.operators.specs.Directions.{turn};
 
 // For each field, whether it is read.
 fn fields(n: bool, g: bool, m: bool, v: bool, s: bool) -> Reads

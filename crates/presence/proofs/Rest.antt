@@ -2,7 +2,7 @@
 use mathlib.Core.Bool.{Bool, true, false, not, _&&_, _||_, true≢false}
 use mathlib.Core.List.{List, [], _∷_, map}
 use mathlib.Core.Logic.{_≢_}
-use mathlib.Core.Option.{Option, some}
+use mathlib.Core.Option.{Option}
 use mathlib.Core.Path.{_≡_, refl, sym, ap, _∙_, subst}
 use Prim.Native.Nat.{ℕ, _≤_, _<_, Ordering, Ordering·lt, Ordering·eq, Ordering·gt}
 use native.Mathlib.Omega.{arith}
@@ -20,7 +20,7 @@ use Rattle.model.proofs.Bools.{or-left, or-right, and-left, and-right, not-yes}
 use Rattle.model.proofs.Order.{keys, opposite}
 use Rattle.model.proofs.Ordered.{isLess-true, above-not-held, ascending-tail}
 use Rattle.model.proofs.Tuples.{own-key}
-use Rattle.layouts.proofs.Chains.{chain-walk}
+use Rattle.layouts.proofs.Chains.{walk-zero}
 use Rattle.words.specs.Words.{Inside}
 use Rattle.chain.proofs.Walks.{walk-meets, step}
 use Rattle.presence.specs.Presence.{Walkable, UsedEnds, recordsFrom, tuplesFrom, Seekable, isAt, isBefore, Held}
@@ -28,9 +28,6 @@ use Rattle.layouts.proofs.Sizes.{records-fit}
 use Rattle.presence.proofs.ChainEnds.{met-by-walk}
 
 -- ---- one record on
-
-walk-none : (link : ℕ → ℕ) (most : ℕ) → walk link most 0 ≡ some []
-walk-none link most = chain-walk link most 0 [] refl (omega arith)
 
 pub record-inside : (b : List ℕ) (i : ℕ) → Walkable b → i ≤ capacityOf b → i ≢ 0 → Inside b i
 record-inside b i w h n = record { low = omega arith; high = omega (arith, records-fit b (w .least) (w .most)) }
@@ -74,7 +71,7 @@ pub tuples-none : (b : List ℕ) (at : ℕ) → at ≡ 0 → tuplesFrom b at ≡
 unfolding tuplesFrom recordsFrom orNothing
 tuples-none b at e =
     ap (λ (i : ℕ). map (tupleAt b) (orNothing (walk (next b) (capacityOf b) i))) e
-    ∙ ap (λ (r : Option (List ℕ)). map (tupleAt b) (orNothing r)) (walk-none (next b) (capacityOf b))
+    ∙ ap (λ (r : Option (List ℕ)). map (tupleAt b) (orNothing r)) (walk-zero (next b) (capacityOf b))
 
 -- is a key there, at one tuple and after it
 pub present-cons : (k : Key) (b : List ℕ) (i : ℕ) (ts : Tuples) → present k (tupleAt b i ∷ ts) ≡ (sameKey k (keyAt b i) || present k ts)

@@ -1,5 +1,5 @@
 -- The tests of a selection, one answer at a time.
-use mathlib.Core.Bool.{Bool, true, false, not, _&&_, _||_, or-false}
+use mathlib.Core.Bool.{Bool, true, false, not, _&&_, _||_, or-false, or-assoc}
 use mathlib.Core.List.{List, [], _∷_, _++_}
 use mathlib.Core.Path.{_≡_, refl, sym, ap, ap₂, _∙_}
 use Prim.Native.Nat.{ℕ}
@@ -17,20 +17,6 @@ use Rattle.taken.specs.declared.Selection.{Selection}
 use Rattle.taken.specs.declared.Selection.the-variants.{Edges, Node, Space}
 use Rattle.taken.specs.Selections.{passes, takenBy}
 use Rattle.model.specs.Pairs.{pair, onlyIf, outPair, inPair, pairsAt, anyPair}
-
--- ---- an answer that was decided by the first part
-
-pub or-yes : (a b : Bool) → a ≡ true → true ≡ (a || b)
-or-yes a b e = ap (λ (x : Bool). x || b) (sym e)
-
-pub or-no : (a b : Bool) → a ≡ false → b ≡ (a || b)
-or-no a b e = ap (λ (x : Bool). x || b) (sym e)
-
-pub and-yes : (a b : Bool) → a ≡ true → b ≡ (a && b)
-and-yes a b e = ap (λ (x : Bool). x && b) (sym e)
-
-pub and-no : (a b : Bool) → a ≡ false → false ≡ (a && b)
-and-no a b e = ap (λ (x : Bool). x && b) (sym e)
 
 -- ---- the pair that a key gives
 
@@ -87,11 +73,7 @@ module _ (p : Pair → Bool) (n : ℕ) (k : Key) where
   any-append : (xs ys : List Pair) → anyPair p (xs ++ ys) ≡ (anyPair p xs || anyPair p ys)
   unfolding anyPair
   any-append [] ys = refl
-  any-append (x ∷ xs) ys = ap (λ (b : Bool). p x || b) (any-append xs ys) ∙ first-or (p x) (anyPair p xs) (anyPair p ys)
-    where
-      first-or : (a b c : Bool) → (a || (b || c)) ≡ ((a || b) || c)
-      first-or true b c = refl
-      first-or false b c = refl
+  any-append (x ∷ xs) ys = ap (λ (b : Bool). p x || b) (any-append xs ys) ∙ sym (or-assoc (p x) (anyPair p xs) (anyPair p ys))
 
   -- the directions
   module _ (d : Direction) where

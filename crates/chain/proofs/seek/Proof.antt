@@ -1,6 +1,6 @@
 use Rattle.model.proofs.Bools.{not-no, not-yes}
-use Rattle.chain.proofs.Walks.{remaining}
-use Rattle.chain.proofs.Places.{Seeking, seek-inside, seek-less, seek-on, seek-end, seek-found}
+use Rattle.chain.proofs.Walks.{remaining, falls}
+use Rattle.chain.proofs.Places.{Seeking, seek-inside, seek-on, seek-end, seek-found}
 use Rattle.chain.proofs.Hints.{seek-behind, start-hint}
 use Rattle.chain.proofs.seek.Statement.{statement}
 use Rattle.chain.proofs.seek.Tie as tie
@@ -27,7 +27,7 @@ seek-spec =
     (λ c κs. search seek-inside)
     (λ c κs. search seek-inside)
     key-below-requires
-    (λ c. search seek-less)
+    (λ c. search falls)
     (λ c. search (seek-on, not-no))
     (λ c. search seek-end)
     (λ c. search (seek-found, not-yes)))

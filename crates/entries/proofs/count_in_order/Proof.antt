@@ -1,6 +1,6 @@
-use Rattle.entries.proofs.Ascents.{Rising, rise-start, rise-inside, rise-less, rise-skip, rise-on, rise-most, rise-end}
+use Rattle.entries.proofs.Ascents.{Rising, rise-start, rise-inside, rise-skip, rise-on, rise-most, rise-end}
 use Rattle.entries.proofs.Bounds.{silent-end, silent-outside}
-use Rattle.chain.proofs.Walks.{remaining}
+use Rattle.chain.proofs.Walks.{remaining, falls}
 use native.Mathlib.Omega.{arith}
 use Rattle.entries.proofs.count_in_order.Statement.{statement}
 use Rattle.entries.proofs.count_in_order.Tie as tie
@@ -48,9 +48,9 @@ count-in-order-spec =
     returns
     first-code-requires
     (λ c κs. search rise-inside)
-    (λ c. search rise-less)
+    (λ c. search falls)
     (λ c. search rise-skip)
     add-count
-    (λ c. search rise-less)
+    (λ c. search falls)
     (λ c. search rise-on)
     returns-2)

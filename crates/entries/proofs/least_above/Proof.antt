@@ -1,6 +1,6 @@
-use Rattle.entries.proofs.Walked.{Nearing, near-start, near-inside, near-less, near-skip, near-on, near-end}
+use Rattle.entries.proofs.Walked.{Nearing, near-start, near-inside, near-skip, near-on, near-end}
 use Rattle.entries.proofs.Bounds.{apart-silent, silent-end, silent-outside}
-use Rattle.chain.proofs.Walks.{remaining}
+use Rattle.chain.proofs.Walks.{remaining, falls}
 use Rattle.entries.specs.declared.Query.the-variants.{Pairs}
 use Rattle.entries.proofs.least_above.Statement.{statement}
 use Rattle.entries.proofs.least_above.Tie as tie
@@ -59,12 +59,12 @@ least-above-spec =
     returns
     (λ c κs. search near-inside)
     touches-requires
-    (λ c. search near-less)
+    (λ c. search falls)
     loop-again
     first-pair-code-requires
     nearer-code-requires
     second-pair-code-requires
     nearer-code-requires-2
-    (λ c. search near-less)
+    (λ c. search falls)
     (λ c. search near-on)
     returns-2)

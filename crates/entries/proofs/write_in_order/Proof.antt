@@ -1,6 +1,6 @@
-use Rattle.entries.proofs.Ascents.{rise-inside, rise-less, rise-fits, rise-most, rise-end, FillingList, fill-start, fill-length, fill-skip, fill-index, fill-on, fill-end}
+use Rattle.entries.proofs.Ascents.{rise-inside, rise-fits, rise-most, rise-end, FillingList, fill-start, fill-length, fill-skip, fill-index, fill-on, fill-end}
 use Rattle.entries.proofs.Bounds.{silent-end, silent-outside}
-use Rattle.chain.proofs.Walks.{remaining}
+use Rattle.chain.proofs.Walks.{remaining, falls}
 use native.Mathlib.Omega.{arith}
 use Rattle.entries.proofs.write_in_order.Statement.{statement}
 use Rattle.entries.proofs.write_in_order.Tie as tie
@@ -56,14 +56,14 @@ write-in-order-spec =
     returns
     first-code-requires
     (λ c κs. search rise-inside)
-    (λ c. search rise-less)
+    (λ c. search falls)
     (λ c. search fill-skip)
     (λ c. omega arith)
     (λ c. search (needs, rise-fits))
     mul-list
     (λ c. search fill-index)
     add-done
-    (λ c. search rise-less)
+    (λ c. search falls)
     (λ c. search fill-on)
     (λ c. search fill-length)
     returns-2)

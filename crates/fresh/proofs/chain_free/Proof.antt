@@ -26,10 +26,14 @@ put-next-requires c κs =
     (record { low = omega arith; high = omega (arith, ap length (at-at-loop .loop .inv .1), chained-length (at-start .args .c) (at-start .args .b .now) (at-at-loop .loop .n)) }, omega (arith, follower-most (at-start .args .c) (at-at-loop .loop .n + 2)))
 
 same-length : tie.Need-same-length Inv-loop μ-loop
-same-length c = ap length (c .before .loop .inv .1) ∙ chained-length _ _ _
+same-length c =
+    let at-at-loop : tie.At-loop Inv-loop μ-loop = search in
+    ap length (at-at-loop .loop .inv .1) ∙ chained-length _ _ _
 
 returns : tie.Need-returns Inv-loop μ-loop
-returns c = c .before .loop .inv .1 ∙ ap (chained _ _) (omega arith)
+returns c =
+    let at-at-loop : tie.At-loop Inv-loop μ-loop = search in
+    at-at-loop .loop .inv .1 ∙ ap (chained _ _) (omega arith)
 
 pub chain-free-spec : {M : Type 1} → statement M
 chain-free-spec =

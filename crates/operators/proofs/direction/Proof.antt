@@ -1,5 +1,5 @@
 use Rattle.operators.proofs.Rows.{third}
-use Rattle.operators.specs.Decode.{turn}
+use Rattle.operators.specs.Directions.{turn}
 use mathlib.Core.Path.{sym, ap}
 use borrow.Author.Needs.{needs}
 use Rattle.operators.proofs.direction.Statement.{statement}

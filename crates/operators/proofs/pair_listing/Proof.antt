@@ -5,6 +5,11 @@ use borrow.Author.Needs.{needs}
 use Rattle.operators.proofs.pair_listing.Statement.{statement}
 use Rattle.operators.proofs.pair_listing.Tie as tie
 
+returns-5 : tie.Need-returns-5
+returns-5 c =
+    let joined : tie.Joined1 = search in
+    elim (joined .if1 .came) [ inl x ↦ absurd (omega arith) | inr x ↦ search row-42 ]
+
 pub pair-listing-spec : {M : Type 1} → statement M
 pair-listing-spec =
     tie.close
@@ -18,4 +23,4 @@ pair-listing-spec =
     (λ c. search row-33)
     (λ c. search row-36)
     (λ c. search row-39)
-    (λ c. elim (c .before .if1 .came) [ inl x ↦ absurd (omega arith) | inr x ↦ search row-42 ]))
+    returns-5)

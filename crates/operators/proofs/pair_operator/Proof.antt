@@ -5,6 +5,11 @@ use borrow.Author.Needs.{needs}
 use Rattle.operators.proofs.pair_operator.Statement.{statement}
 use Rattle.operators.proofs.pair_operator.Tie as tie
 
+returns-4 : tie.Need-returns-4
+returns-4 c =
+    let joined : tie.Joined1 = search in
+    elim (joined .if1 .came) [ inl x ↦ absurd (omega arith) | inr x ↦ search row-9 ]
+
 pub pair-operator-spec : {M : Type 1} → statement M
 pair-operator-spec =
     tie.close
@@ -16,4 +21,4 @@ pair-operator-spec =
     (λ c. search row-1)
     (λ c. search row-4)
     (λ c. search row-7)
-    (λ c. elim (c .before .if1 .came) [ inl x ↦ absurd (omega arith) | inr x ↦ search row-9 ]))
+    returns-4)

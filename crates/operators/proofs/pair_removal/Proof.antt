@@ -5,6 +5,11 @@ use borrow.Author.Needs.{needs}
 use Rattle.operators.proofs.pair_removal.Statement.{statement}
 use Rattle.operators.proofs.pair_removal.Tie as tie
 
+returns-6 : tie.Need-returns-6
+returns-6 c =
+    let joined : tie.Joined1 = search in
+    elim (joined .if1 .came) [ inl x ↦ absurd (omega arith) | inr x ↦ search row-27 ]
+
 pub pair-removal-spec : {M : Type 1} → statement M
 pair-removal-spec =
     tie.close
@@ -20,4 +25,4 @@ pair-removal-spec =
     (λ c. search row-18)
     (λ c. search row-21)
     (λ c. search row-24)
-    (λ c. elim (c .before .if1 .came) [ inl x ↦ absurd (omega arith) | inr x ↦ search row-27 ]))
+    returns-6)

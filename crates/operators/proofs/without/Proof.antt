@@ -1,4 +1,4 @@
-use Rattle.operators.proofs.RowTests.{not-first, first-without}
+use Rattle.model.proofs.Bools.{and-first, and-second, not-yes, not-no}
 use Rattle.operators.proofs.without.Statement.{statement}
 use Rattle.operators.proofs.without.Tie as tie
 
@@ -6,5 +6,5 @@ pub without-spec : {M : Type 1} → statement M
 without-spec =
     tie.close
     (tie.spec
-    (λ c. search not-first)
-    (λ c. search first-without))
+    (λ c. search (and-first, not-yes))
+    (λ c. search (and-second, not-no)))

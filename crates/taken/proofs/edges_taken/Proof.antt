@@ -1,4 +1,4 @@
-use Rattle.taken.proofs.Tests.{and-yes, and-no}
+use Rattle.model.proofs.Bools.{and-second, and-first}
 use Rattle.model.specs.Steps.{edgesTaken}
 use mathlib.Core.Path.{_∙_, sym}
 use borrow.Author.Needs.{needs}
@@ -8,12 +8,15 @@ use Rattle.taken.proofs.edges_taken.Tie as tie
 returns : tie.Need-returns
 unfolding edgesTaken
 returns c =
+    let at-then1 : tie.Then1 = search in
     let at-reaches-space : tie.After-reaches-space = search in
-    c .pair-taken .ensures ∙ and-yes _ _ (sym (at-reaches-space .reaches-space .ensures) ∙ c .before .if1 .taken)
+    c .pair-taken .ensures ∙ and-second _ _ (sym (at-reaches-space .reaches-space .ensures) ∙ at-then1 .if1 .taken)
 
 returns-2 : tie.Need-returns-2
 unfolding edgesTaken
-returns-2 c = and-no _ _ (sym (c .before .reaches-space .ensures) ∙ c .if1 .left)
+returns-2 c =
+    let at-reaches-space : tie.After-reaches-space = search in
+    and-first _ _ (sym (at-reaches-space .reaches-space .ensures) ∙ c .if1 .left)
 
 pub edges-taken-spec : {M : Type 1} → statement M
 edges-taken-spec =

@@ -1,4 +1,5 @@
-use Rattle.taken.proofs.Tests.{or-yes, or-no, at-out, at-in, at-both}
+use Rattle.taken.proofs.Tests.{at-out, at-in, at-both}
+use Rattle.model.proofs.Bools.{or-first, or-second}
 use mathlib.Core.Path.{refl}
 use borrow.Author.Needs.{needs}
 use Rattle.taken.proofs.pair_taken.Statement.{statement}
@@ -6,8 +7,9 @@ use Rattle.taken.proofs.pair_taken.Tie as tie
 
 returns : tie.Need-returns
 returns c =
+    let at-out-taken2 : tie.After-out-taken2 = search in
     let at-enum-told3 : tie.After-enum-told3 = search in
-    at-both _ _ _ _ (at-enum-told3 .enum-told3 .given .1) _ _ _ (c .before .out-taken2 .ensures) refl (or-yes _ _ (c .if1 .taken))
+    at-both _ _ _ _ (at-enum-told3 .enum-told3 .given .1) _ _ _ (at-out-taken2 .out-taken2 .ensures) refl (or-first _ _ (c .if1 .taken))
 
 pub pair-taken-spec : {M : Type 1} → statement M
 pair-taken-spec =
@@ -23,4 +25,4 @@ pair-taken-spec =
     (λ c κs. search needs)
     (λ c. search at-out)
     (λ c. search at-in)
-    (λ c. search (at-both, or-no)))
+    (λ c. search (at-both, or-second)))

@@ -1,4 +1,4 @@
-use Rattle.taken.proofs.Tests.{and-yes, and-no}
+use Rattle.model.proofs.Bools.{and-second, and-first}
 use Rattle.taken.specs.Selections.{passes}
 use mathlib.Core.Path.{_∙_, sym}
 use borrow.Author.Needs.{needs}
@@ -8,12 +8,15 @@ use Rattle.taken.proofs.passes_pair.Tie as tie
 returns : tie.Need-returns
 unfolding passes
 returns c =
+    let at-then1 : tie.Then1 = search in
     let at-asked : tie.After-asked = search in
-    c .asked2 .ensures ∙ and-yes _ _ (sym (at-asked .asked .ensures) ∙ c .before .if1 .taken)
+    c .asked2 .ensures ∙ and-second _ _ (sym (at-asked .asked .ensures) ∙ at-then1 .if1 .taken)
 
 returns-2 : tie.Need-returns-2
 unfolding passes
-returns-2 c = and-no _ _ (sym (c .before .asked .ensures) ∙ c .if1 .left)
+returns-2 c =
+    let at-asked : tie.After-asked = search in
+    and-first _ _ (sym (at-asked .asked .ensures) ∙ c .if1 .left)
 
 pub passes-pair-spec : {M : Type 1} → statement M
 passes-pair-spec = tie.close (tie.spec
