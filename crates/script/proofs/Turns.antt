@@ -138,6 +138,10 @@ module _ (b₀ l₀ : List ℕ) (script : Text) (from : ℕ) (out₀ : Text) whe
         run = ap (λ (n : ℕ). runLines n (tuplesOf b₀) l₀ (linesOf (drop from script))) whole;
       }
 
+  -- the output keeps its length
+  pub run-sized : (b l : List ℕ) (at size : ℕ) (out : Text) → Running b₀ l₀ script from out₀ b l at size out → length out ≡ length out₀
+  run-sized b l at size out S = ap length (S .put .bytes) ∙ length-written out₀ 0 (S .done) (omega (arith, S .put .place, S .fits))
+
   -- one more line
   pub run-next-line : (b l : List ℕ) (at size : ℕ) (out line : Text) (b′ l′ : List ℕ) (stop : ℕ) (out′ : Text) (next : ℕ)
       → Running b₀ l₀ script from out₀ b l at size out → mostLine ≤ length out - size
@@ -145,8 +149,7 @@ module _ (b₀ l₀ : List ℕ) (script : Text) (from : ℕ) (out₀ : Text) whe
   run-next-line b l at size out line b′ l′ stop out′ next S wide X L =
       let left : LineLeft b l line b′ l′ = line-left b l (S .ready) line out size b′ l′ stop out′ L in
       let a : Text = answerLine (lineOutcome (tuplesOf b) line .answer) in
-      let sized : length out ≡ length out₀
-      = ap length (S .put .bytes) ∙ length-written out₀ 0 (S .done) (omega (arith, S .put .place, S .fits)) in
+      let sized : length out ≡ length out₀ = run-sized b l at size out S in
       let room : mostLine ≤ length out₀ - size = omega arith in
       let grown : length (S .done ++ a) ≡ length (S .done) + length a = length-append (S .done) a in
       let room′ : length out₀ - size - length a ≡ length out₀ - stop = omega (arith, L .put .place) in
@@ -201,10 +204,6 @@ module _ (b₀ l₀ : List ℕ) (script : Text) (from : ℕ) (out₀ : Text) whe
         rest = sym (ap (λ (u : Run). u .rest) done);
         forward = forward;
       }
-
-  -- the output keeps its length
-  pub run-sized : (b l : List ℕ) (at size : ℕ) (out : Text) → Running b₀ l₀ script from out₀ b l at size out → length out ≡ length out₀
-  run-sized b l at size out S = ap length (S .put .bytes) ∙ length-written out₀ 0 (S .done) (omega (arith, S .put .place, S .fits))
 
   -- the run ends where there is no room for a line ..
   pub run-short : (b l : List ℕ) (at size : ℕ) (out : Text) → Running b₀ l₀ script from out₀ b l at size out → length out - size < mostLine
