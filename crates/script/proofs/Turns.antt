@@ -196,8 +196,8 @@ module _ (b₀ l₀ : List ℕ) (script : Text) (from : ℕ) (out₀ : Text) whe
       record {
         ready = S .ready;
         called = subst (λ (xs : List Text). Trace LineStep (b₀, l₀) xs (b, l)) all (S .called);
-        state = sym (ap (λ (u : Run). u .state) done);
-        list = sym (ap (λ (u : Run). u .list) done);
+        stateLeft = sym (ap (λ (u : Run). u .state) done);
+        listLeft = sym (ap (λ (u : Run). u .list) done);
         put = subst (λ (bs : Text). Put bs out₀ 0 size out) (sym (ap (λ (u : Run). u .text) done ∙ append-nil (S .done))) (S .put);
         fits = S .fits;
         next = omega (arith, S .place, ap linesLength all);
