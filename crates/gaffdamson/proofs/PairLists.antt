@@ -1,11 +1,7 @@
 -- Demands 1 and 3 of the C functions with lists of pairs: calls of `gaffdamson_call_pairs`, one after the other, on any buffer or on one that `gaffdamson_prepare` has prepared.
 -- They rest on what these functions ensure by their own contracts (`Learnt`), so a weaker contract breaks them.
 use mathlib.Core.List.{List, map}
-use mathlib.Core.Path.{refl}
 use Prim.Native.Nat.{ℕ}
-use base.Logic.{emp}
-use borrow.Fn.Claims.{AllOf}
-use borrow.Fn.Read.{Read, no-know, r-last, all-models}
 use borrow.Fn.World.{World, ArgsD, ResD}
 use contract.Lifetimes.{Lfts}
 use denote.Triple.Clauses.{AtExit}
@@ -19,6 +15,7 @@ use Rattle.layouts.proofs.Stored.{stored-lawful}
 use Rattle.model.proofs.Traces.{trace-map}
 use Rattle.model.proofs.CallLists.{MachineStep, whole-prepared}
 use Rattle.pairs.specs.InPairs.{CallInPairs, PairsMade, OneInPairs, exchangeInPairs}
+use Rattle.pairs.proofs.Learning.{clause, Learns}
 use Rattle.pairs.proofs.Lists.{pairs-machine, pairs-meet-demand-1}
 use Rattle.gaffdamson.specs.Numbers.{packedPreparation, answerIn}
 use Rattle.gaffdamson.specs.Calls.{callOfNumbers}
@@ -26,14 +23,9 @@ use Rattle.gaffdamson.proofs.Apart.{read-in-number}
 use Rattle.gaffdamson.proofs.Lists.{PreparedFromC, c-prepared}
 use Rattle.gaffdamson.proofs.gaffdamson_call_pairs as call-pairs
 
--- the contract's clause, read at every model
-abbrev clause : (κs : Lfts 2) (a : ArgsD call-pairs.signature κs) (r : ResD call-pairs.signature κs) (e : AtExit call-pairs.ended κs)
-    → Read (λ (w : World). emp (w .𝓤)) no-know (λ (w : World). call-pairs.clauses (w .𝓤) (w .H) (w .𝓖 .A) (w .𝓜 .mem) (w .𝓡 .run) κs a .ensures tt r e)
-clause κs a r e = all-models _ (λ w. r-last _) (λ w. refl) (λ w. refl) (λ w. refl)
-
 -- what whoever has called `gaffdamson_call_pairs` knows then
 abbrev pub Learnt : (κs : Lfts 2) (a : ArgsD call-pairs.signature κs) (r : ResD call-pairs.signature κs) (e : AtExit call-pairs.ended κs) → Type 0
-Learnt κs a r e = AllOf (clause κs a r e .tells)
+Learnt κs a r e = Learns (λ (w : World). call-pairs.clauses (w .𝓤) (w .H) (w .𝓖 .A) (w .𝓜 .mem) (w .𝓡 .run) κs a .ensures tt r e) (clause _)
 
 -- a call of `gaffdamson_call_pairs`, from a buffer to a buffer; of the number that it answers, the answer that a caller reads in it
 pub data CalledInPairsFromC : List ℕ → PairsMade → List ℕ → Type 0 where
