@@ -1,6 +1,6 @@
 -- A number gives back the answer that it packs, so different answers are different numbers.
 use mathlib.Core.Bool.{true, false}
-use mathlib.Core.Path.{_≡_, refl, ap, ap₂, _∙_}
+use mathlib.Core.Path.{_≡_, refl, sym, ap, ap₂, _∙_, subst}
 use Prim.Native.Nat.{ℕ, _≤_, _/_, _%_}
 use native.Mathlib.Omega.{arith}
 use Rattle.model.specs.declared.Answer.{Answer}
@@ -32,3 +32,7 @@ answer-back a r P =
     ap answerIn (P .number)
     ∙ ap₂ ofKind (kind-back (kindOf a) (numberOf a) (P .fits)) (number-back (kindOf a) (numberOf a) (P .fits))
     ∙ of-its-kind a
+
+-- so that what holds of the answer holds of what is read
+pub read-in-number : (Holds : Answer → Type 0) (a : Answer) (r : ℕ) → PackedAs a r → Holds a → Holds (answerIn r)
+read-in-number Holds a r P h = subst Holds (sym (answer-back a r P)) h

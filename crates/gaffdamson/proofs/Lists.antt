@@ -2,14 +2,13 @@
 -- They rest on what a caller of these functions learns from their own contracts (`Learnt`), so a weaker contract breaks them.
 use mathlib.Core.Bool.{Bool, true, false, cond}
 use mathlib.Core.List.{List, map}
-use mathlib.Core.Path.{_≡_, refl, sym, ap, _∙_, subst}
+use mathlib.Core.Path.{_≡_, refl, sym, ap, _∙_}
 use Prim.Native.Nat.{ℕ}
 use native.Mathlib.Omega.{arith}
 use contract.Lifetimes.{Lfts}
 use borrow.Fn.Kinds.{Dens, resT, endedOf}
 use denote.Triple.Clauses.{AtExit}
 use Rattle.model.specs.declared.Answer.{Answer}
-use Rattle.model.specs.declared.Call.{Call}
 use Rattle.model.specs.declared.Preparation.the-variants.{Refused, Capacity}
 use Rattle.model.specs.Tuples.{fresh}
 use Rattle.layouts.specs.Buffer.{fitsLength}
@@ -24,8 +23,8 @@ use Rattle.model.proofs.Demand1.{one-call-demand-1}
 use Rattle.run.specs.Runs.{Ran, RunDemand1, WholeRun}
 use Rattle.run.proofs.Demand.{ran-demand-1, ran-prepared}
 use Rattle.gaffdamson.specs.Numbers.{packed, packedPreparation, answerIn}
-use Rattle.gaffdamson.specs.Calls.{callOfNumbers, Called, preparationOf, PreparedAs}
-use Rattle.gaffdamson.proofs.Apart.{answer-back}
+use Rattle.gaffdamson.specs.Calls.{callOfNumbers, preparationOf, PreparedAs}
+use Rattle.gaffdamson.proofs.Apart.{read-in-number}
 use Rattle.gaffdamson.proofs.gaffdamson_prepare.Kinds as prepare-kinds
 use Rattle.gaffdamson.proofs.gaffdamson_prepare.Reads as prepare-reads
 use Rattle.gaffdamson.proofs.gaffdamson_call.Kinds as kinds
@@ -55,11 +54,9 @@ pub data CalledFromC : List ℕ → CallMade → List ℕ → Type 0 where
       (e .0 .now)
 
 -- it is one call as document 01 has it
-read-in-number : (b l : List ℕ) (c : Call) (r : ℕ) (b′ l′ : List ℕ) → Called b l c r b′ l′ → OneCall stored b l c (answerIn r) b′ l′
-read-in-number b l c r b′ l′ K = subst (λ (x : Answer). OneCall stored b l c x b′ l′) (sym (answer-back _ r (K .answer))) (K .call)
-
 pub called-one : {b b′ : List ℕ} {x : CallMade} → CalledFromC b x b′ → OneMade stored b x b′
-called-one (called-from-c κs a r e K) = read-in-number _ _ _ r _ _ K
+called-one {b} {b′} {x} (called-from-c κs a r e K) =
+    read-in-number (λ (y : Answer). OneCall stored b (x .lent) (x .call) y b′ (x .left)) _ r (K .answer) (K .call)
 
 -- a call of `gaffdamson_run`: its four slices before it, its answer, three of them after it
 pub data RunFromC : List ℕ → List ℕ → List ℕ → List ℕ → ℕ → List ℕ → List ℕ → List ℕ → Type 0 where

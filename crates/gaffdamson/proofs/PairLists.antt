@@ -1,17 +1,11 @@
 -- Demands 1 and 3 of the C functions with lists of pairs: calls of `gaffdamson_call_pairs`, one after the other, on any buffer or on one that `gaffdamson_prepare` has prepared.
 -- They rest on what these functions ensure by their own contracts (`Learnt`), so a weaker contract breaks them.
 use mathlib.Core.List.{List, map}
-use mathlib.Core.Path.{refl, sym, subst}
 use Prim.Native.Nat.{ℕ}
-use base.Logic.{emp}
-use borrow.Fn.Claims.{AllOf}
-use borrow.Fn.Read.{Read, no-know, r-last, all-models}
 use borrow.Fn.World.{World, ArgsD, ResD}
 use contract.Lifetimes.{Lfts}
 use denote.Triple.Clauses.{AtExit}
 use Rattle.model.specs.declared.Answer.{Answer}
-use Rattle.model.specs.declared.Call.{Call}
-use Rattle.model.specs.declared.Pair.{Pair}
 use Rattle.model.specs.declared.Preparation.the-variants.{Capacity}
 use Rattle.model.specs.Tuples.{fresh}
 use Rattle.model.specs.Traces.{Trace}
@@ -21,21 +15,17 @@ use Rattle.layouts.proofs.Stored.{stored-lawful}
 use Rattle.model.proofs.Traces.{trace-map}
 use Rattle.model.proofs.CallLists.{MachineStep, whole-prepared}
 use Rattle.pairs.specs.InPairs.{CallInPairs, PairsMade, OneInPairs, exchangeInPairs}
+use Rattle.pairs.proofs.Learning.{clause, Learns}
 use Rattle.pairs.proofs.Lists.{pairs-machine, pairs-meet-demand-1}
 use Rattle.gaffdamson.specs.Numbers.{packedPreparation, answerIn}
-use Rattle.gaffdamson.specs.Calls.{callOfNumbers, CalledInPairs}
-use Rattle.gaffdamson.proofs.Apart.{answer-back}
+use Rattle.gaffdamson.specs.Calls.{callOfNumbers}
+use Rattle.gaffdamson.proofs.Apart.{read-in-number}
 use Rattle.gaffdamson.proofs.Lists.{PreparedFromC, c-prepared}
 use Rattle.gaffdamson.proofs.gaffdamson_call_pairs as call-pairs
 
--- the contract's clause, read at every model
-abbrev clause : (κs : Lfts 2) (a : ArgsD call-pairs.signature κs) (r : ResD call-pairs.signature κs) (e : AtExit call-pairs.ended κs)
-    → Read (λ (w : World). emp (w .𝓤)) no-know (λ (w : World). call-pairs.clauses (w .𝓤) (w .H) (w .𝓖 .A) (w .𝓜 .mem) (w .𝓡 .run) κs a .ensures tt r e)
-clause κs a r e = all-models _ (λ w. r-last _) (λ w. refl) (λ w. refl) (λ w. refl)
-
 -- what whoever has called `gaffdamson_call_pairs` knows then
 abbrev pub Learnt : (κs : Lfts 2) (a : ArgsD call-pairs.signature κs) (r : ResD call-pairs.signature κs) (e : AtExit call-pairs.ended κs) → Type 0
-Learnt κs a r e = AllOf (clause κs a r e .tells)
+Learnt κs a r e = Learns (λ (w : World). call-pairs.clauses (w .𝓤) (w .H) (w .𝓖 .A) (w .𝓜 .mem) (w .𝓡 .run) κs a .ensures tt r e) (clause _)
 
 -- a call of `gaffdamson_call_pairs`, from a buffer to a buffer; of the number that it answers, the answer that a caller reads in it
 pub data CalledInPairsFromC : List ℕ → PairsMade → List ℕ → Type 0 where
@@ -51,11 +41,9 @@ pub data CalledInPairsFromC : List ℕ → PairsMade → List ℕ → Type 0 whe
       (e .0 .now)
 
 -- it is one call in pairs
-read-in-number : (b : List ℕ) (l : List Pair) (c : Call) (r : ℕ) (b′ : List ℕ) (l′ : List Pair) → CalledInPairs b l c r b′ l′ → CallInPairs b l c (answerIn r) b′ l′
-read-in-number b l c r b′ l′ K = subst (λ (x : Answer). CallInPairs b l c x b′ l′) (sym (answer-back _ r (K .answer))) (K .call)
-
 pub called-in-pairs : {b b′ : List ℕ} {x : PairsMade} → CalledInPairsFromC b x b′ → OneInPairs b x b′
-called-in-pairs (called-from-c κs a r e K) = read-in-number _ _ _ r _ _ K
+called-in-pairs {b} {b′} {x} (called-from-c κs a r e K) =
+    read-in-number (λ (y : Answer). CallInPairs b (x .lent) (x .call) y b′ (x .left)) _ r (K .answer) (K .call)
 
 -- demand 1: of every call
 pub c-pairs-demand-1 : (b b′ : List ℕ) (x : PairsMade) → CalledInPairsFromC b x b′ → MeetsDemand1 stored b x b′

@@ -13,6 +13,7 @@ use Rattle.model.specs.declared.Space.the-variants.{Universe, Numbered, Nothing
 use Rattle.model.specs.Numbers.{everyUpTo}
 use Rattle.model.specs.Keys.{mostName}
 use Rattle.model.specs.Operators.{readsOf, within}
+use Rattle.model.specs.Steps.{spaceNumber}
 use Rattle.model.proofs.Bools.{and-left, and-right, and-both, failed}
 use Rattle.model.proofs.Numbers.{every-up-to}
 use Rattle.text.specs.Bytes.{Text, sameText, blank, U, hyphen}
@@ -26,7 +27,7 @@ use Rattle.lines.specs.Lines.{wordsOf}
 use Rattle.letters.specs.OperatorWords.{operatorWords, numberFrom, operatorNumber}
 use Rattle.lines.specs.Calls.{mostValue, withNumber, takeNumber, takeSpace, complete, callOf, inOrder, spaceThenValue, spaces, arguments, readWords, readLine}
 use Rattle.model.specs.Unread.{readable}
-use Rattle.lines.specs.Reachable.{joined, lettersOf, spaceText, ifRead, fieldsThen, orderedOf, argumentsOf, lineOf, shortLineOf, SpaceFits, Fitting}
+use Rattle.lines.specs.Reachable.{joined, lettersOf, spaceText, ifRead, fieldsThen, orderedOf, argumentsOf, lineOf, shortLineOf, CallFits}
 use Rattle.lines.proofs.Parting.{parted-off}
 use Rattle.lines.proofs.CallLaws.{behindN, behindG, behindM, behindV}
 
@@ -55,11 +56,11 @@ parted w (x ∷ xs) e f =
 printed-plain : (x : ℕ) → plain (printedNumber x) ≡ true
 printed-plain x = lacks-printed blank x (omega arith)
 
-space-plain : (s : Space) → SpaceFits s → plain (spaceText s) ≡ true
+space-plain : (s : Space) → plain (spaceText s) ≡ true
 unfolding spaceText
-space-plain Universe h = refl
-space-plain (Numbered x) h = printed-plain (x .0)
-space-plain Nothing h = refl
+space-plain Universe = refl
+space-plain (Numbered x) = printed-plain (x .0)
+space-plain Nothing = refl
 
 read-plain : (read : Bool) (w : Text) (ws : List Text) → plain w ≡ true → allPlain ws ≡ true → allPlain (ifRead read w ws) ≡ true
 unfolding ifRead
@@ -70,30 +71,30 @@ letters-plain : (o : ℕ) → 1 ≤ o → o ≤ 57 → plain (lettersOf o) ≡ t
 unfolding everyUpTo lettersOf operatorWords
 letters-plain o h k = every-up-to (λ (i : ℕ). plain (lettersOf i)) 57 refl o h k
 
-fields-plain : (c : Call) → Fitting c → (ws : List Text) → allPlain ws ≡ true → allPlain (fieldsThen c ws) ≡ true
+fields-plain : (c : Call) (ws : List Text) → allPlain ws ≡ true → allPlain (fieldsThen c ws) ≡ true
 unfolding fieldsThen
-fields-plain c f ws h =
+fields-plain c ws h =
     read-plain (readsOf (c .operator) .n) _ _ (printed-plain (c .n .0))
     (read-plain (readsOf (c .operator) .g) _ _ (printed-plain (c .g .0))
     (read-plain (readsOf (c .operator) .m) _ _ (printed-plain (c .m .0))
     (read-plain (readsOf (c .operator) .v) _ ws (printed-plain (c .v)) h)))
 
-ordered-plain : (c : Call) → Fitting c → allPlain (orderedOf c) ≡ true
+ordered-plain : (c : Call) → allPlain (orderedOf c) ≡ true
 unfolding orderedOf
-ordered-plain c f =
-    fields-plain c f (ifRead (readsOf (c .operator) .s) (spaceText (c .s)) [])
-    (read-plain (readsOf (c .operator) .s) _ [] (space-plain (c .s) (f .spaceFits)) refl)
+ordered-plain c =
+    fields-plain c (ifRead (readsOf (c .operator) .s) (spaceText (c .s)) [])
+    (read-plain (readsOf (c .operator) .s) _ [] (space-plain (c .s)) refl)
 
 either : (b : Bool) (x y : List Text) → allPlain x ≡ true → allPlain y ≡ true → allPlain (cond b x y) ≡ true
 either true x y e f = e
 either false x y e f = f
 
-arguments-plain : (c : Call) → Fitting c → allPlain (argumentsOf c) ≡ true
+arguments-plain : (c : Call) → allPlain (argumentsOf c) ≡ true
 unfolding argumentsOf
-arguments-plain c f =
+arguments-plain c =
     either (eqb (c .operator) 52) (spaceText (c .s) ∷ printedNumber (c .v) ∷ []) (orderedOf c)
-    (and-both (plain (spaceText (c .s))) _ (space-plain (c .s) (f .spaceFits)) (and-both (plain (printedNumber (c .v))) true (printed-plain (c .v)) refl))
-    (ordered-plain c f)
+    (and-both (plain (spaceText (c .s))) _ (space-plain (c .s)) (and-both (plain (printedNumber (c .v))) true (printed-plain (c .v)) refl))
+    (ordered-plain c)
 
 -- a printed field reads back
 
@@ -129,16 +130,16 @@ printed-space optional x ws then h =
     let b = reads-back mostName (x .0) h (omega arith) in
     rw (n, k, b)
 
-take-space : (optional : Bool) (s : Space) (ws : List Text) (then : Space → List Text → Reading) → SpaceFits s → takeSpace optional (spaceText s ∷ ws) then ≡ then s ws
-unfolding spaceText
+take-space : (optional : Bool) (s : Space) (ws : List Text) (then : Space → List Text → Reading) → spaceNumber s ≤ mostName → takeSpace optional (spaceText s ∷ ws) then ≡ then s ws
+unfolding spaceText spaceNumber
 take-space optional Universe ws then h = universe-space optional ws then
 take-space optional (Numbered x) ws then h = printed-space optional x ws then h
 take-space optional Nothing ws then h = nothing-space optional ws then
 
 -- the line of a call, by its words
-whole : (c : Call) → Fitting c → readLine (lineOf c) ≡ arguments (operatorNumber (lettersOf (c .operator))) (argumentsOf c)
+whole : (c : Call) → CallFits c → readLine (lineOf c) ≡ arguments (operatorNumber (lettersOf (c .operator))) (argumentsOf c)
 unfolding readLine readWords lineOf
-whole c f = ap readWords (parted (lettersOf (c .operator)) (argumentsOf c) (letters-plain (c .operator) (f .least) (f .last)) (arguments-plain c f))
+whole c f = ap readWords (parted (lettersOf (c .operator)) (argumentsOf c) (letters-plain (c .operator) (f .least) (f .last)) (arguments-plain c))
 
 -- 57, 56 and 52
 
@@ -158,7 +159,7 @@ value-last s v h =
     let b = reads-back mostValue v h (omega arith) in
     rw b
 
-reads-52 : (n g m v : ℕ) (s : Space) → v ≤ mostValue → SpaceFits s → arguments (operatorNumber (lettersOf 52)) (argumentsOf (callOf 52 n g m v s)) ≡ Read (readable (callOf 52 n g m v s))
+reads-52 : (n g m v : ℕ) (s : Space) → v ≤ mostValue → spaceNumber s ≤ mostName → arguments (operatorNumber (lettersOf 52)) (argumentsOf (callOf 52 n g m v s)) ≡ Read (readable (callOf 52 n g m v s))
 unfolding lettersOf operatorWords operatorNumber numberFrom sameText arguments argumentsOf readsOf spaceThenValue readable
 reads-52 n g m v s h k =
     take-space false s (printedNumber v ∷ []) (λ (t : Space) (ws : List Text). takeNumber true mostValue ws (λ (x : ℕ) (vs : List Text). complete (callOf 52 0 0 0 x t) vs)) k
@@ -174,7 +175,7 @@ space-asked : (o : ℕ) → 1 ≤ o → o ≤ 55 → readsOf o .s ≡ true
 unfolding everyUpTo readsOf
 space-asked o h k = every-up-to (λ (i : ℕ). readsOf i .s) 55 refl o h k
 
-space-last : (read optional : Bool) (s : Space) (then : Space → List Text → Reading) → read ≡ true → SpaceFits s → takeSpace optional (ifRead read (spaceText s) []) then ≡ then (cond read s Universe) []
+space-last : (read optional : Bool) (s : Space) (then : Space → List Text → Reading) → read ≡ true → spaceNumber s ≤ mostName → takeSpace optional (ifRead read (spaceText s) []) then ≡ then (cond read s Universe) []
 unfolding ifRead
 space-last true optional s then e h = take-space optional s [] then h
 space-last false optional s then e h = absurd (true≢false (sym e))
@@ -185,7 +186,7 @@ fieldsRead c s ws =
     let r = readsOf (c .operator) in
     complete (callOf (c .operator) (cond (r .n) (c .n .0) 0) (cond (r .g) (c .g .0) 0) (cond (r .m) (c .m .0) 0) (cond (r .v) (c .v) 0) s) ws
 
-fields-in-order : (c : Call) → Fitting c → (ws : List Text) → inOrder (c .operator) (fieldsThen c ws) ≡ takeSpace (within 1 50 (c .operator)) ws (fieldsRead c)
+fields-in-order : (c : Call) → CallFits c → (ws : List Text) → inOrder (c .operator) (fieldsThen c ws) ≡ takeSpace (within 1 50 (c .operator)) ws (fieldsRead c)
 unfolding inOrder fieldsThen
 fields-in-order c f ws =
     let o = c .operator in
@@ -193,19 +194,19 @@ fields-in-order c f ws =
     let n = cond (r .n) (c .n .0) 0 in
     let g = cond (r .g) (c .g .0) 0 in
     let m = cond (r .m) (c .m .0) 0 in
-    take-printed (r .n) mostName (c .n .0) _ (behindN o) (f .nodeFits) (omega arith)
-    ∙ take-printed (r .g) mostName (c .g .0) _ (behindG o n) (f .edgeFits) (omega arith)
-    ∙ take-printed (r .m) mostName (c .m .0) _ (behindM o n g) (f .otherFits) (omega arith)
-    ∙ take-printed (r .v) mostValue (c .v) ws (behindV o n g m) (f .valueFits) (omega arith)
+    take-printed (r .n) mostName (c .n .0) _ (behindN o) (f .names .n) (omega arith)
+    ∙ take-printed (r .g) mostName (c .g .0) _ (behindG o n) (f .names .g) (omega arith)
+    ∙ take-printed (r .m) mostName (c .m .0) _ (behindM o n g) (f .names .m) (omega arith)
+    ∙ take-printed (r .v) mostValue (c .v) ws (behindV o n g m) (f .value) (omega arith)
 
-in-order : (c : Call) → Fitting c → c .operator ≤ 55 → inOrder (c .operator) (orderedOf c) ≡ Read (readable c)
+in-order : (c : Call) → CallFits c → c .operator ≤ 55 → inOrder (c .operator) (orderedOf c) ≡ Read (readable c)
 unfolding orderedOf readable complete
 in-order c f k =
     let r = readsOf (c .operator) in
     fields-in-order c f (ifRead (r .s) (spaceText (c .s)) [])
-    ∙ space-last (r .s) (within 1 50 (c .operator)) (c .s) (fieldsRead c) (space-asked (c .operator) (f .least) k) (f .spaceFits)
+    ∙ space-last (r .s) (within 1 50 (c .operator)) (c .s) (fieldsRead c) (space-asked (c .operator) (f .least) k) (f .names .s)
 
-reads-other : (c : Call) → Fitting c → c .operator ≤ 55 → (c .operator ≡ 52 → ⊥) → arguments (operatorNumber (lettersOf (c .operator))) (argumentsOf c) ≡ Read (readable c)
+reads-other : (c : Call) → CallFits c → c .operator ≤ 55 → (c .operator ≡ 52 → ⊥) → arguments (operatorNumber (lettersOf (c .operator))) (argumentsOf c) ≡ Read (readable c)
 unfolding arguments argumentsOf
 reads-other c f k b =
     let z = ne-eqb (c .operator) 0 (λ e. omega (arith, f .least)) in
@@ -215,7 +216,7 @@ reads-other c f k b =
     rw (i, z, p, q) (in-order c f k)
 
 -- every call of an operator from 1 to 57 has a line, and the line reads as it
-pub no-operator-out-of-reach : (c : Call) → Fitting c → readLine (lineOf c) ≡ Read (readable c)
+pub no-operator-out-of-reach : (c : Call) → CallFits c → readLine (lineOf c) ≡ Read (readable c)
 no-operator-out-of-reach c f = whole c f ∙ go (eqb (c .operator) 57) refl (eqb (c .operator) 56) refl (eqb (c .operator) 52) refl
   where
     Claim : Call → Type 0
@@ -225,9 +226,9 @@ no-operator-out-of-reach c f = whole c f ∙ go (eqb (c .operator) 57) refl (eqb
     at o = Claim (callOf o (c .n .0) (c .g .0) (c .m .0) (c .v) (c .s))
 
     go : (a : Bool) → eqb (c .operator) 57 ≡ a → (b : Bool) → eqb (c .operator) 56 ≡ b → (d : Bool) → eqb (c .operator) 52 ≡ d → at (c .operator)
-    go true e b h d k = subst at (sym (eqb-true (c .operator) 57 e)) (reads-57 (c .n .0) (c .g .0) (c .m .0) (c .v) (c .s) (f .nodeFits))
+    go true e b h d k = subst at (sym (eqb-true (c .operator) 57 e)) (reads-57 (c .n .0) (c .g .0) (c .m .0) (c .v) (c .s) (f .names .n))
     go false e true h d k = subst at (sym (eqb-true (c .operator) 56 h)) (reads-56 (c .n .0) (c .g .0) (c .m .0) (c .v) (c .s))
-    go false e false h true k = subst at (sym (eqb-true (c .operator) 52 k)) (reads-52 (c .n .0) (c .g .0) (c .m .0) (c .v) (c .s) (f .valueFits) (f .spaceFits))
+    go false e false h true k = subst at (sym (eqb-true (c .operator) 52 k)) (reads-52 (c .n .0) (c .g .0) (c .m .0) (c .v) (c .s) (f .value) (f .names .s))
     go false e false h false k =
         let p = eqb-false (c .operator) 57 e in
         let q = eqb-false (c .operator) 56 h in
@@ -244,7 +245,7 @@ missing-last c h e =
     let read = space-asked (c .operator) least (omega (arith, most)) in
     rw (h, read, e)
 
-pub space-left-out : (c : Call) → Fitting c → within 1 50 (c .operator) ≡ true → c .s ≡ Universe → readLine (shortLineOf c) ≡ Read (readable c)
+pub space-left-out : (c : Call) → CallFits c → within 1 50 (c .operator) ≡ true → c .s ≡ Universe → readLine (shortLineOf c) ≡ Read (readable c)
 unfolding readLine readWords shortLineOf arguments
 space-left-out c f h e =
     let most = leb-true (c .operator) 50 (and-right (leb 1 (c .operator)) (leb (c .operator) 50) h) in
@@ -252,5 +253,5 @@ space-left-out c f h e =
     let p = ne-eqb (c .operator) 52 (λ k. omega (arith, most)) in
     let q = ne-eqb (c .operator) 56 (λ k. omega (arith, most)) in
     let i = number-back (c .operator) (f .least) (omega (arith, most)) in
-    ap readWords (parted (lettersOf (c .operator)) (fieldsThen c []) (letters-plain (c .operator) (f .least) (f .last)) (fields-plain c f [] refl))
+    ap readWords (parted (lettersOf (c .operator)) (fieldsThen c []) (letters-plain (c .operator) (f .least) (f .last)) (fields-plain c [] refl))
     ∙ rw (i, z, p, q) (fields-in-order c f [] ∙ missing-last c h e)

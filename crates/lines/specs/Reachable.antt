@@ -7,8 +7,9 @@ use lib.ListN.{getD}
 use Rattle.model.specs.declared.Call.{Call}
 use Rattle.model.specs.declared.Space.{Space}
 use Rattle.model.specs.declared.Space.the-variants.{Universe, Numbered, Nothing}
-use Rattle.model.specs.Keys.{mostName}
 use Rattle.model.specs.Operators.{rowOf}
+use Rattle.model.specs.Steps.{fieldsOf}
+use Rattle.model.specs.Machine.{FieldsFit}
 use Rattle.text.specs.Bytes.{Text, blank, S, U, hyphen}
 use Rattle.text.specs.Numerals.{printedNumber}
 use Rattle.letters.specs.OperatorWords.{operatorWords}
@@ -58,18 +59,9 @@ lineOf c = joined (lettersOf (c .operator)) (argumentsOf c)
 unfoldable pub shortLineOf : Call → Text
 shortLineOf c = joined (lettersOf (c .operator)) (fieldsThen c [])
 
--- "names to 65,535, values to 4,294,967,295": a space that is a number is a name
-abbrev pub SpaceFits : Space → Type 0
-SpaceFits Universe = Unit {0}
-SpaceFits (Numbered x) = x .0 ≤ mostName
-SpaceFits Nothing = Unit {0}
-
--- a call of one of the 57 operators whose fields fit
-pub record Fitting (c : Call) : Type 0 where
+-- a call of one of the 57 operators whose fields fit: "names to 65,535, values to 4,294,967,295"
+pub record CallFits (c : Call) : Type 0 where
   pub least : 1 ≤ c .operator
   pub last : c .operator ≤ 57
-  pub nodeFits : c .n .0 ≤ mostName
-  pub edgeFits : c .g .0 ≤ mostName
-  pub otherFits : c .m .0 ≤ mostName
-  pub valueFits : c .v ≤ mostValue
-  pub spaceFits : SpaceFits (c .s)
+  pub names : FieldsFit (fieldsOf c)
+  pub value : c .v ≤ mostValue

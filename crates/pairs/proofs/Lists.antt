@@ -6,9 +6,6 @@ use mathlib.Core.Path.{_≡_, refl, sym, ap, ap₂, _∙_}
 use Prim.Native.Nat.{ℕ}
 use lib.ListN.{length, drop, length-map}
 use lib.Seq.{take-at}
-use base.Logic.{emp}
-use borrow.Fn.Claims.{AllOf}
-use borrow.Fn.Read.{Read, no-know, r-last, all-models}
 use borrow.Fn.World.{World, ArgsD, ResD}
 use contract.Lifetimes.{Lfts}
 use denote.Triple.Clauses.{AtExit}
@@ -30,18 +27,14 @@ use Rattle.model.proofs.NoSelection.{nothing-idle, nothing-form}
 use Rattle.model.proofs.Demand1.{refused-reply, one-call-demand-1}
 use Rattle.calls.proofs.Lists.{PreparedBy, prepared-by}
 use Rattle.pairs.specs.InPairs.{pairsAfter, observedInPairs, CallInPairs, PairsMade, OneInPairs, exchangeInPairs}
+use Rattle.pairs.proofs.Learning.{clause, Learns}
 use Rattle.pairs.proofs.execute_pairs as execute-pairs
 
 -- ---- what a caller learns
 
--- the contract's clause, read at every model
-abbrev clause : (κs : Lfts 2) (a : ArgsD execute-pairs.signature κs) (r : ResD execute-pairs.signature κs) (e : AtExit execute-pairs.ended κs)
-    → Read (λ (w : World). emp (w .𝓤)) no-know (λ (w : World). execute-pairs.clauses (w .𝓤) (w .H) (w .𝓖 .A) (w .𝓜 .mem) (w .𝓡 .run) κs a .ensures tt r e)
-clause κs a r e = all-models _ (λ w. r-last _) (λ w. refl) (λ w. refl) (λ w. refl)
-
--- what whoever has called it knows then
+-- what whoever has called `execute_pairs` knows then
 abbrev pub Learnt : (κs : Lfts 2) (a : ArgsD execute-pairs.signature κs) (r : ResD execute-pairs.signature κs) (e : AtExit execute-pairs.ended κs) → Type 0
-Learnt κs a r e = AllOf (clause κs a r e .tells)
+Learnt κs a r e = Learns (λ (w : World). execute-pairs.clauses (w .𝓤) (w .H) (w .𝓖 .A) (w .𝓜 .mem) (w .𝓡 .run) κs a .ensures tt r e) (clause _)
 
 -- it is the call in pairs
 learnt-call : (κs : Lfts 2) (a : ArgsD execute-pairs.signature κs) (r : ResD execute-pairs.signature κs) (e : AtExit execute-pairs.ended κs)

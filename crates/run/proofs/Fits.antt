@@ -11,7 +11,7 @@ use Rattle.run.specs.Runs.{roomsOf}
 use Rattle.run.proofs.WordLaws.{calls-start, calls-next, calls-end}
 
 -- after i calls: what they took and what is left make up the room
-pub record Fitting (ws : List ℕ) (count room left i : ℕ) : Type 0 where
+pub record ListsFitSoFar (ws : List ℕ) (count room left i : ℕ) : Type 0 where
   pub within : i ≤ count
   pub sum : roomsOf (callsFrom ws count 0) + left ≡ room + roomsOf (callsFrom ws (count - i) i)
 
@@ -27,16 +27,16 @@ module _ (ws : List ℕ) (count : ℕ) where
   rooms-end i h = ap roomsOf (calls-end ws count i h)
 
 module _ (ws : List ℕ) (count room : ℕ) where
-  pub fit-start : Fitting ws count room room 0
+  pub fit-start : ListsFitSoFar ws count room room 0
   fit-start =
       let all : roomsOf (callsFrom ws count 0) ≡ roomsOf (callsFrom ws (count - 0) 0) = sym (ap roomsOf (calls-start ws count)) in
       record { within = omega arith; sum = omega (arith, all) }
 
-  pub fit-short : (left i one : ℕ) → Fitting ws count room left i → i < count → one ≡ roomAt ws i → left < one → false ≡ leb (roomsOf (callsFrom ws count 0)) room
+  pub fit-short : (left i one : ℕ) → ListsFitSoFar ws count room left i → i < count → one ≡ roomAt ws i → left < one → false ≡ leb (roomsOf (callsFrom ws count 0)) room
   fit-short left i one F h e s = sym (lt-leb (roomsOf (callsFrom ws count 0)) room (omega (arith, F .sum, rooms-next ws count i h)))
 
-  pub fit-next : (left i one : ℕ) → Fitting ws count room left i → i < count → one ≡ roomAt ws i → one ≤ left → Fitting ws count room (left - one) (i + 1)
+  pub fit-next : (left i one : ℕ) → ListsFitSoFar ws count room left i → i < count → one ≡ roomAt ws i → one ≤ left → ListsFitSoFar ws count room (left - one) (i + 1)
   fit-next left i one F h e s = record { within = omega arith; sum = omega (arith, F .sum, rooms-next ws count i h) }
 
-  pub fit-end : (left i : ℕ) → Fitting ws count room left i → count ≤ i → true ≡ leb (roomsOf (callsFrom ws count 0)) room
+  pub fit-end : (left i : ℕ) → ListsFitSoFar ws count room left i → count ≤ i → true ≡ leb (roomsOf (callsFrom ws count 0)) room
   fit-end left i F h = sym (le-leb (roomsOf (callsFrom ws count 0)) room (omega (arith, F .sum, rooms-end ws count i h)))

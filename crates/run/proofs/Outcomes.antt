@@ -13,7 +13,7 @@ use Rattle.layouts.specs.Buffer.{capacityOf, tuplesOf, isStore}
 use Rattle.model.specs.CallLists.{exchangeOf, requests}
 use Rattle.model.proofs.Bools.{and-both, and-left, and-right, clash, failed, not-yes, not-no}
 use Rattle.run.specs.Words.{answerWords, callCount, callsFrom, callsIn}
-use Rattle.run.specs.Runs.{callMade, callsMade, roomsOf, hasRoom, Left, Ran}
+use Rattle.run.specs.Runs.{callMade, callsMade, roomsOf, hasRoom, LeftByRun, Ran}
 use Rattle.run.proofs.WordLaws.{calls-length}
 
 -- the calls that are made are those that were asked
@@ -87,7 +87,7 @@ module _ (b ws a l : List ℕ) where
   -- 0: all calls were made
   pub all-run : (s f : Bool) (b′ a′ l′ : List ℕ) → s ≡ isStore b → not s ≡ false → answerWords * callCount ws ≤ length a
       → f ≡ leb (roomsOf (callsFrom ws (callCount ws) 0)) (length l) → not f ≡ false
-      → Left (callsMade (capacityOf b) (tuplesOf b) (callsFrom ws (callCount ws) 0) l) b a l b′ a′ l′ → Ran b ws a l 0 b′ a′ l′
+      → LeftByRun (callsMade (capacityOf b) (tuplesOf b) (callsFrom ws (callCount ws) 0) l) b a l b′ a′ l′ → Ran b ws a l 0 b′ a′ l′
   unfolding callsIn
   all-run s f b′ a′ l′ e n wide ef nf L =
       let store : isStore b ≡ true = sym e ∙ not-no s n in

@@ -20,7 +20,7 @@ use Rattle.model.proofs.Bools.{clash}
 use Rattle.model.proofs.CallLists.{answer-within}
 use Rattle.layouts.proofs.Sizes.{capacity-length}
 use Rattle.run.specs.Words.{answerWords, callWords, callAt, roomAt, requestAt, callsFrom, kindOf, numberOf, putAnswer}
-use Rattle.run.specs.Runs.{callMade, callsMade, answersAfter, listsAfter, roomsOf, Left, OneRun}
+use Rattle.run.specs.Runs.{callMade, callsMade, answersAfter, listsAfter, roomsOf, LeftByRun, OneRun}
 use Rattle.run.proofs.WordLaws.{calls-start, calls-next, calls-end, answer-length, answer-first, answer-rest}
 use Rattle.run.proofs.Fits.{rooms-next}
 
@@ -108,7 +108,7 @@ module _ (ws : List ℕ) (count : ℕ) (b₀ a₀ l₀ : List ℕ) where
       }
 
   -- all calls are made
-  pub run-end : (b a l : List ℕ) (at i : ℕ) → Running ws count b₀ a₀ l₀ b a l at i → count ≤ i → Left (allMade ws count b₀ l₀) b₀ a₀ l₀ b a l
+  pub run-end : (b a l : List ℕ) (at i : ℕ) → Running ws count b₀ a₀ l₀ b a l at i → count ≤ i → LeftByRun (allMade ws count b₀ l₀) b₀ a₀ l₀ b a l
   unfolding callsMade answersAfter listsAfter
   run-end b a l at i R h =
       let none-left : restMade ws count b l at i ≡ []

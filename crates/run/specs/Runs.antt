@@ -62,7 +62,7 @@ pub record NotRun (number : ℕ) (b answers lists : List ℕ) (r : ℕ) (b′ an
   pub sameLists : lists′ ≡ lists
 
 -- what a run leaves of a store, given what the machine makes of the calls
-pub record Left (xs : List CallMade) (b answers lists b′ answers′ lists′ : List ℕ) : Type 0 where
+pub record LeftByRun (xs : List CallMade) (b answers lists b′ answers′ lists′ : List ℕ) : Type 0 where
   -- the calls were made one after the other, so that all that holds of one call holds of each of them
   pub trace : Trace (OneMade stored) b xs b′
   pub answered : answers′ ≡ answersAfter xs answers
@@ -72,7 +72,7 @@ pub record Left (xs : List CallMade) (b answers lists b′ answers′ lists′ :
 pub record AllRun (b calls answers lists : List ℕ) (r : ℕ) (b′ answers′ lists′ : List ℕ) : Type 0 where
   pub result : r ≡ 0
   pub asked : requests (map exchangeOf (callsMade (stored .capacityOf b) (stored .stateOf b) (callsIn calls) lists)) ≡ map calling (callsIn calls)
-  pub left : Left (callsMade (stored .capacityOf b) (stored .stateOf b) (callsIn calls) lists) b answers lists b′ answers′ lists′
+  pub left : LeftByRun (callsMade (stored .capacityOf b) (stored .stateOf b) (callsIn calls) lists) b answers lists b′ answers′ lists′
 
 -- the run of the words `calls` on the buffer b gives r and leaves the buffer b′, the answers and the lists
 pub record Ran (b calls answers lists : List ℕ) (r : ℕ) (b′ answers′ lists′ : List ℕ) : Type 0 where

@@ -13,7 +13,7 @@ ghost use lib.ListN.{length};
 ghost use Rattle.model.specs.OneCall.{listCount};
 ghost use Rattle.layouts.specs.Stored.{stored};
 ghost use Rattle.run.specs.Words.{spaceOfForm, lower, upper, callAt, roomAt, requestAt, callsFrom, kindOf, bitOf, numberOf, putAnswer};
-ghost use Rattle.run.specs.Runs.{roomsOf, callMade, callsMade, OneRun, Left, Ran};
+ghost use Rattle.run.specs.Runs.{roomsOf, callMade, callsMade, OneRun, LeftByRun, Ran};
 
 // The name in the lower half of a word.
 fn lower_half(w: u32) -> u16
@@ -148,7 +148,7 @@ fn run_one(store: &mut [u32], calls: &[u32], i: usize, answers: &mut [u32], list
 // Makes the first calls of a list, one after the other.
 fn run_all(store: &mut [u32], calls: &[u32], count: usize, answers: &mut [u32], lists: &mut [u32])
     requires { ⌜ (stored .isStore (now store) ≡ true) × (6 * count ≤ length (now calls)) × (2 * count ≤ length (now answers)) × (roomsOf (callsFrom (now calls) count 0) ≤ length (now lists)) ⌝ }
-    ensures { λ _. ⌜ Left (callsMade (stored .capacityOf (now (store .entry))) (stored .stateOf (now (store .entry))) (callsFrom (now (calls .entry)) count 0) (now (lists .entry))) (now (store .entry)) (now (answers .entry)) (now (lists .entry)) (now (store .exit)) (now (answers .exit)) (now (lists .exit)) ⌝ }
+    ensures { λ _. ⌜ LeftByRun (callsMade (stored .capacityOf (now (store .entry))) (stored .stateOf (now (store .entry))) (callsFrom (now (calls .entry)) count 0) (now (lists .entry))) (now (store .entry)) (now (answers .entry)) (now (lists .entry)) (now (store .exit)) (now (answers .exit)) (now (lists .exit)) ⌝ }
 {
     let mut at = 0;
     let mut done = 0;

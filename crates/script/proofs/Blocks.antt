@@ -85,10 +85,10 @@ module _ (b₀ l₀ : List ℕ) (script : Text) where
             G .split
             ∙ ap (λ (ys : List Text). G .lines ++ ys) (A .split ∙ ap (λ (ys : List Text). u .lines ++ ys) (sym (B .rest)))
             ∙ sym (append-assoc (G .lines) (u .lines) (linesOf (drop (r .next) script)));
-        final = ap₂ linesFinal (B .state) (B .rest) ∙ A .final ∙ G .final;
+        final = ap₂ linesFinal (B .stateLeft) (B .rest) ∙ A .final ∙ G .final;
         list =
-            ap (λ (ts : State). linesList ts l′ (linesOf (drop (r .next) script))) (B .state)
-            ∙ ap₂ (linesList (u .state)) (B .list) (B .rest)
+            ap (λ (ts : State). linesList ts l′ (linesOf (drop (r .next) script))) (B .stateLeft)
+            ∙ ap₂ (linesList (u .state)) (B .listLeft) (B .rest)
             ∙ A .list
             ∙ G .list;
       }
@@ -105,6 +105,6 @@ module _ (b₀ l₀ : List ℕ) (script : Text) where
       record {
         ready = G .ready;
         called = subst (λ (xs : List Text). Trace LineStep (b₀, l₀) xs (b, l)) all (G .called);
-        state = ap (linesFinal (tuplesOf b)) (sym none) ∙ G .final;
-        list = ap (linesList (tuplesOf b) l) (sym none) ∙ G .list;
+        stateLeft = ap (linesFinal (tuplesOf b)) (sym none) ∙ G .final;
+        listLeft = ap (linesList (tuplesOf b) l) (sym none) ∙ G .list;
       }

@@ -1,11 +1,11 @@
 -- One line on a store: a call and its answer printed, or a refusal printed and no call.
-use mathlib.Core.List.{List, [], _∷_}
+use mathlib.Core.List.{List, []}
 use mathlib.Core.Path.{_≡_, refl, sym, _∙_, ap, ap₂, subst}
 use Prim.Native.Nat.{ℕ, _+_, _≤_}
 use native.Mathlib.Omega.{arith}
 use mir.Val.{Fits}
 use mir.Syntax.{w32}
-use lib.ListN.{length, getD, length-append}
+use lib.ListN.{length, getD}
 use Rattle.model.specs.declared.Call.{Call}
 use Rattle.model.specs.declared.Answer.{Answer}
 use Rattle.model.specs.declared.Answer.the-variants.{Refusal}
@@ -20,9 +20,8 @@ use Rattle.model.proofs.Bools.{clash}
 use Rattle.layouts.proofs.Store.{store-rules}
 use Rattle.model.proofs.Demand1.{one-call-demand-1}
 use Rattle.model.proofs.CallLists.{observed-machine, answer-within}
-use Rattle.text.specs.Bytes.{Text, lineFeed}
+use Rattle.text.specs.Bytes.{Text}
 use Rattle.text.specs.Numerals.{printedNumber, printedIn}
-use Rattle.text.proofs.Printing.{printed-ten}
 use Rattle.lines.specs.declared.Reading.{Reading}
 use Rattle.lines.specs.declared.Reading.the-variants.{Read, Refused}
 use Rattle.lines.specs.Calls.{readLine}
@@ -76,20 +75,12 @@ module _ (b l : List ℕ) (line : Text) (out : Text) (at : ℕ) where
   unfolding lineOutcome readingOutcome observed
   refused-reply number e = ap (λ (r : Reading). readingOutcome (tuplesOf b) r .answer) (sym e)
 
-  -- there is room for a refusal
+  -- there is room for a refusal, whatever the list holds: its line is that with no list
   pub refused-printable : (number : ℕ) → at + mostLine ≤ length out → Printable (answerLine (observed (Refusal number) l)) (Refusal number) l out at
-  unfolding observed listCount answerLine answerText
+  unfolding observed listCount
   refused-printable number room =
-      record {
-        room =
-            omega (
-              arith,
-              printed-ten number,
-              length-append (printedNumber number) (lineFeed ∷ []),
-            );
-        held = omega arith;
-        counted = omega arith;
-      }
+      let P = line-printable (Refusal number) [] out at (omega arith) (omega arith) (λ i. omega arith) room in
+      record { room = P .room; held = omega arith; counted = P .counted }
 
   pub refused-run : (x : Reading) (number end : ℕ) (out′ : Text) → x ≡ readLine line → x ≡ Refused number → at + mostLine ≤ length out → Put (answerLine (observed (Refusal number) l)) out at end out′
       → LineRun b l line out at b l end out′

@@ -138,6 +138,10 @@ module _ (b₀ l₀ : List ℕ) (script : Text) (from : ℕ) (out₀ : Text) whe
         run = ap (λ (n : ℕ). runLines n (tuplesOf b₀) l₀ (linesOf (drop from script))) whole;
       }
 
+  -- the output keeps its length
+  pub run-sized : (b l : List ℕ) (at size : ℕ) (out : Text) → Running b₀ l₀ script from out₀ b l at size out → length out ≡ length out₀
+  run-sized b l at size out S = ap length (S .put .bytes) ∙ length-written out₀ 0 (S .done) (omega (arith, S .put .place, S .fits))
+
   -- one more line
   pub run-next-line : (b l : List ℕ) (at size : ℕ) (out line : Text) (b′ l′ : List ℕ) (stop : ℕ) (out′ : Text) (next : ℕ)
       → Running b₀ l₀ script from out₀ b l at size out → mostLine ≤ length out - size
@@ -145,8 +149,7 @@ module _ (b₀ l₀ : List ℕ) (script : Text) (from : ℕ) (out₀ : Text) whe
   run-next-line b l at size out line b′ l′ stop out′ next S wide X L =
       let left : LineLeft b l line b′ l′ = line-left b l (S .ready) line out size b′ l′ stop out′ L in
       let a : Text = answerLine (lineOutcome (tuplesOf b) line .answer) in
-      let sized : length out ≡ length out₀
-      = ap length (S .put .bytes) ∙ length-written out₀ 0 (S .done) (omega (arith, S .put .place, S .fits)) in
+      let sized : length out ≡ length out₀ = run-sized b l at size out S in
       let room : mostLine ≤ length out₀ - size = omega arith in
       let grown : length (S .done ++ a) ≡ length (S .done) + length a = length-append (S .done) a in
       let room′ : length out₀ - size - length a ≡ length out₀ - stop = omega (arith, L .put .place) in
@@ -193,18 +196,14 @@ module _ (b₀ l₀ : List ℕ) (script : Text) (from : ℕ) (out₀ : Text) whe
       record {
         ready = S .ready;
         called = subst (λ (xs : List Text). Trace LineStep (b₀, l₀) xs (b, l)) all (S .called);
-        state = sym (ap (λ (u : Run). u .state) done);
-        list = sym (ap (λ (u : Run). u .list) done);
+        stateLeft = sym (ap (λ (u : Run). u .state) done);
+        listLeft = sym (ap (λ (u : Run). u .list) done);
         put = subst (λ (bs : Text). Put bs out₀ 0 size out) (sym (ap (λ (u : Run). u .text) done ∙ append-nil (S .done))) (S .put);
         fits = S .fits;
         next = omega (arith, S .place, ap linesLength all);
         rest = sym (ap (λ (u : Run). u .rest) done);
         forward = forward;
       }
-
-  -- the output keeps its length
-  pub run-sized : (b l : List ℕ) (at size : ℕ) (out : Text) → Running b₀ l₀ script from out₀ b l at size out → length out ≡ length out₀
-  run-sized b l at size out S = ap length (S .put .bytes) ∙ length-written out₀ 0 (S .done) (omega (arith, S .put .place, S .fits))
 
   -- the run ends where there is no room for a line ..
   pub run-short : (b l : List ℕ) (at size : ℕ) (out : Text) → Running b₀ l₀ script from out₀ b l at size out → length out - size < mostLine

@@ -54,7 +54,7 @@ block-output b l script at out r b′ l′ out′ more B e =
     let counted : r .length ≡ length (u .text) = omega (arith, B .put .place) in
     let text : take (r .length) out′ ≡ u .text
     = ap₂ (λ (n : ℕ) (bs : Text). take n bs) counted (B .put .bytes) ∙ take-first out (u .text) in
-    ap₂ (λ (bs cs : Text). bs ++ cs) text (e ∙ ap₂ linesOutput (B .state) (B .rest)) ∙ A .output
+    ap₂ (λ (bs cs : Text). bs ++ cs) text (e ∙ ap₂ linesOutput (B .stateLeft) (B .rest)) ∙ A .output
 
 -- the lines of one block, and then those behind it
 block-called : (b l : List ℕ) (script : Text) (at : ℕ) (out : Text) (r : Block) (b′ l′ : List ℕ) (out′ : Text) (b″ l″ : List ℕ)

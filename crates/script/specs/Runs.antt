@@ -95,8 +95,8 @@ pub record BlockRun (u : Run) (b l : List ℕ) (script : Text) (from : ℕ) (out
   pub ready : RunReady b′ l′
   -- the lines were run one after the other, so that all that holds of one call holds of each line that reads as one
   pub called : Trace LineStep (b, l) (u .lines) (b′, l′)
-  pub state : stored .stateOf b′ ≡ u .state
-  pub list : l′ ≡ u .list
+  pub stateLeft : stored .stateOf b′ ≡ u .state
+  pub listLeft : l′ ≡ u .list
   pub put : Put (u .text) out 0 (r .length) out′
   pub fits : r .length ≤ length out
   -- behind the lines that were run; the last line of the script may lack its line feed
@@ -111,8 +111,8 @@ pub record BlockRun (u : Run) (b l : List ℕ) (script : Text) (from : ℕ) (out
 pub record ScriptRun (b l : List ℕ) (script : Text) (b′ l′ : List ℕ) : Type 0 where
   pub ready : RunReady b′ l′
   pub called : Trace LineStep (b, l) (linesOf script) (b′, l′)
-  pub state : stored .stateOf b′ ≡ linesFinal (stored .stateOf b) (linesOf script)
-  pub list : l′ ≡ linesList (stored .stateOf b) l (linesOf script)
+  pub stateLeft : stored .stateOf b′ ≡ linesFinal (stored .stateOf b) (linesOf script)
+  pub listLeft : l′ ≡ linesList (stored .stateOf b) l (linesOf script)
 
 -- ---- demand 1
 

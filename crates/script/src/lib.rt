@@ -1,5 +1,4 @@
 // A script run line by line on a store that is known to be one; what it prints goes to lent bytes.
-// run_line, run_block and refuse_input are pub for those above them, which have proved what they require.
 use lines::Reading;
 use model::Answer;
 ghost use mathlib.Core.Path.{_≡_};

@@ -1,11 +1,11 @@
 use Prim.Native.Nat.{_-_}
 use native.Mathlib.Omega.{arith}
-use Rattle.run.proofs.Fits.{Fitting, fit-start, fit-short, fit-next, fit-end}
+use Rattle.run.proofs.Fits.{ListsFitSoFar, fit-start, fit-short, fit-next, fit-end}
 use Rattle.run.proofs.lists_fit.Statement.{statement}
 use Rattle.run.proofs.lists_fit.Tie as tie
 
 abbrev Inv-loop : tie.InvT-loop
-Inv-loop calls count room left₀ i₀ left i = Fitting calls count room left i
+Inv-loop calls count room left₀ i₀ left i = ListsFitSoFar calls count room left i
 
 abbrev μ-loop : tie.MeasureT-loop
 μ-loop calls count room left₀ i₀ left i = count - i
