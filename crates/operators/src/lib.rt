@@ -232,8 +232,9 @@ fn is_nothing(s: Space) -> bool
     ensures { λ r. ⌜ r ≡ isNothing s ⌝ }
 {
     match s {
+        Space::Universe => false,
+        Space::Numbered(x) => false,
         Space::Nothing => true,
-        _ => false,
     }
 }
 
