@@ -8,8 +8,8 @@ use crate::machine::{Answer, Call, Edge, Node, Space, SpaceName};
 /// length of the answer list.
 pub const WORDS_IN_A_CALL: usize = 6;
 
-/// The forms of a space: UNIVERSE and nothing, where s is not read. Any other
-/// number is the form of the space s.
+/// The forms of a space: UNIVERSE and no selection, where s is not read. Any
+/// other number is the form of the space s.
 const UNIVERSE: u32 = 0;
 const NUMBERED: u32 = 1;
 const NOTHING: u32 = 2;

@@ -70,9 +70,6 @@ fn first_difference(script: &Path, input: &[u8], answers: &str, expected: &[u8])
 #[test]
 fn the_examples_of_the_manual() {
     let folder = Path::new(env!("CARGO_MANIFEST_DIR")).join("manual");
-    if !folder.exists() {
-        return;
-    }
     let files = files_below(&folder);
     let scripts = with_extension(&files, "script");
     assert!(!scripts.is_empty(), "{} has no scripts", folder.display());

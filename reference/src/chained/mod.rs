@@ -100,7 +100,7 @@ pub fn execute_known(buffer: &mut [u32], call: &Call, list: &mut [u32]) -> Answe
     }
 }
 
-/// The answer of 1 to 50 where the space is nothing: the store is not looked
+/// The answer of 1 to 50 where there is no selection: the store is not looked
 /// at.
 fn on_nothing(call: &Fields) -> Answer {
     match call.operator {
@@ -154,13 +154,13 @@ fn names_read(operator: u32) -> Option<u8> {
     Some(names)
 }
 
-/// The operators that have no answer where the space is nothing.
+/// The operators that have no answer where there is no selection.
 fn needs_space(operator: u32) -> bool {
     matches!(operator, 7 | 8 | 47 | 51..=55)
 }
 
-/// The fields of a call that conditions 2, 3, 12 and 4 let pass. Where the
-/// space is nothing, s has no meaning.
+/// The fields of a call that conditions 2, 3, 12 and 4 let pass. Where there
+/// is no selection, s has no meaning.
 fn fields_of(call: &Call) -> Result<Fields, u32> {
     let names = names_read(call.operator).ok_or(2u32)?;
     let (s, space_is_zero) = match call.space {

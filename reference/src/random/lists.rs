@@ -22,7 +22,7 @@ pub enum Forms {
     WithNothing,
 }
 
-/// One call in so many has nothing as its space.
+/// One call in so many has no selection.
 const NOTHING_ONCE_IN: usize = 10;
 
 /// The names of a list: small ones, or some of several digits.
@@ -153,8 +153,8 @@ fn mostly_answered(
     call
 }
 
-/// The call with nothing as its space, and with any operator, as none removes
-/// anything there.
+/// The call with no selection, and with any operator, as none removes anything
+/// then.
 fn with_nothing(draws: &mut Draws, call: Call) -> Call {
     let operator = match kind(call.operator) {
         Some(_) => 1 + draws.below(57) as u32,
