@@ -35,7 +35,7 @@ use Rattle.refusals.proofs.Stops.{call-passes, call-stops, nothing-passes, all-
 -- with nothing as the space no list is written
 idle-unwritten : (op : Operator) (x : ℕ) (l : List ℕ) → listAfter (idleReply op x) l ≡ l
 unfolding listAfter
-idle-unwritten op x l = idle-form (λ (r : Reply). listAfter r l ≡ l) (λ n. refl) (λ v. refl) refl refl op x
+idle-unwritten op x l = idle-form (λ (r : Reply). listAfter r l ≡ l) (λ n. refl) (λ n. refl) (λ n. refl) (λ v. refl) refl refl op x
 
 -- ---- refused
 

@@ -1,12 +1,13 @@
 -- The step of each family of operators (specs/Perform.antt).
-use mathlib.Core.Bool.{Bool, false, true≢false}
+use mathlib.Core.Bool.{Bool, true, false, true≢false}
 use mathlib.Core.List.{List}
 use mathlib.Core.Logic.{_≢_}
-use mathlib.Core.Path.{_≡_, refl, sym, ap, _∙_, subst}
-use Prim.Native.Nat.{ℕ, _≤_}
+use mathlib.Core.Path.{_≡_, refl, sym, ap, ap₂, _∙_, subst}
+use Prim.Native.Nat.{ℕ, _-_, _≤_}
+use native.Mathlib.Omega.{arith}
 use lib.ListN.{length}
 use Rattle.model.specs.declared.Answer.{Answer}
-use Rattle.model.specs.declared.Answer.the-variants.{Name, Value, YesNo, List as Listed}
+use Rattle.model.specs.declared.Answer.the-variants.{Name, Added, Removed, Value, YesNo, List as Listed}
 use Rattle.model.specs.declared.Direction.{Direction}
 use Rattle.model.specs.declared.Fields.{Fields}
 use Rattle.model.specs.declared.Object.{Object}
@@ -15,11 +16,13 @@ use Rattle.model.specs.declared.Operator.{Operator}
 use Rattle.model.specs.declared.Operator.the-variants.{Create, Bind, Value as Values, Exists, Destroy, List as Lists}
 use Rattle.model.specs.declared.Removal.{Removal}
 use Rattle.model.specs.Tuples.{anyPresent, addAll}
-use Rattle.layouts.specs.Buffer.{tuplesOf}
+use Rattle.layouts.specs.Buffer.{tuplesOf, isStore}
 use Rattle.model.specs.Steps.{objectKeys, created, firstValue, destroyed, listed, reply, idleReply, after}
 use Rattle.model.specs.OneCall.{answerOf, listAfter, writes}
 use Rattle.chain.specs.Links.{Linked, Edited}
-use Rattle.edit.proofs.Built.{unedited}
+use Rattle.edit.proofs.Built.{unedited, store-linked}
+use Rattle.model.proofs.Tuples.{length-addAll}
+use Rattle.model.proofs.Steps.{length-destroyed}
 use Rattle.entries.specs.Queries.{writtenPairs}
 use Rattle.listings.specs.Lists.{NamesAsked}
 use Rattle.steps.specs.Objects.{Room, Bound}
@@ -76,23 +79,32 @@ module _ (op : Operator) (f : Fields) (b : List ℕ) (room : ℕ) (h : Ready op 
 -- ---- an operator's step
 
 module _ (op : Operator) (x : ℕ) (f : Fields) (b l : List ℕ) where
-  pub create-performed : (o : Object) (b′ : List ℕ) → op ≡ Create o → Edited b b′ (addAll (created o f) (tuplesOf b)) → Performed op x f b l (Name x) b′ l
-  unfolding reply after answerOf listAfter writes
-  create-performed o b′ e E =
-      subst (λ (y : Operator). Performed y x f b l (Name x) b′ l) (sym e)
-      (record { answer = refl; list = refl; edited = E; reading = λ w. absurd (true≢false w) })
+  -- how many tuples there are before and after the step
+  module _ (b′ : List ℕ) (before now : ℕ) (told : before ≡ length (tuplesOf b)) (found : now ≡ length (tuplesOf b′)) where
+    pub create-grows : (o : Object) → isStore b ≡ true → Edited b b′ (addAll (created o f) (tuplesOf b)) → before ≤ now
+    create-grows o store E =
+        omega (arith, told, found, ap length (E .tuples), length-addAll (created o f) (tuplesOf b) (store-linked b store .ascends))
+
+    pub create-performed : (o : Object) → op ≡ Create o → Edited b b′ (addAll (created o f) (tuplesOf b)) → Performed op x f b l (Added x (now - before)) b′ l
+    unfolding reply after answerOf listAfter writes
+    create-performed o e E =
+        subst (λ (y : Operator). Performed y x f b l (Added x (now - before)) b′ l) (sym e)
+        (record { answer = ap (Added x) (ap₂ _-_ (found ∙ ap length (E .tuples)) told); list = refl; edited = E; reading = λ w. absurd (true≢false w) })
+
+    pub destroy-shrinks : (r : Removal) → Edited b b′ (destroyed r f (tuplesOf b)) → now ≤ before
+    destroy-shrinks r E = omega (arith, told, found, ap length (E .tuples), length-destroyed r f (tuplesOf b))
+
+    pub destroy-performed : (r : Removal) → op ≡ Destroy r → Edited b b′ (destroyed r f (tuplesOf b)) → Performed op x f b l (Removed x (before - now)) b′ l
+    unfolding reply after answerOf listAfter writes
+    destroy-performed r e E =
+        subst (λ (y : Operator). Performed y x f b l (Removed x (before - now)) b′ l) (sym e)
+        (record { answer = ap (Removed x) (ap₂ _-_ told (found ∙ ap length (E .tuples))); list = refl; edited = E; reading = λ w. absurd (true≢false w) })
 
   pub bind-performed : (o : Object) (b′ : List ℕ) → op ≡ Bind o → Bound b (objectKeys o (f .s) f) (f .v) b′ → Performed op x f b l (Name x) b′ l
   unfolding reply after answerOf listAfter writes
   bind-performed o b′ e B =
       subst (λ (y : Operator). Performed y x f b l (Name x) b′ l) (sym e)
       (record { answer = refl; list = refl; edited = B .edited; reading = λ w. absurd (true≢false w) })
-
-  pub destroy-performed : (r : Removal) (b′ : List ℕ) → op ≡ Destroy r → Edited b b′ (destroyed r f (tuplesOf b)) → Performed op x f b l (Name x) b′ l
-  unfolding reply after answerOf listAfter writes
-  destroy-performed r b′ e E =
-      subst (λ (y : Operator). Performed y x f b l (Name x) b′ l) (sym e)
-      (record { answer = refl; list = refl; edited = E; reading = λ w. absurd (true≢false w) })
 
   pub value-performed : (o : Object) (v : ℕ) → op ≡ Values o → Linked b → v ≡ firstValue (objectKeys o (f .s) f) (tuplesOf b)
       → Performed op x f b l (Value v) b l

@@ -37,16 +37,16 @@ pub fn idle(op: Operator, name: u16) -> Answer
     ensures { λ r. ⌜ r ≡ answerOf (idleReply op name) ⌝ }
 {
     match op {
-        Operator::Create(o) => Answer::Name(name),
+        Operator::Create(o) => Answer::Added(name, 0),
         Operator::Bind(o) => Answer::Name(name),
         Operator::Value(o) => Answer::Value(0),
         Operator::Exists(o) => Answer::YesNo(false),
-        Operator::Destroy(r) => Answer::Name(name),
+        Operator::Destroy(r) => Answer::Removed(name, 0),
         Operator::List(l) => Answer::List(0),
     }
 }
 
-// The step of an operator, and its answer. `near` and `universe` are hints in the call's space and in UNIVERSE, `name` is the call's first argument.
+// The step of an operator, and its answer: C and D tell how many tuples there are more or fewer than before. `near` and `universe` are hints in the call's space and in UNIVERSE, `name` is the call's first argument.
 pub fn perform(
     store: &mut [u32],
     near: Near,
@@ -61,8 +61,9 @@ pub fn perform(
 {
     match op {
         Operator::Create(o) => {
+            let before = edit::tuple_count(store);
             steps::create(store, near, universe, o, f);
-            Answer::Name(name)
+            Answer::Added(name, edit::tuple_count(store) - before)
         }
         Operator::Bind(o) => {
             steps::bind(store, near, o, f);
@@ -71,8 +72,9 @@ pub fn perform(
         Operator::Value(o) => Answer::Value(steps::value_of(store, near, o, f)),
         Operator::Exists(o) => Answer::YesNo(steps::exists(store, near, o, f)),
         Operator::Destroy(r) => {
+            let before = edit::tuple_count(store);
             destroy(store, near, r, f);
-            Answer::Name(name)
+            Answer::Removed(name, before - edit::tuple_count(store))
         }
         Operator::List(l) => Answer::List(listings::write_listed(store, near, l, f, list)),
     }

@@ -3,15 +3,16 @@ use mathlib.Core.Bool.{true}
 use mathlib.Core.List.{List, map}
 use mathlib.Core.Option.{some}
 use mathlib.Core.Path.{_≡_, refl, sym, ap, _∙_, subst, subst₂}
-use Prim.Native.Nat.{ℕ}
+use Prim.Native.Nat.{ℕ, _≤_}
+use native.Mathlib.Omega.{arith}
 use lib.ListN.{length, length-map}
 use Rattle.model.specs.Ordered.{Ascending}
 use Rattle.model.specs.Keys.{keyOf, spaceKey, compareKeys}
 use Rattle.model.specs.Tuples.{Tuples}
-use Rattle.layouts.specs.Buffer.{tupleAt, pastRecords, usedOf, freeOf, tuplesOf, isStore}
+use Rattle.layouts.specs.Buffer.{word, tupleAt, pastRecords, usedOf, freeOf, tuplesOf, isStore}
 use Rattle.model.specs.Rules.{firstKey, TupleRules}
 use Rattle.layouts.specs.Chains.{ChainRules}
-use Rattle.layouts.proofs.Store.{store-rules, rules-store, used-of, free-of, tuples-of}
+use Rattle.layouts.proofs.Store.{store-rules, rules-store, used-of, free-of, tuples-of, tuples-fit, capacity-most}
 use Rattle.chain.specs.Links.{Linked, Edited}
 
 pub edited : (b b′ used free : List ℕ) (ts : Tuples) → ChainRules b′ used free → map (tupleAt b′) used ≡ ts
@@ -38,6 +39,14 @@ unedited b ts L e = record { linked = L; tuples = e; size = refl; past = refl }
 pub length-tuples : (b : List ℕ) → length (tuplesOf b) ≡ length (usedOf b)
 unfolding tuplesOf
 length-tuples b = length-map (usedOf b) (tupleAt b)
+
+-- word 3 counts them
+pub tuples-counted : (b : List ℕ) (x : ℕ) → Linked b → x ≡ word b 3 → x ≡ length (tuplesOf b)
+tuples-counted b x L e = e ∙ L .chains .counted ∙ sym (length-tuples b)
+
+-- .. and fits in a word
+pub count-fits : (b : List ℕ) (x : ℕ) → Linked b → x ≡ word b 3 → x ≤ 4294967295
+count-fits b x L e = omega (arith, tuples-counted b x L e, tuples-fit b (L .chains), capacity-most b (usedOf b) (freeOf b) (L .chains))
 
 -- ---- stores
 

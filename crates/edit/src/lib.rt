@@ -1,16 +1,25 @@
-// Tuples added, set and removed.
+// Tuples counted, added, set and removed.
 // A hint is a used record, or 0: the walk for a key starts behind it where its key is below.
 use model::Key;
 use taken::Selection;
 use taken::Span;
 ghost use mathlib.Core.Path.{_≡_};
 ghost use mathlib.Core.Bool.{false};
+ghost use lib.ListN.{length};
 ghost use Rattle.model.specs.Keys.{spaceKey};
 ghost use Rattle.model.specs.Tuples.{present, add, remove};
 ghost use Rattle.layouts.specs.Buffer.{next, keyAt, usedOf, tuplesOf};
 ghost use Rattle.chain.specs.Links.{Linked, Hint, KeepsHints, placeIn, Edited, Unlinking};
 ghost use Rattle.taken.specs.Selections.{takenBy};
 ghost use Rattle.edit.specs.Edits.{Adding, Assigned, Turned, sweepStart};
+
+// How many tuples there are: word 3.
+pub fn tuple_count(b: &[u32]) -> u32
+    requires { ⌜ Linked (now b) ⌝ }
+    ensures { λ r. ⌜ r ≡ length (tuplesOf (now (b .entry))) ⌝ }
+{
+    words::head_word(b, 3) as u32
+}
 
 // Is a key present, by the record at its place.
 pub fn held_at(b: &[u32], k: Key, at: usize) -> bool

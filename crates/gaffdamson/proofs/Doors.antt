@@ -20,7 +20,7 @@ use Rattle.run.specs.Runs.{callsMade, Ran}
 use Rattle.run.proofs.Demand.{RunBy, ran, ran-demand-1, ran-all}
 use Rattle.pairs.specs.InPairs.{PairsMade, exchangeInPairs}
 use Rattle.pairs.proofs.Lists.{ExecutedInPairsBy, executed-in-pairs, pairs-machine}
-use Rattle.gaffdamson.specs.Numbers.{packedPreparation}
+use Rattle.gaffdamson.specs.Calls.{preparationWords}
 use Rattle.gaffdamson.proofs.Lists.{PreparedFromC, c-prepared, CalledFromC, called-one, RunFromC, c-ran}
 use Rattle.gaffdamson.proofs.PairLists.{CalledInPairsFromC, called-in-pairs}
 
@@ -29,7 +29,7 @@ use Rattle.gaffdamson.proofs.PairLists.{CalledInPairsFromC, called-in-p
 -- a buffer prepared as a store of C records, from Rattle or from C
 pub data PreparedByDoor : List ℕ → ℕ → List ℕ → Type 0 where
   by-prepare : {raw b : List ℕ} {C : ℕ} → PreparedBy raw (Capacity C) b → PreparedByDoor raw C b
-  by-c-prepare : {raw b : List ℕ} {C : ℕ} → PreparedFromC raw (packedPreparation (Capacity C)) b → PreparedByDoor raw C b
+  by-c-prepare : {raw b : List ℕ} {C : ℕ} → PreparedFromC raw (preparationWords (Capacity C)) b → PreparedByDoor raw C b
 
 -- one use of a door, from a buffer to a buffer, and the calls that are made by it: one call, all calls of a run that answers 0, none by a run that is refused
 pub data Used : List ℕ → List Exchange → List ℕ → Type 0 where

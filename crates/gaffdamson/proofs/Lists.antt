@@ -2,7 +2,7 @@
 -- They rest on what a caller of these functions learns from their own contracts (`Learnt`), so a weaker contract breaks them.
 use mathlib.Core.Bool.{Bool, true, false, cond}
 use mathlib.Core.List.{List, map}
-use mathlib.Core.Path.{_≡_, refl, sym, ap, _∙_}
+use mathlib.Core.Path.{_≡_, refl, sym, ap, _∙_, subst}
 use Prim.Native.Nat.{ℕ}
 use native.Mathlib.Omega.{arith}
 use contract.Lifetimes.{Lfts}
@@ -22,9 +22,10 @@ use Rattle.model.proofs.CallLists.{MachineStep, one-call-machine, whole-prepare
 use Rattle.model.proofs.Demand1.{one-call-demand-1}
 use Rattle.run.specs.Runs.{Ran, RunDemand1, WholeRun}
 use Rattle.run.proofs.Demand.{ran-demand-1, ran-prepared}
-use Rattle.gaffdamson.specs.Numbers.{packed, packedPreparation, answerIn}
-use Rattle.gaffdamson.specs.Calls.{callOfNumbers, preparationOf, PreparedAs}
-use Rattle.gaffdamson.proofs.Apart.{read-in-number}
+use Rattle.run.specs.declared.AnswerWords.{AnswerWords}
+use Rattle.run.specs.Words.{callOf, kindOf, firstOf, secondOf, answerWords, answerIn}
+use Rattle.run.proofs.WordLaws.{answer-back}
+use Rattle.gaffdamson.specs.Calls.{preparationOf, preparationWords, PreparedAs}
 use Rattle.gaffdamson.proofs.gaffdamson_prepare.Kinds as prepare-kinds
 use Rattle.gaffdamson.proofs.gaffdamson_prepare.Reads as prepare-reads
 use Rattle.gaffdamson.proofs.gaffdamson_call.Kinds as kinds
@@ -33,30 +34,34 @@ use Rattle.gaffdamson.proofs.gaffdamson_run.Kinds as run-kinds
 use Rattle.gaffdamson.proofs.gaffdamson_run.Reads as run-reads
 
 -- a call of `gaffdamson_prepare`: the buffer before it, its answer, the buffer after it
-pub data PreparedFromC : List ℕ → ℕ → List ℕ → Type 0 where
+pub data PreparedFromC : List ℕ → AnswerWords → List ℕ → Type 0 where
   prepared : (κs : Lfts 1) (a : Dens κs prepare-kinds.ps) (r : resT prepare-kinds.r κs .Denot) (e : AtExit (endedOf 1 prepare-kinds.ps prepare-kinds.r) κs)
       → prepare-reads.Learnt κs a r e → PreparedFromC (a .0 .now) r (e .0 .now)
 
-prepared-from-c : {raw b : List ℕ} {r : ℕ} → PreparedFromC raw r b → PreparedAs raw r b
+prepared-from-c : {raw b : List ℕ} {r : AnswerWords} → PreparedFromC raw r b → PreparedAs raw r b
 prepared-from-c (prepared κs a r e P) = P
 
--- a call of `gaffdamson_call`, from a buffer to a buffer; of the number that it answers, the answer that a caller reads in it
+-- what holds of an answer holds of what is read in its words
+pub read-in-words : (Holds : Answer → Type 0) (a : Answer) (r : AnswerWords) → r ≡ answerWords a → Holds a → Holds (answerIn r)
+read-in-words Holds a r e h = subst Holds (sym (ap answerIn e ∙ answer-back a)) h
+
+-- a call of `gaffdamson_call`, from a buffer to a buffer; of the words that it answers, the answer that a caller reads in them
 pub data CalledFromC : List ℕ → CallMade → List ℕ → Type 0 where
   called-from-c : (κs : Lfts 2) (a : Dens κs kinds.ps) (r : resT kinds.r κs .Denot) (e : AtExit (endedOf 2 kinds.ps kinds.r) κs)
       → reads.Learnt κs a r e
       → CalledFromC (a .0 .now)
       (record {
-        call = callOfNumbers (a .1 .0) (a .1 .1 .0) (a .1 .1 .1 .0) (a .1 .1 .1 .1 .0) (a .1 .1 .1 .1 .1 .0) (a .1 .1 .1 .1 .1 .1 .0) (a .1 .1 .1 .1 .1 .1 .1 .0);
-        lent = a .1 .1 .1 .1 .1 .1 .1 .1 .0 .now;
+        call = callOf (a .1 .0);
+        lent = a .1 .1 .0 .now;
         answer = answerIn r;
-        left = e .1 .1 .1 .1 .1 .1 .1 .1 .0 .now;
+        left = e .1 .1 .0 .now;
       })
       (e .0 .now)
 
 -- it is one call as document 01 has it
 pub called-one : {b b′ : List ℕ} {x : CallMade} → CalledFromC b x b′ → OneMade stored b x b′
 called-one {b} {b′} {x} (called-from-c κs a r e K) =
-    read-in-number (λ (y : Answer). OneCall stored b (x .lent) (x .call) y b′ (x .left)) _ r (K .answer) (K .call)
+    read-in-words (λ (y : Answer). OneCall stored b (x .lent) (x .call) y b′ (x .left)) _ r (K .answer) (K .call)
 
 -- a call of `gaffdamson_run`: its four slices before it, its answer, three of them after it
 pub data RunFromC : List ℕ → List ℕ → List ℕ → List ℕ → ℕ → List ℕ → List ℕ → List ℕ → Type 0 where
@@ -70,20 +75,20 @@ c-ran (run-from-c κs a r e R) = R
 
 -- ---- preparing
 
--- where preparing answers the number of C, the buffer has that C and is prepared
-prepared-c : (raw b : List ℕ) (C r : ℕ) → PreparedAs raw r b → r ≡ packedPreparation (Capacity C) → (stored .capacityOf raw ≡ C) × stored .Prepared raw b
-unfolding preparationOf packedPreparation packed
+-- where preparing answers the words of C, the buffer has that C and is prepared
+prepared-c : (raw b : List ℕ) (C : ℕ) (r : AnswerWords) → PreparedAs raw r b → r ≡ preparationWords (Capacity C) → (stored .capacityOf raw ≡ C) × stored .Prepared raw b
+unfolding preparationOf preparationWords kindOf
 prepared-c raw b C r P e = go (fitsLength raw) refl
   where
-    numbered : (f : Bool) → fitsLength raw ≡ f → packedPreparation (cond f (Capacity (stored .capacityOf raw)) (Refused 1)) ≡ packedPreparation (Capacity C)
-    numbered f same = ap (λ (x : Bool). packedPreparation (cond x (Capacity (stored .capacityOf raw)) (Refused 1))) (sym same) ∙ sym (P .answer) ∙ e
+    numbered : (f : Bool) → fitsLength raw ≡ f → preparationWords (cond f (Capacity (stored .capacityOf raw)) (Refused 1)) ≡ preparationWords (Capacity C)
+    numbered f same = ap (λ (x : Bool). preparationWords (cond x (Capacity (stored .capacityOf raw)) (Refused 1))) (sym same) ∙ sym (P .answer) ∙ e
 
     go : (f : Bool) → fitsLength raw ≡ f → (stored .capacityOf raw ≡ C) × stored .Prepared raw b
-    go true same = (omega (arith, numbered true same), P .preparing .inside same .1)
-    go false same = absurd (omega (arith, numbered false same))
+    go true same = (ap (λ (w : AnswerWords). w .first) (numbered true same), P .preparing .inside same .1)
+    go false same = let z : _≡_ {A = ℕ} 0 5 = ap (λ (w : AnswerWords). w .kind) (numbered false same) in absurd (omega arith)
 
--- where `gaffdamson_prepare` answers the number of C, the same
-pub c-prepared : (raw b : List ℕ) (C : ℕ) → PreparedFromC raw (packedPreparation (Capacity C)) b → (stored .capacityOf raw ≡ C) × stored .Prepared raw b
+-- where `gaffdamson_prepare` answers the words of C, the same
+pub c-prepared : (raw b : List ℕ) (C : ℕ) → PreparedFromC raw (preparationWords (Capacity C)) b → (stored .capacityOf raw ≡ C) × stored .Prepared raw b
 c-prepared raw b C P = prepared-c raw b C _ (prepared-from-c P) refl
 
 -- ---- demands 1 and 3
@@ -98,7 +103,7 @@ pub c-run-demand-1 : (b calls answers lists : List ℕ) (r : ℕ) (b′ answers�
 c-run-demand-1 b calls answers lists r b′ answers′ lists′ made = ran-demand-1 b calls answers lists b′ answers′ lists′ r (c-ran made)
 
 -- demand 3: for every C that preparing answers, the buffer that it leaves and every list of calls ..
-pub c-demand-3 : (raw b b′ : List ℕ) (C : ℕ) (xs : List CallMade) → PreparedFromC raw (packedPreparation (Capacity C)) b → Trace CalledFromC b xs b′
+pub c-demand-3 : (raw b b′ : List ℕ) (C : ℕ) (xs : List CallMade) → PreparedFromC raw (preparationWords (Capacity C)) b → Trace CalledFromC b xs b′
     → WholeList stored C fresh (map exchangeOf xs) b′
 c-demand-3 raw b b′ C xs P calls =
     let Q = c-prepared raw b C P in
@@ -106,7 +111,7 @@ c-demand-3 raw b b′ C xs P calls =
     (trace-map (MachineStep stored) exchangeOf (λ s s′ x made. one-call-machine stored stored-lawful s s′ x (called-one made)) calls)
 
 -- .. and every run that answers 0
-pub c-run-demand-3 : (raw b calls answers lists b′ answers′ lists′ : List ℕ) (C : ℕ) → PreparedFromC raw (packedPreparation (Capacity C)) b
+pub c-run-demand-3 : (raw b calls answers lists b′ answers′ lists′ : List ℕ) (C : ℕ) → PreparedFromC raw (preparationWords (Capacity C)) b
     → RunFromC b calls answers lists 0 b′ answers′ lists′ → WholeRun C fresh calls answers lists b′ answers′ lists′
 c-run-demand-3 raw b calls answers lists b′ answers′ lists′ C P made =
     let Q = c-prepared raw b C P in

@@ -19,8 +19,9 @@ use Rattle.model.proofs.Counts.{answer-most}
 use Rattle.layouts.proofs.Stored.{stored-lawful}
 use Rattle.fresh.specs.Prepare.{afterPreparing}
 use Rattle.pairs.specs.InPairs.{CallInPairs}
-use Rattle.gaffdamson.specs.Numbers.{PackedAs, packedPreparation}
-use Rattle.gaffdamson.specs.Calls.{answerOn, Called, CalledInPairs, preparationOf, PreparedAs}
+use Rattle.run.specs.declared.AnswerWords.{AnswerWords}
+use Rattle.run.specs.Words.{answerWords}
+use Rattle.gaffdamson.specs.Calls.{answerOn, Called, CalledInPairs, preparationOf, preparationWords, PreparedAs}
 
 module _ (b l b′ l′ : List ℕ) (c : Call) (a : Answer) (O : OneCall stored b l c a b′ l′) where
   -- how many pairs an answer lists fits in a word
@@ -43,12 +44,12 @@ module _ (b l b′ l′ : List ℕ) (c : Call) (a : Answer) (O : OneCall stored 
       go true e = O .onStore e .answer ∙ sym (ap chosen e)
       go false e = O .noStore e .answer ∙ sym (ap chosen e)
 
-  -- one call, with its answer as a number
-  pub called : (c′ : Call) (r : ℕ) → c ≡ c′ → PackedAs a r → Called b l c′ r b′ l′
+  -- one call, with its answer in words
+  pub called : (c′ : Call) (r : AnswerWords) → c ≡ c′ → r ≡ answerWords a → Called b l c′ r b′ l′
   called c′ r same e =
       subst (λ (x : Call). Called b l x r b′ l′) same
       (record {
-        answer = subst (λ (x : Answer). PackedAs x r) answer-on e;
+        answer = e ∙ ap answerWords answer-on;
         call = subst (λ (x : Answer). OneCall stored b l c x b′ l′) answer-on O;
       })
 
@@ -60,11 +61,11 @@ module _ (b : List ℕ) (l : List Pair) (b′ : List ℕ) (l′ : List Pair) (c 
   answer-on-pairs : a ≡ answerOn b c (length l)
   answer-on-pairs = answer-on b (map pack l) b′ (map pack l′) c a (P .call) ∙ ap (answerOn b c) (length-map l pack)
 
-  pub called-in-pairs : (c′ : Call) (r : ℕ) → c ≡ c′ → PackedAs a r → CalledInPairs b l c′ r b′ l′
+  pub called-in-pairs : (c′ : Call) (r : AnswerWords) → c ≡ c′ → r ≡ answerWords a → CalledInPairs b l c′ r b′ l′
   called-in-pairs c′ r same e =
       subst (λ (x : Call). CalledInPairs b l x r b′ l′) same
       (record {
-        answer = subst (λ (x : Answer). PackedAs x r) answer-on-pairs e;
+        answer = e ∙ ap answerWords answer-on-pairs;
         call = subst (λ (x : Answer). CallInPairs b l c x b′ l′) answer-on-pairs P;
       })
 
@@ -76,12 +77,12 @@ preparation-of b b′ p P = go (fitsLength b) refl
     go true f = P .inside f .0 ∙ sym (ap (λ (x : Bool). cond x (Capacity (capacityOf b)) (Refused 1)) f)
     go false f = P .outside f .0 ∙ sym (ap (λ (x : Bool). cond x (Capacity (capacityOf b)) (Refused 1)) f)
 
--- preparing, with its answer as a number
-pub prepared-as : (b b′ : List ℕ) (p : Preparation) (r : ℕ) → Preparing b p b′ → b′ ≡ afterPreparing b → r ≡ packedPreparation p → PreparedAs b r b′
+-- preparing, with its answer in words
+pub prepared-as : (b b′ : List ℕ) (p : Preparation) (r : AnswerWords) → Preparing b p b′ → b′ ≡ afterPreparing b → r ≡ preparationWords p → PreparedAs b r b′
 prepared-as b b′ p r P w e =
     let same = preparation-of b b′ p P in
     record {
-      answer = e ∙ ap packedPreparation same;
+      answer = e ∙ ap preparationWords same;
       buffer = w;
       preparing = subst (λ (x : Preparation). Preparing b x b′) same P;
     }

@@ -17,40 +17,39 @@ use Rattle.model.proofs.CallLists.{MachineStep, whole-prepared}
 use Rattle.pairs.specs.InPairs.{CallInPairs, PairsMade, OneInPairs, exchangeInPairs}
 use Rattle.pairs.proofs.Learning.{clause, Learns}
 use Rattle.pairs.proofs.Lists.{pairs-machine, pairs-meet-demand-1}
-use Rattle.gaffdamson.specs.Numbers.{packedPreparation, answerIn}
-use Rattle.gaffdamson.specs.Calls.{callOfNumbers}
-use Rattle.gaffdamson.proofs.Apart.{read-in-number}
-use Rattle.gaffdamson.proofs.Lists.{PreparedFromC, c-prepared}
+use Rattle.run.specs.Words.{callOf, answerIn}
+use Rattle.gaffdamson.specs.Calls.{preparationWords}
+use Rattle.gaffdamson.proofs.Lists.{PreparedFromC, c-prepared, read-in-words}
 use Rattle.gaffdamson.proofs.gaffdamson_call_pairs as call-pairs
 
 -- what whoever has called `gaffdamson_call_pairs` knows then
 abbrev pub Learnt : (κs : Lfts 2) (a : ArgsD call-pairs.signature κs) (r : ResD call-pairs.signature κs) (e : AtExit call-pairs.ended κs) → Type 0
 Learnt κs a r e = Learns (λ (w : World). call-pairs.clauses (w .𝓤) (w .H) (w .𝓖 .A) (w .𝓜 .mem) (w .𝓡 .run) κs a .ensures tt r e) (clause _)
 
--- a call of `gaffdamson_call_pairs`, from a buffer to a buffer; of the number that it answers, the answer that a caller reads in it
+-- a call of `gaffdamson_call_pairs`, from a buffer to a buffer; of the words that it answers, the answer that a caller reads in them
 pub data CalledInPairsFromC : List ℕ → PairsMade → List ℕ → Type 0 where
   called-from-c : (κs : Lfts 2) (a : ArgsD call-pairs.signature κs) (r : ResD call-pairs.signature κs) (e : AtExit call-pairs.ended κs)
       → Learnt κs a r e
       → CalledInPairsFromC (a .0 .now)
       (record {
-        call = callOfNumbers (a .1 .0) (a .1 .1 .0) (a .1 .1 .1 .0) (a .1 .1 .1 .1 .0) (a .1 .1 .1 .1 .1 .0) (a .1 .1 .1 .1 .1 .1 .0) (a .1 .1 .1 .1 .1 .1 .1 .0);
-        lent = a .1 .1 .1 .1 .1 .1 .1 .1 .0 .now;
+        call = callOf (a .1 .0);
+        lent = a .1 .1 .0 .now;
         answer = answerIn r;
-        left = e .1 .1 .1 .1 .1 .1 .1 .1 .0 .now;
+        left = e .1 .1 .0 .now;
       })
       (e .0 .now)
 
 -- it is one call in pairs
 pub called-in-pairs : {b b′ : List ℕ} {x : PairsMade} → CalledInPairsFromC b x b′ → OneInPairs b x b′
 called-in-pairs {b} {b′} {x} (called-from-c κs a r e K) =
-    read-in-number (λ (y : Answer). CallInPairs b (x .lent) (x .call) y b′ (x .left)) _ r (K .answer) (K .call)
+    read-in-words (λ (y : Answer). CallInPairs b (x .lent) (x .call) y b′ (x .left)) _ r (K .answer) (K .call)
 
 -- demand 1: of every call
 pub c-pairs-demand-1 : (b b′ : List ℕ) (x : PairsMade) → CalledInPairsFromC b x b′ → MeetsDemand1 stored b x b′
 c-pairs-demand-1 b b′ x made = pairs-meet-demand-1 b b′ x (called-in-pairs made)
 
 -- demand 3: for every C that preparing answers, the buffer that it leaves and every list of calls with lists of pairs
-pub c-pairs-demand-3 : (raw b b′ : List ℕ) (C : ℕ) (xs : List PairsMade) → PreparedFromC raw (packedPreparation (Capacity C)) b → Trace CalledInPairsFromC b xs b′
+pub c-pairs-demand-3 : (raw b b′ : List ℕ) (C : ℕ) (xs : List PairsMade) → PreparedFromC raw (preparationWords (Capacity C)) b → Trace CalledInPairsFromC b xs b′
     → WholeList stored C fresh (map exchangeInPairs xs) b′
 c-pairs-demand-3 raw b b′ C xs P calls =
     let Q = c-prepared raw b C P in

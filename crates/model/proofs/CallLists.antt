@@ -19,6 +19,7 @@ use Rattle.model.specs.declared.Direction.the-variants.{Outpointing, Inp
 use Rattle.model.specs.declared.Listing.{Listing}
 use Rattle.model.specs.Pairs.{pair, edgeOf, nodeOf, EveryPair}
 use Rattle.model.specs.Steps.{Reply, pairs, fieldsOf, listed}
+use Rattle.model.specs.Changes.{addedIn, removedIn, allAdded, allRemoved}
 use Rattle.model.specs.Machine.{State, serve, machine, answers, final}
 use Rattle.model.specs.Rules.{TupleRules}
 use Rattle.model.specs.Entries.{PointsOut, PointsIn, IsPair, Entry}
@@ -29,6 +30,7 @@ use Rattle.model.specs.CallLists.{CallMade, OneMade, Exchange, exchangeO
 use Rattle.model.proofs.Entries.{listed-sound}
 use Rattle.model.proofs.Steps.{every-member}
 use Rattle.model.proofs.Refusals.{answer-form, full-exactly}
+use Rattle.model.proofs.Changes.{counted}
 use Rattle.model.proofs.Traces.{trace-map}
 
 -- ---- pairs and words
@@ -96,7 +98,8 @@ pub observed-machine : (C : ℕ) (ts : Tuples) (c : Call) (room : ℕ) (l : List
     → observed (answerOf (machine C ts c room .answer)) (listAfter (machine C ts c room .answer) l) ≡ machine C ts c room .answer
 unfolding observed answerOf
 observed-machine C ts c room l R =
-    answer-form (λ (r : Reply). observed (answerOf r) (listAfter r l) ≡ r) C ts c room (λ number. refl) (λ x. refl) (λ v. refl) (λ b. refl) refl
+    answer-form (λ (r : Reply). observed (answerOf r) (listAfter r l) ≡ r) C ts c room (λ number. refl) (λ x. refl) (λ x k. refl) (λ x k. refl)
+    (λ v. refl) (λ b. refl) refl
     (λ x. observed-list (listed x (fieldsOf c) ts) l (listed-small ts R x (fieldsOf c)))
 
 -- an answer of the machine lists no more pairs than its list has places
@@ -105,7 +108,7 @@ listed-in-list : (C : ℕ) (ts : State) (c : Call) (room : ℕ) (l : List ℕ) �
 unfolding listAfter answerOf listCount
 listed-in-list C ts c room l =
     answer-form (λ (r : Reply). length (listAfter r l) ≡ length l → listCount (answerOf r) ≤ length l) C ts c room (λ number e. omega arith)
-    (λ x e. omega arith) (λ v e. omega arith) (λ b e. omega arith) (λ e. omega arith)
+    (λ x e. omega arith) (λ x k e. omega arith) (λ x k e. omega arith) (λ v e. omega arith) (λ b e. omega arith) (λ e. omega arith)
     (λ x e.
     let ps : List Pair = listed x (fieldsOf c) ts in
     omega (arith, e, length-append (map pack ps) (drop (length ps) l), length-map ps pack, length-drop (length ps) l))
@@ -132,15 +135,15 @@ module _ (Y : Layout) (L : Lawful Y) where
 
   -- nothing is left to be done
   no-calls : (b : List ℕ) → Y .isStore b ≡ true → WholeList Y (Y .capacityOf b) (Y .stateOf b) [] b
-  unfolding answers final
+  unfolding answers final allAdded allRemoved
   no-calls b e =
       let R = L .rules b e in
-      record { answered = refl; store = e; held = refl; once = R .ascends; records = L .counted b e; nothingMissing = R .nothingMissing; fullExactly = tt }
+      record { answered = refl; store = e; held = refl; once = R .ascends; records = L .counted b e; nothingMissing = R .nothingMissing; fullExactly = tt; addsUp = refl }
 
   -- one call before a list of calls
   one-more : (b b′ b″ : List ℕ) (x : Exchange) (xs : List Exchange) → Y .isStore b ≡ true → AsMachine Y b x b′
       → WholeList Y (Y .capacityOf b′) (Y .stateOf b′) xs b″ → WholeList Y (Y .capacityOf b) (Y .stateOf b) (x ∷ xs) b″
-  unfolding answers final
+  unfolding answers final allAdded allRemoved
   one-more b b′ b″ x xs e A W =
       let C : ℕ = Y .capacityOf b in
       let ts : State = Y .stateOf b in
@@ -157,6 +160,8 @@ module _ (Y : Layout) (L : Lawful Y) where
           (λ a. ten .0 (sym (A .reply) ∙ a), λ h. A .reply ∙ ten .1 h),
           subst (λ (us : State). FullExactly C us xs) (A .state) (subst (λ (D : ℕ). FullExactly D (Y .stateOf b′) xs) same (W .fullExactly)),
         );
+        addsUp =
+            omega (arith, ap addedIn (A .reply), ap removedIn (A .reply), counted C ts (x .request) (L .rules b e), ap length (A .state), W .addsUp);
       }
 
   -- a list of calls from any store

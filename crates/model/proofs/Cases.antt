@@ -8,7 +8,7 @@ use Rattle.model.specs.Pairs.{comparePairs, ascending, gather, outPair, 
 use Rattle.model.specs.Steps.{spaceNumber, objectKeys, created, firstValue, reaches, edgesTaken, nodeTaken, removeNodes, spaceTaken, destroyed, listed, firstArgument, wouldList, wouldAdd, reply, idleReply, after}
 use Rattle.model.specs.Refusals.{first, zeroSpace, isUniverse, isNothing, selectsNothing, noOperator, zeroName, lacksSpace, destroysUniverse, spaceAbsent, nodeAbsent, secondAbsent, workedOn, edgeAbsent, listShort, full, ofCall, ofTuples, ifLookedUp, earlier, refusalOf}
 use Rattle.model.specs.Machine.{outcomeOf, machine, serve, answers, final}
-use Rattle.model.specs.Cases.{Cases, ScriptTable, FirstWins, SecondNode}
+use Rattle.model.specs.Cases.{Cases, ScriptTable, FirstWins, SecondNode, OperatorsApart}
 
 -- to unfold this is to unfold all that the machine computes with
 unfoldable pub computed : Unit {0}
@@ -43,3 +43,7 @@ first-wins = refl
 pub second-node : SecondNode
 unfolding computed
 second-node = refl
+
+pub operators-apart : OperatorsApart
+unfolding computed
+operators-apart = refl

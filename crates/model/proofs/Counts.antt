@@ -185,7 +185,7 @@ module _ (Y : Layout) (L : Lawful Y) where
   unfolding answerOf listCount
   machine-most b c room store =
       answer-form (λ (r : Reply). listCount (answerOf r) ≤ 2048) (Y .capacityOf b) (Y .stateOf b) c room (λ number. omega arith) (λ x. omega arith)
-      (λ v. omega arith) (λ t. omega arith) (omega arith) (λ l. omega (arith, listed-within (Y .stateOf b) l (fieldsOf c), store-most b store))
+      (λ x k. omega arith) (λ x k. omega arith) (λ v. omega arith) (λ t. omega arith) (omega arith) (λ l. omega (arith, listed-within (Y .stateOf b) l (fieldsOf c), store-most b store))
 
   -- .. nor does a call
   pub answer-most : (b l b′ l′ : List ℕ) (c : Call) (a : Answer) → Y .isStore b ≡ true → OnStore Y b l c a b′ l′ → listCount a ≤ 2048

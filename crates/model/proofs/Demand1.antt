@@ -10,7 +10,7 @@ use Rattle.model.specs.declared.Call.{Call}
 use Rattle.model.specs.declared.Answer.{Answer}
 use Rattle.model.specs.declared.Answer.the-variants.{Refusal}
 use Rattle.model.specs.Tuples.{Tuples}
-use Rattle.model.specs.Steps.{Reply, decoded, refusal, name, valued, yesNo, pairs}
+use Rattle.model.specs.Steps.{Reply, decoded, refusal, name, added, removed, valued, yesNo, pairs}
 use Rattle.model.specs.Refusals.{stop, selectsNothing, full, ofCall, ofTuples, ifLookedUp, earlier, refusalOf}
 use Rattle.model.specs.Machine.{Outcome}
 use Rattle.model.specs.Layouts.{Layout, Lawful}
@@ -26,6 +26,8 @@ pub refused-reply : (r : Reply) (number : ℕ) → answerOf r ≡ Refusal number
 unfolding answerOf
 refused-reply (refusal n) number e = cc
 refused-reply (name x) number e = cc
+refused-reply (added x k) number e = cc
+refused-reply (removed x k) number e = cc
 refused-reply (valued v) number e = cc
 refused-reply (yesNo b) number e = cc
 refused-reply (pairs k ps) number e = cc
@@ -51,7 +53,7 @@ never-one C ts c room e = false≢true (first-number notOne _ 1 (stops-not-one C
 
 pub nothing-unwritten : (c : Call) (l : List ℕ) → listAfter (nothingReply c) l ≡ l
 unfolding listAfter
-nothing-unwritten c l = nothing-form (λ (r : Reply). listAfter r l ≡ l) (λ number. refl) (λ x. refl) (λ v. refl) refl refl c
+nothing-unwritten c l = nothing-form (λ (r : Reply). listAfter r l ≡ l) (λ number. refl) (λ x. refl) (λ x. refl) (λ x. refl) (λ v. refl) refl refl c
 
 -- ---- demand 1
 

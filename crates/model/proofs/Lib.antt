@@ -11,9 +11,10 @@ pub mod Refusals
 pub mod Answers
 pub mod Sound
 pub mod Traces
+pub mod Cases
+pub mod NoSelection
+pub mod Changes
 pub mod CallLists
 pub mod Counts
-pub mod Cases
 pub mod Unread
-pub mod NoSelection
 pub mod Demand1

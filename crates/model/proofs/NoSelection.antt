@@ -6,7 +6,7 @@ use mathlib.Core.Path.{_≡_, refl, sym, ap, _∙_}
 use Prim.Native.Nat.{ℕ}
 use Rattle.model.specs.declared.Call.{Call}
 use Rattle.model.specs.Keys.{Value}
-use Rattle.model.specs.Steps.{decoded, firstArgument, Reply, refusal, name, valued, yesNo, pairs, idleReply}
+use Rattle.model.specs.Steps.{decoded, firstArgument, Reply, refusal, name, added, removed, valued, yesNo, pairs, idleReply}
 use Rattle.model.specs.Refusals.{selectsNothing, first, ofCall}
 use Rattle.model.specs.Machine.{State, Outcome, CallRequest, Request, calling, serve, idle, outcomeOf, machine, answers, final}
 use Rattle.model.specs.Layouts.{Layout}
@@ -24,15 +24,15 @@ nothing-idle C ts c room e = ap (λ (r : Option ℕ). outcomeOf r ts c) (not-loo
     go (some number) = refl
     go none = rw e
 
--- the answer is a refusal, a name, a value, a no or an empty list
-pub nothing-form : (P : Reply → Type 0) → ((number : ℕ) → P (refusal number)) → ((x : ℕ) → P (name x)) → ((v : Value) → P (valued v)) → P (yesNo false)
-    → P (pairs 0 []) → (c : Call) → P (nothingReply c)
+-- the answer is a refusal, a name (alone, or with no tuple added or removed), a value, a no or an empty list
+pub nothing-form : (P : Reply → Type 0) → ((number : ℕ) → P (refusal number)) → ((x : ℕ) → P (name x)) → ((x : ℕ) → P (added x 0))
+    → ((x : ℕ) → P (removed x 0)) → ((v : Value) → P (valued v)) → P (yesNo false) → P (pairs 0 []) → (c : Call) → P (nothingReply c)
 unfolding nothingReply refusalOr
-nothing-form P refused named valued-as no-said none-listed c = go (first (ofCall c))
+nothing-form P refused named added-so removed-so valued-as no-said none-listed c = go (first (ofCall c))
   where
     go : (r : Option ℕ) → P (refusalOr (idleReply (decoded c .operator) (firstArgument (decoded c))) r)
     go (some number) = refused number
-    go none = idle-form P named valued-as no-said none-listed (decoded c .operator) _
+    go none = idle-form P named added-so removed-so valued-as no-said none-listed (decoded c .operator) _
 
 -- ---- in a list of calls
 
@@ -101,5 +101,6 @@ no-selection =
       q-nodes = refl;
       q-edge = refl;
       q-value = refl;
+      q-exists = refl;
       r = refl;
     }

@@ -22,7 +22,7 @@ use Rattle.model.specs.declared.Operator.the-variants.{Create, Bind, Val
 use Rattle.model.specs.declared.Removal.{Removal}
 use Rattle.model.specs.Operators.{operatorOf}
 use Rattle.model.specs.Pairs.{nodeOf, pairsOf, nodeNames, withEdge, anyPair}
-use Rattle.model.specs.Steps.{Reply, refusal, name, valued, yesNo, pairs, fieldsOf, decoded, firstArgument, nodeTaken, removeNodes, destroyed, wouldAdd, listed, reply, idleReply, after}
+use Rattle.model.specs.Steps.{Reply, refusal, name, added, removed, valued, yesNo, pairs, fieldsOf, decoded, firstArgument, nodeTaken, removeNodes, destroyed, wouldAdd, listed, reply, idleReply, after}
 use Rattle.model.specs.Refusals.{Stop, stop, first, selectsNothing, noOperator, zeroName, lacksSpace, destroysUniverse, spaceAbsent, nodeAbsent, secondAbsent, edgeAbsent, listShort, full, ofCall, ofTuples, ifLookedUp, earlier, refusalOf}
 use Rattle.model.specs.Machine.{State, Outcome, Request, calling, serve, step, idle, outcomeOf, machine}
 use Rattle.model.specs.OneCall.{writes}
@@ -172,46 +172,49 @@ wins-ten C ts c room w =
 
 -- ---- the forms of an answer
 
--- with no selection: a name, a value, a no or an empty list
-pub idle-form : (P : Reply → Type 0) → ((x : ℕ) → P (name x)) → ((v : Value) → P (valued v)) → P (yesNo false) → P (pairs 0 [])
+-- with no selection: a name, a name with no tuple added or removed, a value, a no or an empty list
+pub idle-form : (P : Reply → Type 0) → ((x : ℕ) → P (name x)) → ((x : ℕ) → P (added x 0)) → ((x : ℕ) → P (removed x 0))
+    → ((v : Value) → P (valued v)) → P (yesNo false) → P (pairs 0 [])
     → (op : Operator) (x : ℕ) → P (idleReply op x)
 unfolding idleReply
-idle-form P named valued-as no-said none-listed (Create o) x = named _
-idle-form P named valued-as no-said none-listed (Bind o) x = named _
-idle-form P named valued-as no-said none-listed (Values o) x = valued-as _
-idle-form P named valued-as no-said none-listed (Exists o) x = no-said
-idle-form P named valued-as no-said none-listed (Destroy r) x = named _
-idle-form P named valued-as no-said none-listed (Lists l) x = none-listed
+idle-form P named added-so removed-so valued-as no-said none-listed (Create o) x = added-so _
+idle-form P named added-so removed-so valued-as no-said none-listed (Bind o) x = named _
+idle-form P named added-so removed-so valued-as no-said none-listed (Values o) x = valued-as _
+idle-form P named added-so removed-so valued-as no-said none-listed (Exists o) x = no-said
+idle-form P named added-so removed-so valued-as no-said none-listed (Destroy r) x = removed-so _
+idle-form P named added-so removed-so valued-as no-said none-listed (Lists l) x = none-listed
 
--- of a step: a name, a value, a yes or no, or what an S operator lists
-reply-form : (P : Reply → Type 0) (first : ℕ) (f : Fields) (ts : Tuples) → ((x : ℕ) → P (name x)) → ((v : Value) → P (valued v)) → ((b : Bool) → P (yesNo b))
-    → ((l : Listing) → P (pairs (length (listed l f ts)) (listed l f ts))) → (op : Operator) → P (reply op first f ts)
+-- of a step: a name, a name and how many tuples were added or removed, a value, a yes or no, or what an S operator lists
+reply-form : (P : Reply → Type 0) (first : ℕ) (f : Fields) (ts : Tuples) → ((x : ℕ) → P (name x)) → ((x k : ℕ) → P (added x k))
+    → ((x k : ℕ) → P (removed x k)) → ((v : Value) → P (valued v)) → ((b : Bool) → P (yesNo b)) → ((l : Listing) → P (pairs (length (listed l f ts)) (listed l f ts))) → (op : Operator) → P (reply op first f ts)
 unfolding reply
-reply-form P first f ts named valued-as said all-listed (Create o) = named _
-reply-form P first f ts named valued-as said all-listed (Bind o) = named _
-reply-form P first f ts named valued-as said all-listed (Values o) = valued-as _
-reply-form P first f ts named valued-as said all-listed (Exists o) = said _
-reply-form P first f ts named valued-as said all-listed (Destroy r) = named _
-reply-form P first f ts named valued-as said all-listed (Lists l) = all-listed l
+reply-form P first f ts named added-so removed-so valued-as said all-listed (Create o) = added-so _ _
+reply-form P first f ts named added-so removed-so valued-as said all-listed (Bind o) = named _
+reply-form P first f ts named added-so removed-so valued-as said all-listed (Values o) = valued-as _
+reply-form P first f ts named added-so removed-so valued-as said all-listed (Exists o) = said _
+reply-form P first f ts named added-so removed-so valued-as said all-listed (Destroy r) = removed-so _ _
+reply-form P first f ts named added-so removed-so valued-as said all-listed (Lists l) = all-listed l
 
 -- what holds of each form holds of every answer of the machine
 pub answer-form : (P : Reply → Type 0) (C : ℕ) (ts : Tuples) (c : Call) (room : ℕ) → ((number : ℕ) → P (refusal number)) → ((x : ℕ) → P (name x))
-    → ((v : Value) → P (valued v)) → ((b : Bool) → P (yesNo b)) → P (pairs 0 []) → ((l : Listing) → P (pairs (length (listed l (fieldsOf c) ts)) (listed l (fieldsOf c) ts)))
+    → ((x k : ℕ) → P (added x k)) → ((x k : ℕ) → P (removed x k)) → ((v : Value) → P (valued v)) → ((b : Bool) → P (yesNo b)) → P (pairs 0 []) → ((l : Listing) → P (pairs (length (listed l (fieldsOf c) ts)) (listed l (fieldsOf c) ts)))
     → P (machine C ts c room .answer)
 unfolding machine outcomeOf
-answer-form P C ts c room refused named valued-as said none-listed all-listed = go (refusalOf C ts c room)
+answer-form P C ts c room refused named added-so removed-so valued-as said none-listed all-listed = go (refusalOf C ts c room)
   where
     go : (r : Option ℕ) → P (outcomeOf r ts c .answer)
     go (some number) = refused number
     go none =
         either-outcome (λ (o : Outcome). P (o .answer)) (selectsNothing c) (idle c ts) (step c ts)
-        (λ e. idle-form P named valued-as (said false) none-listed (operatorOf (c .operator)) _)
-        (λ e. reply-form P (firstArgument (decoded c)) (fieldsOf c) ts named valued-as said all-listed (operatorOf (c .operator)))
+        (λ e. idle-form P named (λ x. added-so x 0) (λ x. removed-so x 0) valued-as (said false) none-listed (operatorOf (c .operator)) _)
+        (λ e. reply-form P (firstArgument (decoded c)) (fieldsOf c) ts named added-so removed-so valued-as said all-listed (operatorOf (c .operator)))
 
 -- no step answers a refusal
 abbrev isRefusal : Reply → Bool
 isRefusal (refusal n) = true
 isRefusal (name x) = false
+isRefusal (added x k) = false
+isRefusal (removed x k) = false
 isRefusal (valued v) = false
 isRefusal (yesNo b) = false
 isRefusal (pairs k ps) = false
@@ -229,14 +232,15 @@ refused-exactly C ts c room number = (λ e. go (refusalOf C ts c room) e, λ e. 
         answers-none : isRefusal (cond (selectsNothing c) (idle c ts) (step c ts) .answer) ≡ false
         answers-none =
             either-outcome (λ (o : Outcome). isRefusal (o .answer) ≡ false) (selectsNothing c) (idle c ts) (step c ts)
-            (λ t. idle-form (λ (r : Reply). isRefusal r ≡ false) (λ x. refl) (λ v. refl) refl refl (operatorOf (c .operator)) _)
-            (λ t. reply-form (λ (r : Reply). isRefusal r ≡ false) (firstArgument (decoded c)) (fieldsOf c) ts (λ x. refl) (λ v. refl) (λ b. refl) (λ l. refl) (operatorOf (c .operator)))
+            (λ t. idle-form (λ (r : Reply). isRefusal r ≡ false) (λ x. refl) (λ x. refl) (λ x. refl) (λ v. refl) refl refl (operatorOf (c .operator)) _)
+            (λ t. reply-form (λ (r : Reply). isRefusal r ≡ false) (firstArgument (decoded c)) (fieldsOf c) ts (λ x. refl) (λ x k. refl) (λ x k. refl)
+            (λ v. refl) (λ b. refl) (λ l. refl) (operatorOf (c .operator)))
 
 -- how many tuples there are with those that a call would add, where its space is looked up
-added : (ts : Tuples) (c : Call) → selectsNothing c ≡ false
+with-added : (ts : Tuples) (c : Call) → selectsNothing c ≡ false
     → length ts + length (missing (toAdd c) ts) ≡ length ts + length (missing (wouldAdd (operatorOf (c .operator)) (fieldsOf c)) ts)
 unfolding toAdd
-added ts c e = rw e
+with-added ts c e = rw e
 
 -- a call that would add to tuples that fit more than fits has its space looked up
 adding-selects : (C : ℕ) (ts : Tuples) (c : Call) → length ts ≤ C → C < length ts + length (missing (toAdd c) ts) → selectsNothing c ≡ false
@@ -253,8 +257,8 @@ unfolding full serve
 full-exactly C ts (calling r) fits =
     let c = r .call in
     let i = refused-exactly C ts c (r .room) 10 in (
-      λ e. let w = ten-wins C ts c (r .room) (i .0 e) in (w .0, omega (arith, ltb-true C _ (w .2), added ts c (w .1))),
-      λ h. let e = adding-selects C ts c fits (h .1) in i .1 (wins-ten C ts c (r .room) (h .0, e, lt-ltb C _ (omega (arith, h .1, added ts c e)))),
+      λ e. let w = ten-wins C ts c (r .room) (i .0 e) in (w .0, omega (arith, ltb-true C _ (w .2), with-added ts c (w .1))),
+      λ h. let e = adding-selects C ts c fits (h .1) in i .1 (wins-ten C ts c (r .room) (h .0, e, lt-ltb C _ (omega (arith, h .1, with-added ts c e)))),
     )
 
 -- ---- nodes that were collected

@@ -390,7 +390,7 @@ after-rules (Lists l) C ts c room R F P a = R
 
 -- ---- how many tuples there are
 
-length-assignAll : (ks : List Key) (v : ℕ) (ts : Tuples) → length (assignAll ks v ts) ≡ length ts
+pub length-assignAll : (ks : List Key) (v : ℕ) (ts : Tuples) → length (assignAll ks v ts) ≡ length ts
 unfolding assignAll
 length-assignAll [] v ts = refl
 length-assignAll (k ∷ ks) v ts = length-assignAll ks v (assign k v ts) ∙ length-assign k v ts
@@ -401,7 +401,7 @@ length-removeNodes s [] ts = omega arith
 length-removeNodes s (p ∷ ps) ts =
     omega (arith, length-removeNodes s ps (remove (nodeTaken s (nodeOf p)) ts), length-remove (nodeTaken s (nodeOf p)) ts)
 
-length-destroyed : (r : Removal) (f : Fields) (ts : Tuples) → length (destroyed r f ts) ≤ length ts
+pub length-destroyed : (r : Removal) (f : Fields) (ts : Tuples) → length (destroyed r f ts) ≤ length ts
 unfolding destroyed
 length-destroyed (Removal.P d) f ts = length-remove _ ts
 length-destroyed (Removal.G d) f ts = length-remove _ ts

@@ -90,7 +90,7 @@ module _ (C : ℕ) (ts : State) (room : ℕ) where
   answered c = reply (operatorOf (c .operator)) (firstArgument (decoded c)) (decoded c .fields) ts
 
   answered-unread : (c : Call) → AllUnread answered c
-  unfolding readable table operatorOf readsOf objectKeys listed firstArgument reply
+  unfolding readable table operatorOf readsOf objectKeys created listed destroyed firstArgument after reply
   answered-unread c = refl
 
   -- the state after the step

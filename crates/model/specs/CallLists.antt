@@ -13,6 +13,7 @@ use Rattle.model.specs.declared.Key.{Key}
 use Rattle.model.specs.Keys.{keyOf, compareKeys}
 use Rattle.model.specs.Tuples.{fresh, missing}
 use Rattle.model.specs.Steps.{Reply, refusal, decoded, wouldAdd}
+use Rattle.model.specs.Changes.{AddsUp}
 use Rattle.model.specs.Refusals.{selectsNothing, first, earlier}
 use Rattle.model.specs.Machine.{State, Request, calling, serve, answers, final}
 use Rattle.model.specs.Rules.{NothingMissing}
@@ -90,6 +91,8 @@ pub record WholeList (Y : Layout) (C : ℕ) (ts : State) (xs : List Exchange) (b
   -- "nothing names a missing node or space"
   pub nothingMissing : NothingMissing (Y .stateOf b)
   pub fullExactly : FullExactly C ts xs
+  -- request 2: "the added less the removed is the tuples at the end less" those at the start; a fresh store has one
+  pub addsUp : AddsUp (length ts) (replies xs) (length (Y .stateOf b))
 
 -- demand 3: "for every C in 1..2,048, every fresh store of C records and every list of calls", the empty one too.
 -- The names of a call need no bound here: a call that is made has 16-bit fields, and OneCall holds of no other that adds a name.

@@ -11,7 +11,7 @@ use Rattle.model.specs.declared.Key.{Key}
 use Rattle.model.specs.Keys.{Value, NIL, Tuple, spaceKey, nodeKey, edgeKey}
 use Rattle.model.specs.Tuples.{fresh}
 use Rattle.model.specs.Pairs.{pair}
-use Rattle.model.specs.Steps.{Reply, refusal, name, valued, yesNo, pairs}
+use Rattle.model.specs.Steps.{Reply, refusal, name, added, removed, valued, yesNo, pairs}
 use Rattle.model.specs.Machine.{State, Request, calling, answers, final}
 
 -- ---- calls as a script writes them, with an answer list of so many places
@@ -77,12 +77,12 @@ pub record Cases : Type 0 where
   -- C = 1, CUN 1: 10
   pub a : answers 1 fresh (CUN 1 Universe ∷ []) ≡ refusal 10 ∷ []
   -- C = 2, CUN 1, DUN 1, CUS 9: the last returns 9
-  pub b : answers 2 fresh (CUN 1 Universe ∷ DUN 1 Universe ∷ CUS (numbered 9) ∷ []) ≡ name 1 ∷ name 1 ∷ name 9 ∷ []
+  pub b : answers 2 fresh (CUN 1 Universe ∷ DUN 1 Universe ∷ CUS (numbered 9) ∷ []) ≡ added 1 1 ∷ removed 1 1 ∷ added 9 1 ∷ []
   -- C = 3, CUS 9, CUN 1 9: 10, two tuples remain
-  pub c : answers 3 fresh (CUS (numbered 9) ∷ CUN 1 (numbered 9) ∷ []) ≡ name 9 ∷ refusal 10 ∷ []
+  pub c : answers 3 fresh (CUS (numbered 9) ∷ CUN 1 (numbered 9) ∷ []) ≡ added 9 1 ∷ refusal 10 ∷ []
   pub c-remain : length (stateAfter 3 (CUS (numbered 9) ∷ CUN 1 (numbered 9) ∷ [])) ≡ 2
   -- the same, C = 4: returns 1
-  pub d : answers 4 fresh (CUS (numbered 9) ∷ CUN 1 (numbered 9) ∷ []) ≡ name 9 ∷ name 1 ∷ []
+  pub d : answers 4 fresh (CUS (numbered 9) ∷ CUN 1 (numbered 9) ∷ []) ≡ added 9 1 ∷ added 1 2 ∷ []
   -- CAP 1 5 1 adds one tuple in UNIVERSE
   pub e :
       stateAfter 2048 (CUN 1 Universe ∷ CAP 1 5 1 Universe ∷ []) ≡ new (spaceKey 0) ∷ new (nodeKey 0 1) ∷ new (edgeKey 0 1 5 1) ∷ []
@@ -103,15 +103,15 @@ pub record Cases : Type 0 where
   -- DON 1 with only a loop: SUN is empty
   pub g :
       answers 2048 fresh (CUN 1 Universe ∷ COP 1 5 1 Universe ∷ DON 1 Universe ∷ SUN Universe ∷ [])
-      ≡ name 1 ∷ name 1 ∷ name 1 ∷ pairs 0 [] ∷ []
+      ≡ added 1 1 ∷ added 1 1 ∷ removed 1 2 ∷ pairs 0 [] ∷ []
   -- DUN 7 without node 7: returns 7
-  pub h : answers 2048 fresh (DUN 7 Universe ∷ []) ≡ name 7 ∷ []
+  pub h : answers 2048 fresh (DUN 7 Universe ∷ []) ≡ removed 7 0 ∷ []
   -- CUS on UNIVERSE: 0
-  pub i : answers 2048 fresh (CUS Universe ∷ []) ≡ name 0 ∷ []
+  pub i : answers 2048 fresh (CUS Universe ∷ []) ≡ added 0 0 ∷ []
   -- a list of length 0 and k = 0: answered; k = 1: 9
-  pub j : answers 2048 fresh (withRoom 0 (SUN Universe) ∷ CUN 1 Universe ∷ withRoom 0 (SUN Universe) ∷ []) ≡ pairs 0 [] ∷ name 1 ∷ refusal 9 ∷ []
+  pub j : answers 2048 fresh (withRoom 0 (SUN Universe) ∷ CUN 1 Universe ∷ withRoom 0 (SUN Universe) ∷ []) ≡ pairs 0 [] ∷ added 1 1 ∷ refusal 9 ∷ []
 
--- ---- the table of script lines, left columns first, then right
+-- ---- the table of script lines, left columns first, then right; by request 2 "the C and D lines gain" the number, "as `= 1 -3` for `DUN 1`"
 
 abbrev pub scriptCalls : List Request
 scriptCalls =
@@ -135,18 +135,18 @@ scriptCalls =
 
 abbrev pub scriptReplies : List Reply
 scriptReplies =
-    name 1
-    ∷ name 2
-    ∷ name 9
+    added 1 1
+    ∷ added 2 1
+    ∷ added 9 1
     ∷ pairs 0 []
     ∷ pairs 2 (pair 0 1 ∷ pair 0 2 ∷ [])
-    ∷ name 1
+    ∷ added 1 1
     ∷ refusal 7
-    ∷ name 1
+    ∷ added 1 1
     ∷ name 1
     ∷ valued 60
     ∷ refusal 7
-    ∷ name 1
+    ∷ removed 1 3
     ∷ pairs 1 (pair 0 2 ∷ [])
     ∷ yesNo false
     ∷ refusal 4
@@ -166,4 +166,10 @@ FirstWins =
 
 -- 7 and 8; 7 and 10 (the store is full)
 abbrev pub SecondNode : Type 0
-SecondNode = answers 2 fresh (CUN 1 Universe ∷ VOP 1 5 2 Universe ∷ COP 1 5 2 Universe ∷ []) ≡ name 1 ∷ refusal 7 ∷ refusal 7 ∷ []
+SecondNode = answers 2 fresh (CUN 1 Universe ∷ VOP 1 5 2 Universe ∷ COP 1 5 2 Universe ∷ []) ≡ added 1 1 ∷ refusal 7 ∷ refusal 7 ∷ []
+
+-- the examples' operators are those that they are named for: BOP sets no edge that points the other way, DON removes what an edge points to and not what it comes from
+abbrev pub OperatorsApart : Type 0
+OperatorsApart =
+    answers 2048 fresh (CUN 1 Universe ∷ CUN 2 Universe ∷ COP 1 5 2 Universe ∷ BOP 2 5 1 60 Universe ∷ DON 2 Universe ∷ DON 1 Universe ∷ SUN Universe ∷ [])
+    ≡ added 1 1 ∷ added 2 1 ∷ added 1 1 ∷ refusal 8 ∷ removed 2 0 ∷ removed 1 2 ∷ pairs 1 (pair 0 1 ∷ []) ∷ []

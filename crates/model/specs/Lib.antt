@@ -5,6 +5,7 @@ pub mod Tuples
 pub mod Operators
 pub mod Pairs
 pub mod Steps
+pub mod Changes
 pub mod Refusals
 pub mod Machine
 pub mod Unread

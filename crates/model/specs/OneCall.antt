@@ -7,13 +7,13 @@ use Prim.Native.Nat.{ℕ, _+_, _*_, _/_, _%_}
 use lib.ListN.{length, take, drop}
 use Rattle.model.specs.declared.Call.{Call}
 use Rattle.model.specs.declared.Answer.{Answer}
-use Rattle.model.specs.declared.Answer.the-variants.{Refusal, Name, Value, YesNo, List as Listed}
+use Rattle.model.specs.declared.Answer.the-variants.{Refusal, Name, Added, Removed, Value, YesNo, List as Listed}
 use Rattle.model.specs.declared.Pair.{Pair}
 use Rattle.model.specs.declared.Operator.{Operator}
 use Rattle.model.specs.declared.Operator.the-variants.{Create, Bind, Value as Values, Exists, Destroy, List as Lists}
 use Rattle.model.specs.Operators.{operatorOf}
 use Rattle.model.specs.Pairs.{pair, edgeOf, nodeOf}
-use Rattle.model.specs.Steps.{Reply, refusal, name, valued, yesNo, pairs}
+use Rattle.model.specs.Steps.{Reply, refusal, name, added, removed, valued, yesNo, pairs}
 use Rattle.model.specs.Refusals.{selectsNothing, refusalOf}
 use Rattle.model.specs.Machine.{machine}
 use Rattle.model.specs.Layouts.{Layout}
@@ -24,6 +24,8 @@ use Rattle.model.specs.Layouts.{Layout}
 unfoldable pub answerOf : Reply → Answer
 answerOf (refusal number) = Refusal number
 answerOf (name x) = Name x
+answerOf (added x k) = Added x k
+answerOf (removed x k) = Removed x k
 answerOf (valued v) = Value v
 answerOf (yesNo b) = YesNo b
 answerOf (pairs k ps) = Listed k
@@ -32,6 +34,8 @@ answerOf (pairs k ps) = Listed k
 unfoldable pub listCount : Answer → ℕ
 listCount (Refusal number) = 0
 listCount (Name x) = 0
+listCount (Added x k) = 0
+listCount (Removed x k) = 0
 listCount (Value v) = 0
 listCount (YesNo b) = 0
 listCount (Listed k) = k
@@ -51,6 +55,8 @@ unpack w = pair (w / nameCount) (w % nameCount)
 unfoldable pub listAfter : Reply → List ℕ → List ℕ
 listAfter (refusal number) l = l
 listAfter (name x) l = l
+listAfter (added x k) l = l
+listAfter (removed x k) l = l
 listAfter (valued v) l = l
 listAfter (yesNo b) l = l
 listAfter (pairs k ps) l = map pack ps ++ drop k l
@@ -59,6 +65,8 @@ listAfter (pairs k ps) l = map pack ps ++ drop k l
 unfoldable pub observed : Answer → List ℕ → Reply
 observed (Refusal number) l = refusal number
 observed (Name x) l = name x
+observed (Added x k) l = added x k
+observed (Removed x k) l = removed x k
 observed (Value v) l = valued v
 observed (YesNo b) l = yesNo b
 observed (Listed k) l = pairs k (map unpack (take k l))

@@ -1,7 +1,7 @@
 -- Document 01, the column "step" of the table of operators: what each operator adds, sets, removes and answers; and what it answers with nothing as its space (request 1).
 use mathlib.Core.Bool.{Bool, true, false, cond, _&&_, _||_}
 use mathlib.Core.List.{List, [], _∷_, _++_}
-use Prim.Native.Nat.{ℕ}
+use Prim.Native.Nat.{ℕ, _-_}
 use lib.Dec.{eqb}
 use lib.ListN.{length}
 use Rattle.model.specs.declared.Call.{Call}
@@ -118,9 +118,12 @@ unfoldable pub firstArgument : Decoded → ℕ
 firstArgument d = cond (d .row .first) (d .fields .s) (d .fields .n)
 
 -- "Answers are equal when they are of the same kind (refusal, name, value, yes or no, list) and carry the same; a list carries k and its k pairs in order."
+-- Request 2, "The machine's answers gain the same number": of C the tuples added, of D the tuples removed.
 pub data Reply : Type 0 where
   refusal : ℕ → Reply
   name : ℕ → Reply
+  added : ℕ → ℕ → Reply
+  removed : ℕ → ℕ → Reply
   valued : Value → Reply
   yesNo : Bool → Reply
   pairs : ℕ → List Pair → Reply
@@ -143,25 +146,6 @@ wouldAdd (Exists o) f = []
 wouldAdd (Destroy r) f = []
 wouldAdd (Lists l) f = []
 
--- what the step answers; `first` is the call's first argument
-unfoldable pub reply : Operator → ℕ → Fields → Tuples → Reply
-reply (Create o) first f ts = name first
-reply (Bind o) first f ts = name first
-reply (Values o) first f ts = valued (firstValue (objectKeys o (f .s) f) ts)
-reply (Exists o) first f ts = yesNo (anyPresent (objectKeys o (f .s) f) ts)
-reply (Destroy r) first f ts = name first
-reply (Lists l) first f ts = pairs (length (listed l f ts)) (listed l f ts)
-
--- request 1, what a call with nothing answers: "C, B and D change nothing and return the first argument; X says no; S, SUN included, answers an empty list."
--- A V operator with nothing is stopped by condition 12; what stands here for it has no effect.
-unfoldable pub idleReply : Operator → ℕ → Reply
-idleReply (Create o) first = name first
-idleReply (Bind o) first = name first
-idleReply (Values o) first = valued NIL
-idleReply (Exists o) first = yesNo false
-idleReply (Destroy r) first = name first
-idleReply (Lists l) first = pairs 0 []
-
 -- the state after the step; "set the pair's value in s to v; A sets whichever are present"
 unfoldable pub after : Operator → Fields → Tuples → Tuples
 after (Create o) f ts = addAll (created o f) ts
@@ -170,3 +154,23 @@ after (Values o) f ts = ts
 after (Exists o) f ts = ts
 after (Destroy r) f ts = destroyed r f ts
 after (Lists l) f ts = ts
+
+-- what the step answers; `first` is the call's first argument.
+-- Request 2: "The number is the difference of the tuple counts before and after."
+unfoldable pub reply : Operator → ℕ → Fields → Tuples → Reply
+reply (Create o) first f ts = added first (length (after (Create o) f ts) - length ts)
+reply (Bind o) first f ts = name first
+reply (Values o) first f ts = valued (firstValue (objectKeys o (f .s) f) ts)
+reply (Exists o) first f ts = yesNo (anyPresent (objectKeys o (f .s) f) ts)
+reply (Destroy r) first f ts = removed first (length ts - length (after (Destroy r) f ts))
+reply (Lists l) first f ts = pairs (length (listed l f ts)) (listed l f ts)
+
+-- request 1, what a call with nothing answers: "C, B and D change nothing and return the first argument; X says no; S, SUN included, answers an empty list."
+-- Request 2: the number is "0 where nothing changed". A V operator with nothing is stopped by condition 12; what stands here for it has no effect.
+unfoldable pub idleReply : Operator → ℕ → Reply
+idleReply (Create o) first = added first 0
+idleReply (Bind o) first = name first
+idleReply (Values o) first = valued NIL
+idleReply (Exists o) first = yesNo false
+idleReply (Destroy r) first = removed first 0
+idleReply (Lists l) first = pairs 0 []

@@ -161,11 +161,16 @@ pub struct Decoded {
 }
 
 // "C, B and D return the first argument; V a value; X yes or no; S a count k"; a call that is stopped, its refusal's number.
+// By request 2 an answer "from C or D carries the number of tuples added or removed"; the first argument is a node's name, or a space's (0 for UNIVERSE).
 pub enum Answer {
     // The number of the condition that stopped the call.
     Refusal(u32),
-    // The first argument: a node's name, or a space's (0 for UNIVERSE).
+    // B: the first argument.
     Name(u16),
+    // C: the first argument, and how many tuples were added.
+    Added(u16, u32),
+    // D: the first argument, and how many tuples were removed.
+    Removed(u16, u32),
     // A value; 0 is NIL.
     Value(u32),
     // Yes or no.

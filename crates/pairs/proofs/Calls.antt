@@ -7,10 +7,10 @@ use native.Mathlib.Omega.{arith}
 use lib.ListN.{length, take, drop, length-append, length-drop, length-map, take-append-drop}
 use lib.Seq.{length-take-le, take-at, drop-at, take-append-le, drop-append-le}
 use Rattle.model.specs.declared.Answer.{Answer}
-use Rattle.model.specs.declared.Answer.the-variants.{Refusal, Name, Value, YesNo, List as Listed}
+use Rattle.model.specs.declared.Answer.the-variants.{Refusal, Name, Added, Removed, Value, YesNo, List as Listed}
 use Rattle.model.specs.declared.Call.{Call}
 use Rattle.model.specs.declared.Pair.{Pair}
-use Rattle.model.specs.Steps.{Reply, refusal, name, valued, yesNo, pairs}
+use Rattle.model.specs.Steps.{Reply, refusal, name, added, removed, valued, yesNo, pairs}
 use Rattle.model.specs.Refusals.{refusalOf}
 use Rattle.model.specs.Machine.{State, Outcome, machine}
 use Rattle.layouts.specs.Buffer.{capacityOf, tuplesOf, isStore}
@@ -31,6 +31,8 @@ moved : (r : Reply) (l₀ l : List ℕ) → length (listAfter r l₀) ≡ length
 unfolding listAfter answerOf listCount
 moved (refusal number) l₀ l e h = refl
 moved (name x) l₀ l e h = refl
+moved (added x k) l₀ l e h = refl
+moved (removed x k) l₀ l e h = refl
 moved (valued v) l₀ l e h = refl
 moved (yesNo t) l₀ l e h = refl
 moved (pairs k ps) l₀ l e h =
@@ -43,6 +45,8 @@ kept : (r : Reply) (l₀ : List ℕ) → length (listAfter r l₀) ≡ length l�
 unfolding listAfter answerOf listCount
 kept (refusal number) l₀ e h = refl
 kept (name x) l₀ e h = refl
+kept (added x k) l₀ e h = refl
+kept (removed x k) l₀ e h = refl
 kept (valued v) l₀ e h = refl
 kept (yesNo t) l₀ e h = refl
 kept (pairs k ps) l₀ e h = drop-at (map pack ps) (drop k l₀) k (omega (arith, e, h, length-append (map pack ps) (drop k l₀), length-drop k l₀))
@@ -154,6 +158,8 @@ observed-unpacked : (a : Answer) (ws us : List ℕ) (l : List Pair) → listCoun
 unfolding observed listCount pairsAfter unpackedOnto
 observed-unpacked (Refusal number) ws us l h = refl
 observed-unpacked (Name x) ws us l h = refl
+observed-unpacked (Added x k) ws us l h = refl
+observed-unpacked (Removed x k) ws us l h = refl
 observed-unpacked (Value v) ws us l h = refl
 observed-unpacked (YesNo t) ws us l h = refl
 observed-unpacked (Listed k) ws us l h = ap (λ (vs : List ℕ). map unpack vs ++ drop k l) (sym (take-at (take k ws) us k (length-take-le k ws h)))

@@ -56,7 +56,8 @@ observed-in-pairs : (C : ℕ) (ts : State) (c : Call) (room : ℕ) (l : List Pai
     → observedInPairs (answerOf (machine C ts c room .answer)) (pairsAfter (machine C ts c room .answer) l) ≡ machine C ts c room .answer
 unfolding observedInPairs answerOf pairsAfter
 observed-in-pairs C ts c room l =
-    answer-form (λ (r : Reply). observedInPairs (answerOf r) (pairsAfter r l) ≡ r) C ts c room (λ number. refl) (λ x. refl) (λ v. refl) (λ b. refl) refl
+    answer-form (λ (r : Reply). observedInPairs (answerOf r) (pairsAfter r l) ≡ r) C ts c room (λ number. refl) (λ x. refl) (λ x k. refl) (λ x k. refl)
+    (λ v. refl) (λ b. refl) refl
     (λ x.
     let ps : List Pair = listed x (fieldsOf c) ts in
     ap (pairs (length ps)) (take-at ps (drop (length ps) l) (length ps) refl))
@@ -113,7 +114,7 @@ module _ (b b′ : List ℕ) (x : PairsMade) (P : OneInPairs b x b′) where
           unwritten
               (λ e.
               ap (λ (o : Outcome). pairsAfter (o .answer) (x .lent)) (nothing-idle (stored .capacityOf b) (stored .stateOf b) (x .call) (length (x .lent)) t)
-              ∙ nothing-form (λ (y : Reply). pairsAfter y (x .lent) ≡ x .lent) (λ number. refl) (λ n. refl) (λ v. refl) refl refl (x .call)),
+              ∙ nothing-form (λ (y : Reply). pairsAfter y (x .lent) ≡ x .lent) (λ number. refl) (λ n. refl) (λ n. refl) (λ n. refl) (λ v. refl) refl refl (x .call)),
         );
       }
 

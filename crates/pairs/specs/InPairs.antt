@@ -6,9 +6,9 @@ use Prim.Native.Nat.{ℕ}
 use lib.ListN.{length, take, drop}
 use Rattle.model.specs.declared.Call.{Call}
 use Rattle.model.specs.declared.Answer.{Answer}
-use Rattle.model.specs.declared.Answer.the-variants.{Refusal, Name, Value, YesNo, List as Listed}
+use Rattle.model.specs.declared.Answer.the-variants.{Refusal, Name, Added, Removed, Value, YesNo, List as Listed}
 use Rattle.model.specs.declared.Pair.{Pair}
-use Rattle.model.specs.Steps.{Reply, refusal, name, valued, yesNo, pairs}
+use Rattle.model.specs.Steps.{Reply, refusal, name, added, removed, valued, yesNo, pairs}
 use Rattle.model.specs.Machine.{calling, machine}
 use Rattle.model.specs.OneCall.{pack, unpack, OneCall}
 use Rattle.model.specs.CallLists.{Made, Exchange}
@@ -22,6 +22,8 @@ unpackedOnto k ws l = map unpack (take k ws) ++ drop k l
 unfoldable pub pairsAfter : Reply → List Pair → List Pair
 pairsAfter (refusal number) l = l
 pairsAfter (name x) l = l
+pairsAfter (added x k) l = l
+pairsAfter (removed x k) l = l
 pairsAfter (valued v) l = l
 pairsAfter (yesNo b) l = l
 pairsAfter (pairs k ps) l = ps ++ drop k l
@@ -30,6 +32,8 @@ pairsAfter (pairs k ps) l = ps ++ drop k l
 unfoldable pub observedInPairs : Answer → List Pair → Reply
 observedInPairs (Refusal number) l = refusal number
 observedInPairs (Name x) l = name x
+observedInPairs (Added x k) l = added x k
+observedInPairs (Removed x k) l = removed x k
 observedInPairs (Value v) l = valued v
 observedInPairs (YesNo b) l = yesNo b
 observedInPairs (Listed k) l = pairs k (take k l)

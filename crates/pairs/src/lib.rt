@@ -48,6 +48,8 @@ fn count_of(answer: Answer) -> usize
     match answer {
         Answer::Refusal(_) => 0,
         Answer::Name(_) => 0,
+        Answer::Added(_, _) => 0,
+        Answer::Removed(_, _) => 0,
         Answer::Value(_) => 0,
         Answer::YesNo(_) => 0,
         Answer::List(k) => k,

@@ -3,14 +3,19 @@ use mathlib.Core.Bool.{true, false}
 use mathlib.Core.List.{[], _∷_}
 use mathlib.Core.Path.{_≡_, refl}
 use Rattle.model.specs.Pairs.{pair}
-use Rattle.model.specs.Steps.{refusal, name, valued, yesNo, pairs}
-use Rattle.text.specs.Bytes.{lineFeed, blank, equalsSign, colon, I, L, N, R, T, «V»}
+use Rattle.model.specs.Steps.{refusal, name, added, removed, valued, yesNo, pairs}
+use Rattle.text.specs.Bytes.{lineFeed, blank, hyphen, plusSign, equalsSign, colon, I, L, N, R, T, «V»}
 use Rattle.text.specs.Numerals.{printedNumber, printedIn}
 use Rattle.print.specs.Answers.{yesOrNo, entryText, entriesText, answerText, answerLine}
 
 pub record Examples : Type 0 where
-  -- "CUN 1": "= 1"
+  -- "BOP 1 5 2 60": "= 1"
   pub a-name : answerLine (name 1) ≡ equalsSign ∷ blank ∷ 49 ∷ lineFeed ∷ []
+  -- request 2: "`= 1 +2` or `= 1 -5`, with `+0` or `-0` for none"
+  pub two-added : answerLine (added 1 2) ≡ equalsSign ∷ blank ∷ 49 ∷ blank ∷ plusSign ∷ 50 ∷ lineFeed ∷ []
+  pub five-removed : answerLine (removed 1 5) ≡ equalsSign ∷ blank ∷ 49 ∷ blank ∷ hyphen ∷ 53 ∷ lineFeed ∷ []
+  pub none-added : answerLine (added 1 0) ≡ equalsSign ∷ blank ∷ 49 ∷ blank ∷ plusSign ∷ 48 ∷ lineFeed ∷ []
+  pub none-removed : answerLine (removed 1 0) ≡ equalsSign ∷ blank ∷ 49 ∷ blank ∷ hyphen ∷ 48 ∷ lineFeed ∷ []
   -- "VOP 1 5 2": "V 60"
   pub a-value : answerLine (valued 60) ≡ «V» ∷ blank ∷ 54 ∷ 48 ∷ lineFeed ∷ []
   -- "XUN 1 9": "NIL"
@@ -35,6 +40,10 @@ unfolding printedNumber printedIn yesOrNo entryText entriesText answerText answe
 examples =
     record {
       a-name = refl;
+      two-added = refl;
+      five-removed = refl;
+      none-added = refl;
+      none-removed = refl;
       a-value = refl;
       a-no = refl;
       a-yes = refl;

@@ -5,12 +5,13 @@ use Prim.Native.Nat.{ℕ, zero, suc, _+_, _*_, _/_, _%_, _≤_}
 use native.Mathlib.Omega.{arith}
 use lib.ListN.{length, take, getD, length-append}
 use Rattle.model.specs.declared.Answer.{Answer}
-use Rattle.model.specs.declared.Answer.the-variants.{Refusal, Name, Value, YesNo, List as Listed}
+use Rattle.model.specs.declared.Answer.the-variants.{Refusal, Name, Added, Removed, Value, YesNo, List as Listed}
 use Rattle.model.specs.OneCall.{listCount, nameCount, unpack, observed}
-use Rattle.text.specs.Bytes.{Text, lineFeed, colon}
+use Rattle.text.specs.Bytes.{Text, lineFeed, hyphen, plusSign, colon}
 use Rattle.text.specs.Numerals.{printedNumber}
 use Rattle.text.proofs.Printing.{printed-within, printed-ten, printed-five}
 use Rattle.print.specs.Answers.{yesOrNo, entryText, entriesText, answerText, answerLine, mostLine, Printable}
+use Rattle.print.proofs.Parts.{changed-size}
 
 -- a blank, at most five digits, a colon, at most five digits
 entry-length : (w : ℕ) → w ≤ 4294967295 → length (entryText (unpack w)) ≤ 12
@@ -44,6 +45,8 @@ text-length : (a : Answer) (list : List ℕ) → listCount a ≤ 2048 → ((i : 
 unfolding answerText observed listCount
 text-length (Refusal number) list h f = omega (arith, printed-ten number)
 text-length (Name x) list h f = omega (arith, printed-ten x)
+text-length (Added x k) list h f = omega (arith, printed-ten x, printed-ten k, changed-size x plusSign k)
+text-length (Removed x k) list h f = omega (arith, printed-ten x, printed-ten k, changed-size x hyphen k)
 text-length (Value v) list h f = omega (arith, printed-ten v)
 text-length (YesNo b) list h f = omega (arith, yes-or-no-length b)
 text-length (Listed k) list h f =

@@ -6,11 +6,11 @@ use Prim.Native.Nat.{ℕ}
 use native.Mathlib.Omega.{arith}
 use Rattle.model.specs.declared.Pair.{Pair}
 use Rattle.model.specs.Pairs.{edgeOf, nodeOf}
-use Rattle.model.specs.Steps.{Reply, refusal, name, valued, yesNo, pairs}
-use Rattle.text.specs.Bytes.{lineFeed, colon}
+use Rattle.model.specs.Steps.{Reply, refusal, name, added, removed, valued, yesNo, pairs}
+use Rattle.text.specs.Bytes.{lineFeed, hyphen, plusSign, colon}
 use Rattle.text.specs.Numerals.{printedNumber}
 use Rattle.text.proofs.Lacking.{lacks, lacks-append, lacks-printed}
-use Rattle.print.specs.Answers.{yesOrNo, entryText, entriesText, answerText}
+use Rattle.print.specs.Answers.{change, yesOrNo, entryText, entriesText, answerText}
 
 feedless-number : (x : ℕ) → lacks lineFeed (printedNumber x) ≡ true
 feedless-number x = lacks-printed lineFeed x (omega arith)
@@ -27,6 +27,8 @@ pub feedless-answer : (r : Reply) → lacks lineFeed (answerText r) ≡ true
 unfolding answerText yesOrNo
 feedless-answer (refusal number) = feedless-number number
 feedless-answer (name x) = feedless-number x
+feedless-answer (added x k) = lacks-append lineFeed (printedNumber x) (change plusSign k) (feedless-number x) (feedless-number k)
+feedless-answer (removed x k) = lacks-append lineFeed (printedNumber x) (change hyphen k) (feedless-number x) (feedless-number k)
 feedless-answer (valued v) = feedless-number v
 feedless-answer (yesNo true) = refl
 feedless-answer (yesNo false) = refl

@@ -1,16 +1,16 @@
 -- Answers put part by part: how long each is, and the whole.
 use mathlib.Core.Bool.{Bool, true, false}
-use mathlib.Core.List.{List, [], _∷_, map, append-assoc}
-use mathlib.Core.Path.{_≡_, sym, ap, subst}
+use mathlib.Core.List.{List, [], _∷_, _++_, map, append-assoc}
+use mathlib.Core.Path.{_≡_, sym, ap, _∙_, subst}
 use Prim.Native.Nat.{ℕ, _+_, _/_, _%_, _≤_}
 use native.Mathlib.Omega.{arith}
 use lib.ListN.{length, take, length-append}
 use Rattle.model.specs.declared.Answer.{Answer}
 use Rattle.model.specs.OneCall.{listCount, nameCount, unpack, observed}
 use Rattle.model.specs.Steps.{Reply, pairs}
-use Rattle.text.specs.Bytes.{Text, lineFeed, blank, colon, I, L, N, T}
+use Rattle.text.specs.Bytes.{Text, lineFeed, blank, equalsSign, colon, I, L, N, T}
 use Rattle.text.specs.Numerals.{printedNumber}
-use Rattle.print.specs.Answers.{signed, yesOrNo, entryText, entriesText, answerText, answerLine, Put, Printable}
+use Rattle.print.specs.Answers.{signed, change, yesOrNo, entryText, entriesText, answerText, answerLine, Put, Printable}
 use Rattle.print.proofs.Puts.{put-then, put-same}
 
 -- a sign, a blank and a number
@@ -19,6 +19,20 @@ pub signed-put : (sign x : ℕ) {out o₁ o₂ o₃ : Text} {at m₁ m₂ end : 
 signed-put sign x {out} {o₁} {o₂} {o₃} {at} h p q r =
     let le : at ≤ length out = omega arith in
     put-then le (put-then le p q) r
+
+-- a name, a blank, a sign and how many tuples were added or removed
+pub changed-size : (x sign k : ℕ) → length (signed equalsSign x ++ change sign k) ≡ 4 + length (printedNumber x) + length (printedNumber k)
+changed-size x sign k = omega (arith, length-append (signed equalsSign x) (change sign k))
+
+pub changed-put : (x sign k : ℕ) {out o₁ o₂ o₃ o₄ : Text} {at m₁ m₂ m₃ end : ℕ} → at + length (signed equalsSign x ++ change sign k) ≤ length out
+    → Put (signed equalsSign x) out at m₁ o₁ → Put (blank ∷ []) o₁ m₁ m₂ o₂ → Put (sign ∷ []) o₂ m₂ m₃ o₃ → Put (printedNumber k) o₃ m₃ end o₄
+    → Put (signed equalsSign x ++ change sign k) out at end o₄
+changed-put x sign k {out} {o₁} {o₂} {o₃} {o₄} {at} h p q r s =
+    let le : at ≤ length out = omega arith in
+    put-same
+    (ap (λ (bs : Text). bs ++ printedNumber k) (append-assoc (signed equalsSign x) (blank ∷ []) (sign ∷ []))
+    ∙ append-assoc (signed equalsSign x) (blank ∷ sign ∷ []) (printedNumber k))
+    (put-then le (put-then le (put-then le p q) r) s)
 
 -- T where the answer is yes, NIL where it is no
 pub yes-no-size : (b : Bool) → 1 ≤ length (yesOrNo b)

@@ -1,4 +1,5 @@
 -- Document 01: "Output, a line each: `= name`, `V value`, `T` or `NIL`, `L k` then ` edge:node` for each, `R number`."
+-- Document 02, request 2: the name that C or D returns has the number of tuples added or removed behind it.
 use mathlib.Core.Bool.{Bool, true, false}
 use mathlib.Core.List.{List, [], _∷_, _++_}
 use mathlib.Core.Path.{_≡_}
@@ -8,13 +9,17 @@ use Rattle.model.specs.declared.Answer.{Answer}
 use Rattle.model.specs.declared.Pair.{Pair}
 use Rattle.model.specs.Pairs.{edgeOf, nodeOf}
 use Rattle.model.specs.OneCall.{listCount}
-use Rattle.model.specs.Steps.{Reply, refusal, name, valued, yesNo, pairs}
-use Rattle.text.specs.Bytes.{Text, lineFeed, blank, equalsSign, colon, written, I, L, N, R, T, «V»}
+use Rattle.model.specs.Steps.{Reply, refusal, name, added, removed, valued, yesNo, pairs}
+use Rattle.text.specs.Bytes.{Text, lineFeed, blank, hyphen, plusSign, equalsSign, colon, written, I, L, N, R, T, «V»}
 use Rattle.text.specs.Numerals.{printedNumber}
 
 -- a sign, a blank and a number
 abbrev pub signed : ℕ → ℕ → Text
 signed sign x = sign ∷ blank ∷ printedNumber x
+
+-- request 2: "prints it as `= 1 +2` or `= 1 -5`, with `+0` or `-0` for none"; what stands behind the name
+abbrev pub change : ℕ → ℕ → Text
+change sign k = blank ∷ sign ∷ printedNumber k
 
 -- "`T` or `NIL`"
 unfoldable pub yesOrNo : Bool → Text
@@ -34,6 +39,8 @@ entriesText (p ∷ ps) = entryText p ++ entriesText ps
 unfoldable pub answerText : Reply → Text
 answerText (refusal number) = signed R number
 answerText (name x) = signed equalsSign x
+answerText (added x k) = signed equalsSign x ++ change plusSign k
+answerText (removed x k) = signed equalsSign x ++ change hyphen k
 answerText (valued v) = signed «V» v
 answerText (yesNo b) = yesOrNo b
 answerText (pairs k ps) = signed L k ++ entriesText ps

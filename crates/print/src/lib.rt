@@ -1,13 +1,14 @@
 // Answers as lines of text in lent bytes.
 use model::Answer;
-ghost use mathlib.Core.List.{[], _∷_, map};
+ghost use mathlib.Core.List.{[], _∷_, _++_, map};
 ghost use mathlib.Core.Path.{_≡_};
 ghost use Prim.Native.Nat.{_≤_, _<_};
 ghost use lib.ListN.{length, take};
 ghost use Rattle.model.specs.OneCall.{unpack, observed};
 ghost use Rattle.model.specs.Steps.{pairs};
+ghost use Rattle.text.specs.Bytes.{equalsSign};
 ghost use Rattle.text.specs.Numerals.{digit, printedNumber};
-ghost use Rattle.print.specs.Answers.{signed, yesOrNo, entryText, entriesText, answerText, answerLine, Fits, Put, Printable};
+ghost use Rattle.print.specs.Answers.{signed, change, yesOrNo, entryText, entriesText, answerText, answerLine, Fits, Put, Printable};
 
 // Writes one byte.
 fn put_byte(out: &mut [u8], at: usize, b: u8) -> usize
@@ -100,6 +101,17 @@ fn put_signed(out: &mut [u8], at: usize, sign: u8, x: u32) -> usize
     put_number(out, behind_blank, x)
 }
 
+// Writes a name and, behind a sign, how many tuples were added or removed.
+fn put_changed(out: &mut [u8], at: usize, x: u32, sign: u8, k: u32) -> usize
+    requires { ⌜ Fits (signed equalsSign x ++ change sign k) (now out) at ⌝ }
+    ensures { λ r. ⌜ Put (signed equalsSign x ++ change sign k) (now (out .entry)) at r (now (out .exit)) ⌝ }
+{
+    let behind_name = put_signed(out, at, b'=', x);
+    let behind_blank = put_byte(out, behind_name, b' ');
+    let behind_sign = put_byte(out, behind_blank, sign);
+    put_number(out, behind_sign, k)
+}
+
 // Writes T or NIL.
 fn put_yes_or_no(out: &mut [u8], at: usize, yes: bool) -> usize
     requires { ⌜ Fits (yesOrNo yes) (now out) at ⌝ }
@@ -153,6 +165,8 @@ fn put_answer_text(out: &mut [u8], at: usize, a: Answer, list: &[u32]) -> usize
     match a {
         Answer::Refusal(number) => put_signed(out, at, b'R', number),
         Answer::Name(x) => put_signed(out, at, b'=', x as u32),
+        Answer::Added(x, k) => put_changed(out, at, x as u32, b'+', k),
+        Answer::Removed(x, k) => put_changed(out, at, x as u32, b'-', k),
         Answer::Value(v) => put_signed(out, at, b'V', v),
         Answer::YesNo(b) => put_yes_or_no(out, at, b),
         Answer::List(k) => put_list(out, at, list, k),

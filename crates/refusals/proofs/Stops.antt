@@ -30,7 +30,6 @@ use Rattle.layouts.proofs.Store.{tuples-fit}
 use Rattle.model.proofs.Refusals.{everyNumber, first-number, first-none, first-some, not-looked-up}
 use Rattle.model.proofs.Steps.{first-passed}
 use Rattle.chain.specs.Links.{Linked}
-use Rattle.edit.proofs.Built.{length-tuples}
 use Rattle.refusals.specs.Numbers.{stopNumber, ofStore, Unstopped}
 use Rattle.listings.specs.Lists.{NamesAsked}
 use Rattle.listings.proofs.Stores.{names-asked}
@@ -181,11 +180,11 @@ pub adds-none : (d : Decoded) (op : Operator) (ts : Tuples) → d .operator ≡ 
 unfolding missing
 adds-none d op ts K e = would-add d op ts 0 K (sym (ap (λ (ks : List Key). length (missing ks ts)) e))
 
-pub used-fits : (b : List ℕ) (x y : ℕ) → Linked b → x ≡ word b 0 → y ≡ word b 3 → y ≤ x
-used-fits b x y L X Y = omega (arith, X, Y, L .chains .capacity, L .chains .counted, length-tuples b, tuples-fit b (L .chains))
+pub used-fits : (b : List ℕ) (x t y : ℕ) → Linked b → x ≡ word b 0 → t ≡ length (tuplesOf b) → y ≡ t → y ≤ x
+used-fits b x t y L X T Y = omega (arith, X, T, Y, L .chains .capacity, tuples-fit b (L .chains))
 
-pub free-told : (b : List ℕ) (x y : ℕ) → Linked b → x ≡ word b 0 → y ≡ word b 3 → x - y ≡ capacityOf b - length (tuplesOf b)
-free-told b x y L X Y = ap₂ _-_ (X ∙ L .chains .capacity) (Y ∙ L .chains .counted ∙ sym (length-tuples b))
+pub free-told : (b : List ℕ) (x t y : ℕ) → Linked b → x ≡ word b 0 → t ≡ length (tuplesOf b) → y ≡ t → x - y ≡ capacityOf b - length (tuplesOf b)
+free-told b x t y L X T Y = ap₂ _-_ (X ∙ L .chains .capacity) (Y ∙ T)
 
 -- more to add than records left
 left-over : (C t a : ℕ) → t ≤ C → ltb (C - t) a ≡ ltb C (t + a)

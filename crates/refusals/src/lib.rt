@@ -140,12 +140,12 @@ fn count_added(b: &[u32], near: Near, universe: Near, d: Decoded) -> usize
     }
 }
 
-// How many records are free: word 0 is C, word 3 the number of tuples.
+// How many records are free: word 0 is C.
 fn free_records(b: &[u32]) -> usize
     requires { ⌜ Linked (now b) ⌝ }
     ensures { λ r. ⌜ r ≡ capacityOf (now (b .entry)) - length (tuplesOf (now (b .entry))) ⌝ }
 {
-    words::head_word(b, 0) - words::head_word(b, 3)
+    words::head_word(b, 0) - words::index_of(edit::tuple_count(b))
 }
 
 // No call adds more tuples: those of an adjacent pair, in its space and in UNIVERSE.

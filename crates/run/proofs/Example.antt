@@ -1,5 +1,5 @@
 -- A worked example of the words of calls and answers, by computation: CUS 9; CUN 7 9; BUN 7 3 9; XUN 7 9; SUS with a list of three places; VUN 7 9;
--- a number that is no operator; and VUN 7 with nothing as its space. A last word that is no whole call is not read.
+-- a number that is no operator; VUN 7 with nothing as its space; DUN 7; and CUN with a number that is no name. A last word that is no whole call is not read.
 use mathlib.Core.List.{List, [], _∷_}
 use mathlib.Core.Path.{_≡_, refl}
 use Prim.Native.Nat.{ℕ}
@@ -7,20 +7,21 @@ use Rattle.model.specs.Tuples.{fresh}
 use Rattle.model.specs.CallLists.{CallMade}
 use Rattle.model.specs.OneCall.{answerOf, pack, listAfter}
 use Rattle.model.proofs.Cases.{computed}
-use Rattle.run.specs.Words.{spaceOfForm, callAt, callsFrom, callsIn, kindOf, numberOf}
+use Rattle.run.specs.Words.{nameIn, valueOfForm, spaceOfForm, callOf, callWordsAt, callsFrom, callsIn, kindOf, firstOf, secondOf}
 use Rattle.run.specs.Runs.{callMade, callsMade, answersAfter, listsAfter}
 
--- space 9 stands in the upper half of the third word: 9 × 65,536 is 589,824
 abbrev exampleCalls : List ℕ
 exampleCalls =
-    51 ∷ 0 ∷ 589824 ∷ 0 ∷ 1 ∷ 0
-    ∷ 45 ∷ 7 ∷ 589824 ∷ 0 ∷ 1 ∷ 0
-    ∷ 46 ∷ 7 ∷ 589824 ∷ 3 ∷ 1 ∷ 0
-    ∷ 48 ∷ 7 ∷ 589824 ∷ 0 ∷ 1 ∷ 0
-    ∷ 56 ∷ 0 ∷ 0 ∷ 0 ∷ 0 ∷ 3
-    ∷ 47 ∷ 7 ∷ 589824 ∷ 0 ∷ 1 ∷ 0
-    ∷ 58 ∷ 0 ∷ 0 ∷ 0 ∷ 0 ∷ 0
-    ∷ 47 ∷ 7 ∷ 589824 ∷ 0 ∷ 2 ∷ 0
+    51 ∷ 0 ∷ 0 ∷ 0 ∷ 0 ∷ 0 ∷ 1 ∷ 9 ∷ 0
+    ∷ 45 ∷ 7 ∷ 0 ∷ 0 ∷ 0 ∷ 0 ∷ 1 ∷ 9 ∷ 0
+    ∷ 46 ∷ 7 ∷ 0 ∷ 0 ∷ 1 ∷ 3 ∷ 1 ∷ 9 ∷ 0
+    ∷ 48 ∷ 7 ∷ 0 ∷ 0 ∷ 0 ∷ 0 ∷ 1 ∷ 9 ∷ 0
+    ∷ 56 ∷ 0 ∷ 0 ∷ 0 ∷ 0 ∷ 0 ∷ 0 ∷ 0 ∷ 3
+    ∷ 47 ∷ 7 ∷ 0 ∷ 0 ∷ 0 ∷ 0 ∷ 1 ∷ 9 ∷ 0
+    ∷ 58 ∷ 0 ∷ 0 ∷ 0 ∷ 0 ∷ 0 ∷ 0 ∷ 0 ∷ 0
+    ∷ 47 ∷ 7 ∷ 0 ∷ 0 ∷ 0 ∷ 0 ∷ 2 ∷ 9 ∷ 0
+    ∷ 49 ∷ 7 ∷ 0 ∷ 0 ∷ 0 ∷ 0 ∷ 0 ∷ 0 ∷ 0
+    ∷ 45 ∷ 65543 ∷ 0 ∷ 0 ∷ 0 ∷ 0 ∷ 0 ∷ 0 ∷ 0
     ∷ 45
     ∷ []
 
@@ -30,11 +31,23 @@ exampleLists = 71 ∷ 72 ∷ 73 ∷ 74 ∷ []
 abbrev exampleMade : List CallMade
 exampleMade = callsMade 10 fresh (callsIn exampleCalls) exampleLists
 
-pub example-answers : answersAfter exampleMade (20 ∷ 21 ∷ 22 ∷ 23 ∷ 24 ∷ 25 ∷ 26 ∷ 27 ∷ 28 ∷ 29 ∷ 30 ∷ 31 ∷ 32 ∷ 33 ∷ 34 ∷ 35 ∷ 36 ∷ [])
-    ≡ 1 ∷ 9 ∷ 1 ∷ 7 ∷ 1 ∷ 7 ∷ 3 ∷ 1 ∷ 4 ∷ 2 ∷ 2 ∷ 3 ∷ 0 ∷ 2 ∷ 0 ∷ 12 ∷ 36 ∷ []
-unfolding computed answerOf pack listAfter spaceOfForm callAt callsFrom callsIn kindOf numberOf callMade callsMade answersAfter
+pub example-answers : answersAfter exampleMade
+    (20 ∷ 21 ∷ 22 ∷ 23 ∷ 24 ∷ 25 ∷ 26 ∷ 27 ∷ 28 ∷ 29 ∷ 30 ∷ 31 ∷ 32 ∷ 33 ∷ 34 ∷ 35 ∷ 36 ∷ 37 ∷ 38 ∷ 39 ∷ 40 ∷ 41 ∷ 42 ∷ 43 ∷ 44 ∷ 45 ∷ 46 ∷ 47 ∷ 48 ∷ 49 ∷ 50 ∷ [])
+    ≡ 6 ∷ 9 ∷ 1
+    ∷ 6 ∷ 7 ∷ 2
+    ∷ 1 ∷ 7 ∷ 0
+    ∷ 3 ∷ 1 ∷ 0
+    ∷ 4 ∷ 2 ∷ 0
+    ∷ 2 ∷ 3 ∷ 1
+    ∷ 0 ∷ 2 ∷ 0
+    ∷ 0 ∷ 12 ∷ 0
+    ∷ 7 ∷ 7 ∷ 2
+    ∷ 0 ∷ 3 ∷ 0
+    ∷ 50
+    ∷ []
+unfolding computed answerOf pack listAfter nameIn valueOfForm spaceOfForm callOf callWordsAt callsFrom callsIn kindOf firstOf secondOf callMade callsMade answersAfter
 example-answers = refl
 
 pub example-lists : listsAfter exampleMade exampleLists ≡ 0 ∷ 9 ∷ 73 ∷ 74 ∷ []
-unfolding computed answerOf pack listAfter spaceOfForm callAt callsFrom callsIn callMade callsMade listsAfter
+unfolding computed answerOf pack listAfter nameIn valueOfForm spaceOfForm callOf callWordsAt callsFrom callsIn callMade callsMade listsAfter
 example-lists = refl

@@ -12,7 +12,7 @@ use Rattle.model.specs.Machine.{State, CallRequest, Request, calling, machine}
 use Rattle.layouts.specs.Buffer.{capacityOf, tuplesOf, isStore}
 use Rattle.model.specs.CallLists.{exchangeOf, requests}
 use Rattle.model.proofs.Bools.{and-both, and-left, and-right, clash, failed, not-yes, not-no}
-use Rattle.run.specs.Words.{answerWords, callCount, callsFrom, callsIn}
+use Rattle.run.specs.Words.{wordsInAnswer, callCount, callsFrom, callsIn}
 use Rattle.run.specs.Runs.{callMade, callsMade, roomsOf, hasRoom, LeftByRun, Ran}
 use Rattle.run.proofs.WordLaws.{calls-length}
 
@@ -37,23 +37,23 @@ lists-wide ws l f ef nf = leb-true (roomsOf (callsFrom ws (callCount ws) 0)) (le
 
 module _ (ws a l : List ℕ) where
   -- room for the answers and the lists, as the code tests it
-  has-room : answerWords * callCount ws ≤ length a → leb (roomsOf (callsFrom ws (callCount ws) 0)) (length l) ≡ true → hasRoom (callsIn ws) a l ≡ true
+  has-room : wordsInAnswer * callCount ws ≤ length a → leb (roomsOf (callsFrom ws (callCount ws) 0)) (length l) ≡ true → hasRoom (callsIn ws) a l ≡ true
   unfolding hasRoom callsIn
   has-room wide fit =
-      and-both (leb (answerWords * length (callsFrom ws (callCount ws) 0)) (length a)) (leb (roomsOf (callsFrom ws (callCount ws) 0)) (length l))
-      (le-leb (answerWords * length (callsFrom ws (callCount ws) 0)) (length a) (omega (arith, calls-length ws (callCount ws) 0))) fit
+      and-both (leb (wordsInAnswer * length (callsFrom ws (callCount ws) 0)) (length a)) (leb (roomsOf (callsFrom ws (callCount ws) 0)) (length l))
+      (le-leb (wordsInAnswer * length (callsFrom ws (callCount ws) 0)) (length a) (omega (arith, calls-length ws (callCount ws) 0))) fit
 
-  has-room-answers : hasRoom (callsIn ws) a l ≡ true → answerWords * callCount ws ≤ length a
+  has-room-answers : hasRoom (callsIn ws) a l ≡ true → wordsInAnswer * callCount ws ≤ length a
   unfolding hasRoom callsIn
   has-room-answers e =
-      let h : answerWords * length (callsFrom ws (callCount ws) 0) ≤ length a
-      = leb-true (answerWords * length (callsFrom ws (callCount ws) 0)) (length a)
-      (and-left (leb (answerWords * length (callsFrom ws (callCount ws) 0)) (length a)) (leb (roomsOf (callsFrom ws (callCount ws) 0)) (length l)) e) in
+      let h : wordsInAnswer * length (callsFrom ws (callCount ws) 0) ≤ length a
+      = leb-true (wordsInAnswer * length (callsFrom ws (callCount ws) 0)) (length a)
+      (and-left (leb (wordsInAnswer * length (callsFrom ws (callCount ws) 0)) (length a)) (leb (roomsOf (callsFrom ws (callCount ws) 0)) (length l)) e) in
       omega (arith, h, calls-length ws (callCount ws) 0)
 
   has-room-lists : hasRoom (callsIn ws) a l ≡ true → leb (roomsOf (callsFrom ws (callCount ws) 0)) (length l) ≡ true
   unfolding hasRoom callsIn
-  has-room-lists e = and-right (leb (answerWords * length (callsFrom ws (callCount ws) 0)) (length a)) (leb (roomsOf (callsFrom ws (callCount ws) 0)) (length l)) e
+  has-room-lists e = and-right (leb (wordsInAnswer * length (callsFrom ws (callCount ws) 0)) (length a)) (leb (roomsOf (callsFrom ws (callCount ws) 0)) (length l)) e
 
 module _ (b ws a l : List ℕ) where
   -- 1: the buffer is no store
@@ -75,7 +75,7 @@ module _ (b ws a l : List ℕ) where
         run = λ f g. absurd (clash g n);
       }
 
-  pub answers-short : (s : Bool) → s ≡ isStore b → not s ≡ false → length a < answerWords * callCount ws → Ran b ws a l 9 b a l
+  pub answers-short : (s : Bool) → s ≡ isStore b → not s ≡ false → length a < wordsInAnswer * callCount ws → Ran b ws a l 9 b a l
   answers-short s e n h =
       no-room (sym e ∙ not-no s n) (failed (hasRoom (callsIn ws) a l) (λ f. omega (arith, h, has-room-answers ws a l f)))
 
@@ -85,7 +85,7 @@ module _ (b ws a l : List ℕ) where
       no-room (sym e ∙ not-no s n) (failed (hasRoom (callsIn ws) a l) (λ g. clash (has-room-lists ws a l g) (sym ef ∙ not-yes f nf)))
 
   -- 0: all calls were made
-  pub all-run : (s f : Bool) (b′ a′ l′ : List ℕ) → s ≡ isStore b → not s ≡ false → answerWords * callCount ws ≤ length a
+  pub all-run : (s f : Bool) (b′ a′ l′ : List ℕ) → s ≡ isStore b → not s ≡ false → wordsInAnswer * callCount ws ≤ length a
       → f ≡ leb (roomsOf (callsFrom ws (callCount ws) 0)) (length l) → not f ≡ false
       → LeftByRun (callsMade (capacityOf b) (tuplesOf b) (callsFrom ws (callCount ws) 0) l) b a l b′ a′ l′ → Ran b ws a l 0 b′ a′ l′
   unfolding callsIn

@@ -19,7 +19,7 @@ use Rattle.layouts.specs.Stored.{stored}
 use Rattle.model.proofs.Bools.{clash}
 use Rattle.model.proofs.CallLists.{answer-within}
 use Rattle.layouts.proofs.Sizes.{capacity-length}
-use Rattle.run.specs.Words.{answerWords, callWords, callAt, roomAt, requestAt, callsFrom, kindOf, numberOf, putAnswer}
+use Rattle.run.specs.Words.{wordsInAnswer, wordsInCall, callAt, roomAt, requestAt, callsFrom, answerList, putAnswer}
 use Rattle.run.specs.Runs.{callMade, callsMade, answersAfter, listsAfter, roomsOf, LeftByRun, OneRun}
 use Rattle.run.proofs.WordLaws.{calls-start, calls-next, calls-end, answer-length, answer-first, answer-rest}
 use Rattle.run.proofs.Fits.{rooms-next}
@@ -33,7 +33,7 @@ count-fits b l b′ l′ c a O e h = let k : listCount a ≤ length l = answer-w
 -- .. which is the room that the call gives, a word of the list of calls
 pub count-small : (b ws : List ℕ) (i : ℕ) (l b′ l′ : List ℕ) (c : Call) (a : Answer)
     → ((k : ℕ) → Fits w32 (getD ws k 0)) → length l ≡ roomAt ws i → OnStore stored b l c a b′ l′ → length l′ ≡ length l → listCount a ≤ 4294967295
-count-small b ws i l b′ l′ c a f e O k = count-fits b l b′ l′ c a O k (omega (arith, e, f (callWords * i + 5)))
+count-small b ws i l b′ l′ c a f e O k = count-fits b l b′ l′ c a O k (omega (arith, e, f (wordsInCall * i + 8)))
 
 -- a call and its answer written are what the machine makes of it
 pub one-run : (b ws : List ℕ) (i : ℕ) (answers l b′ answers′ l′ : List ℕ) (c : Call) (a : Answer)
@@ -85,7 +85,7 @@ pub record Running (ws : List ℕ) (count : ℕ) (b₀ a₀ l₀ b a l : List �
   pub answersSize : length a ≡ length a₀
   pub listsSize : length l ≡ length l₀
   pub room : at + roomsOf (callsFrom ws (count - i) i) ≤ length l
-  pub answered : answersAfter (allMade ws count b₀ l₀) a₀ ≡ take (answerWords * i) a ++ answersAfter (restMade ws count b l at i) (drop (answerWords * i) a)
+  pub answered : answersAfter (allMade ws count b₀ l₀) a₀ ≡ take (wordsInAnswer * i) a ++ answersAfter (restMade ws count b l at i) (drop (wordsInAnswer * i) a)
   pub listed : listsAfter (allMade ws count b₀ l₀) l₀ ≡ take at l ++ listsAfter (restMade ws count b l at i) (drop at l)
   pub trace : (b″ : List ℕ) → Trace (OneMade stored) b (restMade ws count b l at i) b″ → Trace (OneMade stored) b₀ (allMade ws count b₀ l₀) b″
 
@@ -118,13 +118,13 @@ module _ (ws : List ℕ) (count : ℕ) (b₀ a₀ l₀ : List ℕ) where
         answered =
             sym
             (R .answered
-            ∙ ap (λ (xs : List CallMade). take (answerWords * i) a ++ answersAfter xs (drop (answerWords * i) a)) none-left
-            ∙ take-append-drop (answerWords * i) a);
+            ∙ ap (λ (xs : List CallMade). take (wordsInAnswer * i) a ++ answersAfter xs (drop (wordsInAnswer * i) a)) none-left
+            ∙ take-append-drop (wordsInAnswer * i) a);
         listed = sym (R .listed ∙ ap (λ (xs : List CallMade). take at l ++ listsAfter xs (drop at l)) none-left ∙ take-append-drop at l);
       }
 
   -- one more call, which leaves b′, a′ and, of its own part of the lists, `part`
-  module _ (b a l b′ a′ part : List ℕ) (at i : ℕ) (R : Running ws count b₀ a₀ l₀ b a l at i) (more : i < count) (wide : answerWords * count ≤ length a₀)
+  module _ (b a l b′ a′ part : List ℕ) (at i : ℕ) (R : Running ws count b₀ a₀ l₀ b a l at i) (more : i < count) (wide : wordsInAnswer * count ≤ length a₀)
       (sized : length part ≡ roomAt ws i) (O : OneRun (madeAt ws b l at i) i b a b′ a′ part) where
     room-next : at + (roomAt ws i + roomsOf (callsFrom ws (count - (i + 1)) (i + 1))) ≤ length l
     room-next = omega (arith, R .room, rooms-next ws count i more)
@@ -180,19 +180,19 @@ module _ (ws : List ℕ) (count : ℕ) (b₀ a₀ l₀ : List ℕ) where
     as-one-call = record { noStore = λ e. absurd (clash (R .store) e); onStore = λ e. O .call }
 
     answered-next : (xs : List CallMade)
-        → take (answerWords * i) a ++ answersAfter (madeAt ws b l at i ∷ xs) (drop (answerWords * i) a)
-        ≡ take (answerWords * (i + 1)) a′ ++ answersAfter xs (drop (answerWords * (i + 1)) a′)
+        → take (wordsInAnswer * i) a ++ answersAfter (madeAt ws b l at i ∷ xs) (drop (wordsInAnswer * i) a)
+        ≡ take (wordsInAnswer * (i + 1)) a′ ++ answersAfter xs (drop (wordsInAnswer * (i + 1)) a′)
     unfolding answersAfter
     answered-next xs =
         let given : Answer = madeAt ws b l at i .answer in
-        let inside : answerWords * i + 2 ≤ length a = omega (arith, R .answersSize) in
-        let first : take (answerWords * (i + 1)) a′ ≡ take (answerWords * i) a ++ (kindOf given ∷ numberOf given ∷ [])
-        = ap (take (answerWords * (i + 1))) (O .answered) ∙ answer-first a i given inside in
-        let rest : drop (answerWords * (i + 1)) a′ ≡ drop answerWords (drop (answerWords * i) a)
-        = ap (drop (answerWords * (i + 1))) (O .answered) ∙ answer-rest a i given inside in
+        let inside : wordsInAnswer * i + wordsInAnswer ≤ length a = omega (arith, R .answersSize) in
+        let first : take (wordsInAnswer * (i + 1)) a′ ≡ take (wordsInAnswer * i) a ++ answerList given
+        = ap (take (wordsInAnswer * (i + 1))) (O .answered) ∙ answer-first a i given inside in
+        let rest : drop (wordsInAnswer * (i + 1)) a′ ≡ drop wordsInAnswer (drop (wordsInAnswer * i) a)
+        = ap (drop (wordsInAnswer * (i + 1))) (O .answered) ∙ answer-rest a i given inside in
         sym
         (ap₂ (λ (ys zs : List ℕ). ys ++ answersAfter xs zs) first rest
-        ∙ append-assoc (take (answerWords * i) a) (kindOf given ∷ numberOf given ∷ []) (answersAfter xs (drop answerWords (drop (answerWords * i) a))))
+        ∙ append-assoc (take (wordsInAnswer * i) a) (answerList given) (answersAfter xs (drop wordsInAnswer (drop (wordsInAnswer * i) a))))
 
     listed-next : (xs : List CallMade)
         → take at l ++ listsAfter (madeAt ws b l at i ∷ xs) (drop at l)
@@ -214,7 +214,7 @@ module _ (ws : List ℕ) (count : ℕ) (b₀ a₀ l₀ : List ℕ) where
           answersSize = ap length (O .answered) ∙ answer-length a i (madeAt ws b l at i .answer) (omega (arith, R .answersSize)) ∙ R .answersSize;
           listsSize = lists-length ∙ R .listsSize;
           room = omega (arith, room-next, lists-length);
-          answered = R .answered ∙ ap (λ (ys : List CallMade). take (answerWords * i) a ++ answersAfter ys (drop (answerWords * i) a)) step-made ∙ answered-next xs;
+          answered = R .answered ∙ ap (λ (ys : List CallMade). take (wordsInAnswer * i) a ++ answersAfter ys (drop (wordsInAnswer * i) a)) step-made ∙ answered-next xs;
           listed = R .listed ∙ ap (λ (ys : List CallMade). take at l ++ listsAfter ys (drop at l)) step-made ∙ listed-next xs;
           trace = λ b″ T. R .trace b″ (subst (λ (ys : List CallMade). Trace (OneMade stored) b ys b″) (sym step-made) (then as-one-call T));
         }
@@ -230,7 +230,7 @@ module _ (ws : List ℕ) (count : ℕ) (b₀ a₀ l₀ : List ℕ) where
       length-take-le ((at + one) - at) (drop at l) (omega (arith, length-drop at l, room-fits b a l at i one R h e)) ∙ omega (arith, e)
 
   -- one call of the loop, with the part from `at` to `at + one`
-  pub run-turn : (b a l b′ a′ part : List ℕ) (at i one : ℕ) → Running ws count b₀ a₀ l₀ b a l at i → i < count → answerWords * count ≤ length a₀
+  pub run-turn : (b a l b′ a′ part : List ℕ) (at i one : ℕ) → Running ws count b₀ a₀ l₀ b a l at i → i < count → wordsInAnswer * count ≤ length a₀
       → one ≡ roomAt ws i → length part ≡ length (take ((at + one) - at) (drop at l))
       → OneRun (callMade (capacityOf b) (tuplesOf b) (requestAt ws i) (take ((at + one) - at) (drop at l))) i b a b′ a′ part
       → Running ws count b₀ a₀ l₀ b′ a′ (take at l ++ (part ++ drop ((at + one) - at) (drop at l))) (at + one) (i + 1)

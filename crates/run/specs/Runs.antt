@@ -11,7 +11,7 @@ use Rattle.model.specs.Traces.{Trace}
 use Rattle.model.specs.OneCall.{answerOf, listAfter, OnStore}
 use Rattle.model.specs.CallLists.{CallMade, OneMade, MeetsDemand1, exchangeOf, requests, WholeList}
 use Rattle.layouts.specs.Stored.{stored}
-use Rattle.run.specs.Words.{answerWords, callsIn, kindOf, numberOf, putAnswer}
+use Rattle.run.specs.Words.{wordsInAnswer, callsIn, answerList, putAnswer}
 
 -- ---- what the machine makes of a list of calls
 
@@ -31,10 +31,10 @@ callsMade C ts [] ls = []
 callsMade C ts (r ∷ rs) ls =
     callMade C ts r (take (r .room) ls) ∷ callsMade C (machine C ts (r .call) (r .room) .state) rs (drop (r .room) ls)
 
--- the slice of answers afterwards: two words for each answer, then what it held
+-- the slice of answers afterwards: the words of each answer, then what it held
 unfoldable pub answersAfter : List CallMade → List ℕ → List ℕ
 answersAfter [] ws = ws
-answersAfter (x ∷ xs) ws = kindOf (x .answer) ∷ numberOf (x .answer) ∷ answersAfter xs (drop answerWords ws)
+answersAfter (x ∷ xs) ws = answerList (x .answer) ++ answersAfter xs (drop wordsInAnswer ws)
 
 -- the slice of lists afterwards: each call's part as the call left it, then what it held
 unfoldable pub listsAfter : List CallMade → List ℕ → List ℕ
@@ -48,9 +48,9 @@ unfoldable pub roomsOf : List CallRequest → ℕ
 roomsOf [] = 0
 roomsOf (r ∷ rs) = r .room + roomsOf rs
 
--- two words for each answer, and the answer lists
+-- the words of each answer, and the answer lists
 unfoldable pub hasRoom : List CallRequest → List ℕ → List ℕ → Bool
-hasRoom rs answers lists = leb (answerWords * length rs) (length answers) && leb (roomsOf rs) (length lists)
+hasRoom rs answers lists = leb (wordsInAnswer * length rs) (length answers) && leb (roomsOf rs) (length lists)
 
 -- ---- a run
 

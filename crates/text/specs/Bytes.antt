@@ -17,9 +17,13 @@ lineFeed = 10
 abbrev pub blank : ℕ
 blank = 32
 
--- document 02, request 1: nothing is "written `-` in a script"
+-- document 02, request 1: nothing is "written `-` in a script"; request 2: `-` before the number of tuples removed
 abbrev pub hyphen : ℕ
 hyphen = 45
+
+-- request 2: `+` before the number of tuples added
+abbrev pub plusSign : ℕ
+plusSign = 43
 
 -- the letters of operators and answers, and the signs of answers
 abbrev pub A : ℕ

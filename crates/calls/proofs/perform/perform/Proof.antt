@@ -1,6 +1,6 @@
 use Rattle.listings.proofs.Stores.{store-readable}
 use Rattle.edit.proofs.Built.{store-linked}
-use Rattle.calls.proofs.Performs.{ready-create, ready-destroy, ready-names, ready-room, create-performed, bind-performed, value-performed, exists-performed, destroy-performed, list-performed}
+use Rattle.calls.proofs.Performs.{ready-create, ready-destroy, ready-names, ready-room, create-grows, create-performed, bind-performed, value-performed, exists-performed, destroy-shrinks, destroy-performed, list-performed}
 use borrow.Author.Needs.{needs}
 use Rattle.calls.proofs.perform.perform.Statement.{statement}
 use Rattle.calls.proofs.perform.perform.Tie as tie
@@ -8,6 +8,7 @@ use Rattle.calls.proofs.perform.perform.Reads as reads
 use Rattle.calls.proofs.perform.perform.Lts as lts
 use Rattle.listings.proofs.write_listed.Reads as write-listed-reads
 use Rattle.calls.proofs.perform.destroy.Reads as destroy-reads
+use Rattle.edit.proofs.tuple_count.Reads as tuple-count-reads
 use Rattle.steps.proofs.bind.Reads as bind-reads
 use Rattle.steps.proofs.create.Reads as create-reads
 use Rattle.steps.proofs.exists.Reads as exists-reads
@@ -18,7 +19,10 @@ perform-spec =
     tie.close
     (tie.spec
     (λ c. search needs)
+    (λ c κs. search store-linked)
     (λ c κs. (search store-linked, search, search, search ready-create))
+    (λ c κs. search needs)
+    (λ c. search create-grows)
     (λ c. search needs)
     (λ c κs. search store-linked)
     (λ c. search needs)
@@ -26,7 +30,10 @@ perform-spec =
     (λ c. search needs)
     (λ c κs. search store-linked)
     (λ c. search needs)
+    (λ c κs. search store-linked)
     (λ c κs. (search, search, search ready-destroy))
+    (λ c κs. search needs)
+    (λ c. search destroy-shrinks)
     (λ c. search needs)
     (λ c κs. (search store-readable, search, search ready-names, search ready-room))
     (λ c. search needs)
