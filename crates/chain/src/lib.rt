@@ -7,6 +7,9 @@ ghost use Rattle.layouts.specs.Buffer.{next, usedOf, tuplesOf, keyAt};
 ghost use Rattle.words.specs.Words.{Inside};
 ghost use Rattle.chain.specs.Links.{Linked, Hint, startOf, afterIn, placeIn, findIn, Linking, insertAfter, Unlinking, removeAfter};
 
+// A power of two above the number of every record: the remainder by it is the number itself.
+const ABOVE_RECORDS: usize = 4096;
+
 // A place in the used chain: a record and the one after it; 0 for none.
 pub struct Place {
     pub before: usize,
@@ -27,7 +30,7 @@ pub fn used_key(b: &[u32], at: usize) -> Key
     requires { ⌜ Linked (now b) × Inside (now b) at ⌝ }
     ensures { λ r. ⌜ r ≡ keyAt (now (b .entry)) at ⌝ }
 {
-    words::key_of(b, at % 4096)
+    words::key_of(b, at % ABOVE_RECORDS)
 }
 
 // The record that a search for a key starts behind: the hint, where its key is below; else 0.

@@ -13,6 +13,9 @@ ghost use Rattle.chain.specs.Links.{Linked, Hint};
 ghost use Rattle.entries.specs.Queries.{chosen, firstAt, secondAt, queried, code, headCode, codes, nearer, leastFrom, Readable, pairsStart, startKey, startIn, outside, endsAt, pairsInOrder, entriesInOrder, writtenPairs, hasSecond, givesTwo, mostOf};
 ghost use lib.Dec.{leb};
 
+// How many names there are: a pair is packed as its edge times this, and its node.
+const NAME_COUNT: u64 = 65536;
+
 // What is listed of a pair.
 pub enum Part {
     Both,
@@ -51,7 +54,7 @@ fn wide(x: u32) -> u64
 fn code_of(edge: u32, node: u32) -> u64
     ensures { λ r. ⌜ r ≡ code (pair edge node) ⌝ }
 {
-    wide(edge) * 65536 + wide(node) + 1
+    wide(edge) * NAME_COUNT + wide(node) + 1
 }
 
 // The code of the entry for a pair; 0 where it is not asked for.

@@ -9,7 +9,7 @@ use lib.Dec.{eqb, leb}
 use lib.ListN.{getD, set}
 use borrow.Author.Tests.{eqb-true, eqb-false, eq-eqb, ne-eqb, lt-ltb, le-ltb, leb-true}
 use Rattle.model.specs.declared.Key.{Key}
-use Rattle.model.specs.Keys.{nodeKey}
+use Rattle.model.specs.Keys.{mostName, nodeKey}
 use Rattle.model.specs.Tuples.{Tuples, present}
 use Rattle.layouts.specs.Buffer.{keyAt, tuplesOf}
 use Rattle.model.specs.Numbers.{everyUpTo}
@@ -49,19 +49,19 @@ module _ (k : Key) (e : goodKey k ≡ true) where
   unfolding goodKey
   small = and-left (smallKey k) _ e
 
-  pub good-s : k .s ≤ 65535
+  pub good-s : k .s ≤ mostName
   unfolding smallKey
-  good-s = leb-true (k .s) 65535 (and-left (leb (k .s) 65535) _ small)
+  good-s = leb-true (k .s) mostName (and-left (leb (k .s) mostName) _ small)
 
-  pub good-n : k .n ≤ 65535
+  pub good-n : k .n ≤ mostName
   unfolding smallKey
-  good-n = leb-true (k .n) 65535 (and-left (leb (k .n) 65535) _ (and-right (leb (k .s) 65535) _ small))
+  good-n = leb-true (k .n) mostName (and-left (leb (k .n) mostName) _ (and-right (leb (k .s) mostName) _ small))
 
-  pub good-m : k .m ≤ 65535
+  pub good-m : k .m ≤ mostName
   unfolding smallKey
   good-m =
-      leb-true (k .m) 65535
-      (and-right (leb (k .g) 65535) _ (and-right (leb (k .n) 65535) _ (and-right (leb (k .s) 65535) _ small)))
+      leb-true (k .m) mostName
+      (and-right (leb (k .g) mostName) _ (and-right (leb (k .n) mostName) _ (and-right (leb (k .s) mostName) _ small)))
 
   -- without g it is the key of a node or a space
   pub good-node : k .g ≡ 0 → k ≡ nodeKey (k .s) (k .n)
