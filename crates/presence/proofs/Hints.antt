@@ -16,7 +16,8 @@ use Rattle.model.specs.Tuples.{present}
 use Rattle.layouts.specs.Buffer.{capacityOf, keyAt, tuplesOf}
 use Rattle.model.proofs.Bools.{or-cases, and-left, and-right, not-yes}
 use Rattle.model.proofs.Tuples.{same-key}
-use Rattle.presence.specs.Presence.{isAt, Held, Marked, Marks, MarksFit, markCount, markTries, markStep, spaceFactor, edgeFactor, secondFactor, nodeMark, edgeMark, edgeRecord, nodeSlot, edgeSlot, withMark, withNodeMark, withEdgeMark, withNamed, lookFrom, nodeShown, edgeShown}
+use Rattle.presence.specs.Presence.{isAt, Held, Marked, Marks, MarksFit, markCount, markTries, markStep, spaceFactor, edgeFactor, secondFactor}
+use Rattle.presence.specs.Presence.{nodeMark, edgeMark, edgeRecord, nodeSlot, edgeSlot, withMark, withNodeMark, withEdgeMark, withNamed, lookFrom, nodeShown, edgeShown}
 
 -- ---- places
 
@@ -27,6 +28,13 @@ node-slot-below s n = omega arith
 pub edge-slot-below : (k : Key) → edgeSlot k < markCount
 unfolding edgeSlot
 edge-slot-below k = omega arith
+
+-- a place that is one of these fits
+pub node-slot-fits : (s n at : ℕ) → at ≡ nodeSlot s n → at < markCount
+node-slot-fits s n at e = omega (arith, e, node-slot-below s n)
+
+pub edge-slot-fits : (k : Key) (at : ℕ) → at ≡ edgeSlot k → at < markCount
+edge-slot-fits k at e = omega (arith, e, edge-slot-below k)
 
 pub node-slot-sum : (s n i j : ℕ) → i ≡ s → j ≡ n → (spaceFactor * i + j) % markCount ≡ nodeSlot s n
 unfolding nodeSlot
@@ -42,9 +50,12 @@ pub record-of-node : (w : ℕ) → w % nameCount ≢ 0 → 0 ≡ edgeRecord w
 unfolding edgeRecord
 record-of-node w h = simp (ne-eqb (w % nameCount) 0 h)
 
-pub record-of-edge : (w : ℕ) → w % nameCount ≡ 0 → w / nameCount ≡ edgeRecord w
+record-of-edge : (w : ℕ) → w % nameCount ≡ 0 → w / nameCount ≡ edgeRecord w
 unfolding edgeRecord
 record-of-edge w h = simp (eq-eqb (w % nameCount) 0 h)
+
+pub record-told : (w i : ℕ) → w % nameCount ≡ 0 → i ≡ w / nameCount → i ≡ edgeRecord w
+record-told w i h e = e ∙ record-of-edge w h
 
 node-record : (s n : ℕ) → n ≢ 0 → n ≤ mostName → 0 ≡ edgeRecord (nodeMark s n)
 unfolding nodeMark
@@ -108,6 +119,9 @@ module _ (b ms : List ℕ) (M : Marks b ms) where
   show-node s n h l e =
       looked (λ (w : ℕ). eqb w (nodeMark s n)) (present (nodeKey s n) (tuplesOf b) ≡ true) markTries ms (nodeSlot s n)
       (λ j t. M .held j .node s n h l (eqb-true (getD ms j 0) (nodeMark s n) t)) e
+
+  pub shown-node : (s n : ℕ) (r : Bool) → n ≢ 0 → n ≤ mostName → r ≡ nodeShown ms s n → r ≡ true → true ≡ present (nodeKey s n) (tuplesOf b)
+  shown-node s n r h l e t = sym (show-node s n h l (sym e ∙ t))
 
   pub show-edge : (k : Key) → edgeShown b ms k ≡ true → present (edgeKey 0 (k .n) (k .g) (k .m)) (tuplesOf b) ≡ true
   unfolding edgeShown

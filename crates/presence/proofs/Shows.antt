@@ -2,7 +2,7 @@
 use mathlib.Core.Bool.{Bool, true, false, cond, not, _&&_, _||_}
 use mathlib.Core.List.{List}
 use mathlib.Core.Logic.{_≢_}
-use mathlib.Core.Path.{_≡_, refl, sym, ap, ap₂, _∙_}
+use mathlib.Core.Path.{_≡_, refl, sym, ap, ap₂, _∙_, subst}
 use Prim.Native.Nat.{ℕ, zero, suc, _+_, _-_, _≤_, _<_}
 use native.Mathlib.Omega.{arith}
 use lib.Dec.{eqb, leb}
@@ -11,12 +11,12 @@ use borrow.Author.Tests.{eqb-true, eqb-false, eq-eqb, ne-eqb, lt-ltb, le-ltb, le
 use Rattle.model.specs.declared.Key.{Key}
 use Rattle.model.specs.Keys.{mostName, nodeKey}
 use Rattle.model.specs.Tuples.{Tuples, present}
-use Rattle.layouts.specs.Buffer.{keyAt, tuplesOf}
+use Rattle.layouts.specs.Buffer.{capacityOf, keyAt, tuplesOf}
 use Rattle.model.specs.Numbers.{everyUpTo}
 use Rattle.model.specs.Rules.{smallKey, noEdgeWithoutNode, edgeHasEnd}
 use Rattle.model.proofs.Bools.{and-left, and-right, not-yes}
 use Rattle.presence.specs.declared.ends.Found.{Found}
-use Rattle.presence.specs.Presence.{withNodeMark, withEdgeMark, withNamed, nodeShown, edgeShown, nodeSettled, edgeSettled, settled, endThere, endShown, nothingKept, foundWith, listWith, everyEnd, goodKey, shapedKey}
+use Rattle.presence.specs.Presence.{withNodeMark, withEdgeMark, withNamed, nodeShown, edgeShown, nodeSettled, edgeSettled, settled, endThere, endShown, nothingKept, foundWith, listWith, everyEnd, KeptRecords, goodKey, shapedKey}
 
 -- ---- the words of a good key
 
@@ -128,13 +128,15 @@ module _ (ms : List ℕ) (k : Key) where
   end-looked l t h = h ∙ simp (le-ltb (k .n) (k .m) l)
 
 module _ (ts : Tuples) (k : Key) where
-  pub there-none : k .g ≡ 0 → true ≡ endThere ts k
+  pub there-none : k .g ≡ 0 → (j : Key) → k ≡ j → true ≡ endThere ts j
   unfolding endThere
-  there-none g = simp (eq-eqb (k .g) 0 g)
+  there-none g j e = let own : true ≡ endThere ts k = simp (eq-eqb (k .g) 0 g) in own ∙ ap (endThere ts) e
 
-  pub there-edge : k .g ≢ 0 → (t : Bool) → t ≡ present (nodeKey (k .s) (k .m)) ts → t ≡ endThere ts k
+  pub there-edge : k .g ≢ 0 → (t : Bool) → t ≡ present (nodeKey (k .s) (k .m)) ts → (j : Key) → k ≡ j → t ≡ endThere ts j
   unfolding endThere
-  there-edge g t h = h ∙ simp (ne-eqb (k .g) 0 g)
+  there-edge g t h j e =
+      let own : present (nodeKey (k .s) (k .m)) ts ≡ endThere ts k = simp (ne-eqb (k .g) 0 g) in
+      h ∙ own ∙ ap (endThere ts) e
 
 -- ---- second ends that are kept
 
@@ -206,6 +208,11 @@ pub record Ending (b list : List ℕ) (kept j : ℕ) : Type 0 where
 module _ (b list : List ℕ) (kept : ℕ) where
   pub ending-start : Ending b list kept kept
   ending-start = record { low = omega arith; left = refl }
+
+  pub kept-record : (j i : ℕ) → Ending b list kept j → KeptRecords b list kept → 0 < j → i ≡ getD list (j - 1) 0
+      → (i ≢ 0) × (i ≤ capacityOf b) × (goodKey (keyAt b i) ≡ true)
+  kept-record j i E K h e =
+      subst (λ (x : ℕ). (x ≢ 0) × (x ≤ capacityOf b) × (goodKey (keyAt b x) ≡ true)) (sym e) (K .named (j - 1) (omega (arith, E .low)))
 
   module _ (j : ℕ) (E : Ending b list kept j) where
     pub ending-end : j ≤ 0 → true ≡ everyEnd b list kept
