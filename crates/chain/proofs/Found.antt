@@ -1,6 +1,6 @@
 -- What a key's place tells: whether the key is present, which record holds it, and where a new one goes.
 use mathlib.Core.Bool.{Bool, true, false, cond, not, _||_, false≢true}
-use mathlib.Core.List.{List, [], _∷_, _++_, map}
+use mathlib.Core.List.{List, [], _∷_, _++_, map, cons-ne-nil}
 use mathlib.Core.Logic.{_≢_}
 use mathlib.Core.Path.{_≡_, refl, sym, ap, _∙_, subst}
 use Prim.Native.Nat.{ℕ, _+_, Ordering, Ordering·lt, Ordering·eq, Ordering·gt}
@@ -32,10 +32,7 @@ pub snoc : (is : List ℕ) → is ≢ [] → (last : ℕ) → (init : List ℕ) 
 snoc [] h last = absurd (h refl)
 snoc (i ∷ []) h last = ([], refl)
 snoc (i ∷ j ∷ js) h last =
-    let r = snoc (j ∷ js) (λ e. absurd (cons≢ e)) i in (i ∷ r .0, ap (λ (ys : List ℕ). i ∷ ys) (r .1))
-  where
-    cons≢ : {x : ℕ} {xs : List ℕ} → x ∷ xs ≡ [] → ⊥
-    cons≢ {x} {xs} e = let z : _≡_ {A = ℕ} 0 1 = cc in omega arith
+    let r = snoc (j ∷ js) (cons-ne-nil j js) i in (i ∷ r .0, ap (λ (ys : List ℕ). i ∷ ys) (r .1))
 
 -- the first of some records, or 0
 abbrev pub headOf : List ℕ → ℕ

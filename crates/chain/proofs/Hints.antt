@@ -133,11 +133,19 @@ module _ (b : List ℕ) where
     unfolding startOf
     start-none e = sym (ap (λ (t : Bool). cond t 0 (cond (isLess (compareKeys (keyAt b hint) k)) hint 0)) (eq-eqb hint 0 e))
 
-    pub start-turn : hint ≢ 0 → (key : Key) (t : Bool) → key ≡ keyAt b hint → t ≡ isLess (compareKeys key k) → cond t hint 0 ≡ startOf (keyAt b) hint k
+    start-turn : hint ≢ 0 → (key : Key) (t : Bool) → key ≡ keyAt b hint → t ≡ isLess (compareKeys key k) → cond t hint 0 ≡ startOf (keyAt b) hint k
     unfolding startOf
     start-turn h key t K T =
         ap (λ (u : Bool). cond u hint 0) (T ∙ ap (λ (j : Key). isLess (compareKeys j k)) K)
         ∙ sym (ap (λ (z : Bool). cond z 0 (cond (isLess (compareKeys (keyAt b hint) k)) hint 0)) (ne-eqb hint 0 h))
+
+    pub start-behind : hint ≢ 0 → (key : Key) (t : Bool) → key ≡ keyAt b hint → t ≡ isLess (compareKeys key k) → t ≡ true
+        → hint ≡ startOf (keyAt b) hint k
+    start-behind h key t K T yes′ = sym (ap (λ (u : Bool). cond u hint 0) yes′) ∙ start-turn h key t K T
+
+    pub start-first : hint ≢ 0 → (key : Key) (t : Bool) → key ≡ keyAt b hint → t ≡ isLess (compareKeys key k) → t ≡ false
+        → 0 ≡ startOf (keyAt b) hint k
+    start-first h key t K T no′ = sym (ap (λ (u : Bool). cond u hint 0) no′) ∙ start-turn h key t K T
 
   pub after-first : (before at : ℕ) → before ≡ 0 → at ≡ word b 1 → at ≡ afterIn b before
   unfolding afterIn

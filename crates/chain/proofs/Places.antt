@@ -17,8 +17,14 @@ use Rattle.chain.proofs.Walks.{Step, step, at-end, used-rest}
 use Rattle.layouts.specs.Chains.{Rest}
 
 -- a store has fewer than 4,096 records
-pub same-number : (b : List ℕ) (i : ℕ) → Linked b → Inside b i → i % 4096 ≡ i
+same-number : (b : List ℕ) (i : ℕ) → Linked b → Inside b i → i % 4096 ≡ i
 same-number b i L I = omega (arith, inside-most b i I, capacity-most b (usedOf b) (freeOf b) (L .chains))
+
+pub same-inside : (b : List ℕ) (i : ℕ) → Linked b → Inside b i → Inside b (i % 4096)
+same-inside b i L I = subst (Inside b) (sym (same-number b i L I)) I
+
+pub same-key-at : (b : List ℕ) (i : ℕ) (k : Key) → Linked b → Inside b i → k ≡ keyAt b (i % 4096) → k ≡ keyAt b i
+same-key-at b i k L I e = e ∙ ap (keyAt b) (same-number b i L I)
 
 pub record Seeking (b : List ℕ) (k : Key) (before at : ℕ) : Type 0 where
   pub walked : Rest b at

@@ -16,7 +16,8 @@ use Rattle.layouts.specs.Buffer.{word, capacityOf, next, tupleAt, pastRecords, 
 use Rattle.layouts.specs.Chains.{Chain, ChainRules, Within}
 use Rattle.layouts.proofs.Chains.{chain-agree, chain-within, count-append, hit}
 use Rattle.words.specs.Words.{Inside, putNext, putTuple}
-use Rattle.words.proofs.Words.{next-head, tuple-head, word-head, past-head, length-putNext, word-putNext, next-putNext, next-putNext-other, tuple-putNext, past-putNext, length-putTuple, word-putTuple, next-putTuple, tuple-putTuple, tuple-putTuple-other, past-putTuple}
+use Rattle.words.proofs.Words.{next-head, tuple-head, word-head, past-head, length-putNext, word-putNext, next-putNext, next-putNext-other, tuple-putNext, past-putNext}
+use Rattle.words.proofs.Words.{length-putTuple, word-putTuple, next-putTuple, tuple-putTuple, tuple-putTuple-other, past-putTuple}
 use Rattle.layouts.proofs.Sizes.{capacity-length}
 use Rattle.chain.specs.Links.{Linking, insertAfter, Unlinking, removeAfter}
 use Rattle.chain.proofs.Paths.{Path, chain-split, path-chain, path-agree, map-agree, counted-within, within-left, within-right}

@@ -6,21 +6,21 @@ use native.Mathlib.Omega.{arith}
 use lib.ListN.{set}
 use Rattle.model.specs.declared.Key.{Key}
 use Rattle.layouts.specs.Buffer.{word, next}
-use Rattle.words.specs.Words.{putNext, putTuple}
+use Rattle.words.specs.Words.{mostIndex, putNext, putTuple}
 use Rattle.words.proofs.Words.{inside-most}
 use Rattle.chain.specs.Links.{Linking, insertAfter, Unlinking, removeAfter}
 
 -- an index that is a word of the buffer fits
-pub free-fits : (b : List ℕ) (before taken free : ℕ) → Linking b before → taken ≡ word b 2 → free ≡ next b taken → free ≤ 4096
+pub free-fits : (b : List ℕ) (before taken free : ℕ) → Linking b before → taken ≡ word b 2 → free ≡ next b taken → free ≤ mostIndex
 free-fits b before taken free L e f = omega (arith, L .free, L .small, f, ap (next b) e)
 
-pub taken-fits : (b : List ℕ) (before taken : ℕ) → Linking b before → taken ≡ word b 2 → taken ≤ 4096
+pub taken-fits : (b : List ℕ) (before taken : ℕ) → Linking b before → taken ≡ word b 2 → taken ≤ mostIndex
 taken-fits b before taken L e = omega (arith, inside-most b (word b 2) (L .taken), L .small)
 
-pub gone-fits : (b : List ℕ) (before gone : ℕ) → Unlinking b before → gone ≡ next b before → gone ≤ 4096
+pub gone-fits : (b : List ℕ) (before gone : ℕ) → Unlinking b before → gone ≡ next b before → gone ≤ mostIndex
 gone-fits b before gone L e = omega (arith, inside-most b (next b before) (L .gone), L .small)
 
-pub after-fits : (b : List ℕ) (before gone after : ℕ) → Unlinking b before → gone ≡ next b before → after ≡ next b gone → after ≤ 4096
+pub after-fits : (b : List ℕ) (before gone after : ℕ) → Unlinking b before → gone ≡ next b before → after ≡ next b gone → after ≤ mostIndex
 after-fits b before gone after L e f = omega (arith, L .after, L .small, f, ap (next b) e)
 
 pub inserted : (b b₁ b₂ b₃ b₄ b₅ : List ℕ) (before taken free after used : ℕ) (k : Key) (v : ℕ)

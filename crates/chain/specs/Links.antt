@@ -1,5 +1,5 @@
 -- The chains of a buffer: what the functions of this crate ask of it, where a key's place is, and the words after a tuple is linked or unlinked.
-use mathlib.Core.Bool.{cond}
+use mathlib.Core.Bool.{Bool, true, false, cond}
 use mathlib.Core.List.{List, [], _∷_, _++_}
 use mathlib.Core.Logic.{_≢_}
 use mathlib.Core.Option.{some}
@@ -7,6 +7,8 @@ use mathlib.Core.Path.{_≡_}
 use Prim.Native.Nat.{ℕ, _+_, _-_, _≤_}
 use lib.Dec.{eqb}
 use lib.ListN.{length, set}
+use Rattle.model.specs.declared.Direction.{Direction}
+use Rattle.model.specs.declared.Direction.the-variants.{Outpointing, Inpointing, Adjacent}
 use Rattle.model.specs.declared.Key.{Key}
 use Rattle.model.specs.Ordered.{isLess, Ascending}
 use Rattle.model.specs.Keys.{Value, keyOf, spaceKey, compareKeys, sameKey}
@@ -16,6 +18,12 @@ use Rattle.model.specs.Rules.{firstKey}
 use Rattle.layouts.specs.Chains.{ChainRules}
 use Rattle.chain.specs.declared.Place.{Place}
 use Rattle.words.specs.Words.{Inside, putNext, putTuple}
+
+-- "for A, each of the two": has a pair two keys, one for the edge each way
+unfoldable pub bothWays : Direction → Bool
+bothWays Outpointing = false
+bothWays Inpointing = false
+bothWays Adjacent = true
 
 -- a store but for what its tuples name: chains that meet each record once, keys that ascend from (0,0,0,0).
 -- Within a call that adds or removes several tuples the buffer is that much at each moment.

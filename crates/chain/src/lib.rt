@@ -1,16 +1,31 @@
 // The used and free chains of the buffer.
+use model::Direction;
 use model::Key;
 ghost use mathlib.Core.Path.{_≡_};
 ghost use Prim.Native.Nat.{_+_, _≤_, _<_};
 ghost use Rattle.model.specs.Tuples.{present, valueAt};
 ghost use Rattle.layouts.specs.Buffer.{next, usedOf, tuplesOf, keyAt};
 ghost use Rattle.words.specs.Words.{Inside};
-ghost use Rattle.chain.specs.Links.{Linked, Hint, startOf, afterIn, placeIn, findIn, Linking, insertAfter, Unlinking, removeAfter};
+ghost use Rattle.chain.specs.Links.{bothWays, Linked, Hint, startOf, afterIn, placeIn, findIn, Linking, insertAfter, Unlinking, removeAfter};
+
+// A power of two above the number of every record: the remainder by it is the number itself.
+const ABOVE_RECORDS: usize = 4096;
 
 // A place in the used chain: a record and the one after it; 0 for none.
 pub struct Place {
     pub before: usize,
     pub at: usize,
+}
+
+// Has a pair two keys, one for the edge each way: adjacent pairs.
+pub fn both_ways(d: Direction) -> bool
+    ensures { λ r. ⌜ r ≡ bothWays d ⌝ }
+{
+    match d {
+        Direction::Outpointing => false,
+        Direction::Inpointing => false,
+        Direction::Adjacent => true,
+    }
 }
 
 // The record that follows a record in its chain; 0 where the chain ends. Every walk along a chain goes on by this function.
@@ -27,7 +42,7 @@ pub fn used_key(b: &[u32], at: usize) -> Key
     requires { ⌜ Linked (now b) × Inside (now b) at ⌝ }
     ensures { λ r. ⌜ r ≡ keyAt (now (b .entry)) at ⌝ }
 {
-    words::key_of(b, at % 4096)
+    words::key_of(b, at % ABOVE_RECORDS)
 }
 
 // The record that a search for a key starts behind: the hint, where its key is below; else 0.

@@ -2,7 +2,7 @@
 use mathlib.Core.Bool.{Bool, true, false, cond, not}
 use mathlib.Core.List.{List, [], _∷_, _++_, map, append-assoc, map-append}
 use mathlib.Core.Logic.{_≢_}
-use mathlib.Core.Option.{Option, none, some}
+use mathlib.Core.Option.{Option·some-injective, Option·none-ne-some}
 use mathlib.Core.Path.{_≡_, refl, sym, ap, ap₂, _∙_, subst, subst₂}
 use Prim.Native.Nat.{ℕ, Ordering, Ordering·lt, Ordering·eq, Ordering·gt}
 use native.Mathlib.Omega.{arith}
@@ -106,16 +106,10 @@ module _ (b : List ℕ) (k : Key) (A : Adding b k) (absent : present k (tuplesOf
     some-before z = go (P .post) (P .stop) (P .split ∙ ap (λ (is : List ℕ). is ++ P .post) z)
       where
         go : (post : List ℕ) → NotBelow b k post → usedOf b ≡ post → ⊥
-        go [] stop same = none≢ (sym (ap (λ (is : List ℕ). firstKey (map (tupleAt b) is)) same) ∙ L .first)
-          where
-            none≢ : _≡_ {A = Option Key} none (some (spaceKey 0)) → ⊥
-            none≢ e = let z : _≡_ {A = ℕ} 0 1 = cc in omega arith
+        go [] stop same = Option·none-ne-some _ (sym (ap (λ (is : List ℕ). firstKey (map (tupleAt b) is)) same) ∙ L .first)
         go (i ∷ is) stop same =
-            let first : keyAt b i ≡ spaceKey 0 = injective (sym (ap (λ (is : List ℕ). firstKey (map (tupleAt b) is)) same) ∙ L .first) in
+            let first : keyAt b i ≡ spaceKey 0 = Option·some-injective _ _ (sym (ap (λ (is : List ℕ). firstKey (map (tupleAt b) is)) same) ∙ L .first) in
             clash (ap (λ (j : Key). isLess (compareKeys j k)) first ∙ universe-below) stop
-          where
-            injective : {x y : Key} → some x ≡ some y → x ≡ y
-            injective e = cc
 
     cut : (init : List ℕ) × (usedOf b ≡ init ++ p .before ∷ P .post)
     cut =

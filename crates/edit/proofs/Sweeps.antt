@@ -2,7 +2,7 @@
 use mathlib.Core.Bool.{Bool, true, false, cond}
 use mathlib.Core.List.{List, [], _∷_, _++_, map, append-assoc, map-append}
 use mathlib.Core.Logic.{_≢_}
-use mathlib.Core.Option.{Option, none, some}
+use mathlib.Core.Option.{Option·some-injective, Option·none-ne-some}
 use mathlib.Core.Path.{_≡_, refl, sym, ap, ap₂, _∙_, subst, subst₂}
 use Prim.Native.Nat.{ℕ, _≤_, _<_}
 use native.Mathlib.Omega.{arith}
@@ -136,15 +136,12 @@ module _ (b₀ : List ℕ) (sel : Selection) where
   start-first before at L universe eb ea = go (usedOf b₀) refl
     where
       go : (used : List ℕ) → usedOf b₀ ≡ used → Inside b₀ before × Sweeping b₀ sel b₀ before at
-      go [] e = absurd (never (sym (ap (λ (is : List ℕ). firstKey (map (tupleAt b₀) is)) e) ∙ L .first))
-        where
-          never : _≡_ {A = Option Key} none (some (spaceKey 0)) → ⊥
-          never e = let z : _≡_ {A = ℕ} 0 1 = cc in omega arith
+      go [] e = absurd (Option·none-ne-some _ (sym (ap (λ (is : List ℕ). firstKey (map (tupleAt b₀) is)) e) ∙ L .first))
       go (u ∷ rest) e =
           let R : ChainRules b₀ (u ∷ rest) (freeOf b₀) = subst (λ (us : List ℕ). ChainRules b₀ us (freeOf b₀)) e (L .chains) in
           let w = chain-within (next b₀) (capacityOf b₀) (word b₀ 1) (u ∷ rest) (R .usedChain) (R .usedHead) (R .nexts) in
           let same : u ≡ before = R .usedChain .1 ∙ sym eb in
-          let first : keyAt b₀ u ≡ spaceKey 0 = injective (sym (ap (λ (is : List ℕ). firstKey (map (tupleAt b₀) is)) e) ∙ L .first) in (
+          let first : keyAt b₀ u ≡ spaceKey 0 = Option·some-injective _ _ (sym (ap (λ (is : List ℕ). firstKey (map (tupleAt b₀) is)) e) ∙ L .first) in (
             subst (Inside b₀) same (inside b₀ u (w .0) (w .1)),
             record {
               pre = [];
@@ -163,9 +160,6 @@ module _ (b₀ : List ℕ) (sel : Selection) where
               past = refl;
             },
           )
-        where
-          injective : {x y : Key} → some x ≡ some y → x ≡ y
-          injective e = cc
 
   pub sweep-start : (span : Span) (before at : ℕ) → Linked b₀ → takenBy sel (spaceKey 0) ≡ false → span ≡ spanOf sel → before ≡ sweepStart b₀ span
       → at ≡ next b₀ before → Inside b₀ before × Sweeping b₀ sel b₀ before at

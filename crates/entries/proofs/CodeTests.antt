@@ -15,6 +15,7 @@ use Rattle.model.specs.Keys.{isNode, isEdge}
 use Rattle.model.specs.OneCall.{pack}
 use Rattle.layouts.specs.Buffer.{tuplesOf}
 use Rattle.model.specs.Pairs.{pair, onlyIf, outPair, inPair, spaceEntry}
+use Rattle.model.proofs.Bools.{not-yes, not-no}
 use Rattle.taken.specs.Selections.{passes}
 use Rattle.entries.specs.declared.Part.{Part}
 use Rattle.entries.specs.declared.Part.the-variants.{Both, Edge, Node}
@@ -30,14 +31,16 @@ packed edge node a b ea eb = omega (arith, ea, eb)
 -- ---- a pair that is asked for or not
 
 module _ (q : PairQuery) (p : Pair) where
-  pub not-chosen : passes (q .g) (q .m) p ≡ false → 0 ≡ headCode (chosen q (p ∷ []))
+  pub not-chosen : (t : Bool) → t ≡ passes (q .g) (q .m) p → not t ≡ true → 0 ≡ headCode (chosen q (p ∷ []))
   unfolding chosen headCode
-  not-chosen e = ap (λ (t : Bool). headCode (cond t (partOf (q .part) p ∷ []) [])) (sym e)
+  not-chosen t e n = ap (λ (u : Bool). headCode (cond u (partOf (q .part) p ∷ []) [])) (sym (not-yes t n) ∙ e)
 
-  pub chosen-part : passes (q .g) (q .m) p ≡ true → (part : Part) → q .part ≡ part → (r : ℕ) → r ≡ code (partOf part p) → r ≡ headCode (chosen q (p ∷ []))
+  pub chosen-part : (t : Bool) → t ≡ passes (q .g) (q .m) p → not t ≡ false → (part : Part) → q .part ≡ part → (r : ℕ) → r ≡ code (partOf part p)
+      → r ≡ headCode (chosen q (p ∷ []))
   unfolding chosen headCode
-  chosen-part e part f r er =
-      er ∙ ap (λ (x : Part). code (partOf x p)) (sym f) ∙ ap (λ (t : Bool). headCode (cond t (partOf (q .part) p ∷ []) [])) (sym e)
+  chosen-part t e n part f r er =
+      er ∙ ap (λ (x : Part). code (partOf x p)) (sym f)
+      ∙ ap (λ (u : Bool). headCode (cond u (partOf (q .part) p ∷ []) [])) (sym (not-no t n) ∙ e)
 
 -- ---- the pair that a key gives
 

@@ -17,16 +17,16 @@ use Rattle.model.specs.Tuples.{Tuples}
 use Rattle.layouts.specs.Buffer.{word, tupleAt, usedOf, freeOf, tuplesOf}
 use Rattle.layouts.proofs.Store.{chains-count, capacity-most}
 use Rattle.model.proofs.Counts.{length-ascending}
-use Rattle.chain.specs.Links.{Linked}
+use Rattle.chain.specs.Links.{bothWays, Linked}
 use lib.ListN.{length-map}
 use Rattle.entries.specs.declared.Query.{Query}
 use Rattle.entries.specs.declared.Query.the-variants.{Pairs, Nodes, Spaces, SpacesOf}
-use Rattle.entries.specs.Queries.{chosen, secondPairs, firstAt, secondAt, queried, hasSecond, givesTwo, mostOf}
+use Rattle.entries.specs.Queries.{chosen, secondPairs, firstAt, secondAt, queried, givesTwo, mostOf}
 use Rattle.entries.proofs.Members.{entriesAt, single-first}
 use Rattle.entries.proofs.Counted.{length-single, length-queried}
 
-second-none : (d : Direction) → hasSecond d ≡ false → (n : ℕ) (k : Key) → secondPairs d n k ≡ []
-unfolding hasSecond secondPairs
+second-none : (d : Direction) → bothWays d ≡ false → (n : ℕ) (k : Key) → secondPairs d n k ≡ []
+unfolding bothWays secondPairs
 second-none Outpointing e n k = refl
 second-none Inpointing e n k = refl
 second-none Adjacent e n k = absurd (true≢false e)

@@ -15,7 +15,7 @@ use Rattle.model.specs.Pairs.{pair, edgeOf, nodeOf, ascending, gather, onlyIf, 
 use Rattle.model.specs.OneCall.{pack}
 use Rattle.layouts.specs.Buffer.{keyAt, usedOf, tuplesOf}
 use Rattle.model.specs.Rules.{Has, Small}
-use Rattle.chain.specs.Links.{Linked, placeIn}
+use Rattle.chain.specs.Links.{bothWays, Linked, placeIn}
 use Rattle.taken.specs.Selections.{passes}
 use Rattle.entries.specs.declared.Part.{Part}
 use Rattle.entries.specs.declared.Part.the-variants.{Both, Edge, Node}
@@ -158,13 +158,8 @@ writtenPairs ps l = map pack ps ++ drop (length ps) l
 -- ---- how many entries there can be
 
 -- for adjacent pairs a key can give a second
-unfoldable pub hasSecond : Direction → Bool
-hasSecond Outpointing = false
-hasSecond Inpointing = false
-hasSecond Adjacent = true
-
 unfoldable pub givesTwo : Query → Bool
-givesTwo (Pairs q) = hasSecond (q .d)
+givesTwo (Pairs q) = bothWays (q .d)
 givesTwo (Nodes s) = false
 givesTwo Spaces = false
 givesTwo (SpacesOf n) = false

@@ -10,8 +10,12 @@ ghost use lib.ListN.{length};
 ghost use Prim.Native.Nat.{_≤_};
 ghost use Rattle.layouts.specs.Buffer.{tuplesOf};
 ghost use Rattle.chain.specs.Links.{Linked, Hint};
-ghost use Rattle.entries.specs.Queries.{chosen, firstAt, secondAt, queried, code, headCode, codes, nearer, leastFrom, Readable, pairsStart, startKey, startIn, outside, endsAt, pairsInOrder, entriesInOrder, writtenPairs, hasSecond, givesTwo, mostOf};
+ghost use Rattle.entries.specs.Queries.{chosen, firstAt, secondAt, queried, code, headCode, codes, nearer, leastFrom};
+ghost use Rattle.entries.specs.Queries.{Readable, pairsStart, startKey, startIn, outside, endsAt, pairsInOrder, entriesInOrder, writtenPairs, givesTwo, mostOf};
 ghost use lib.Dec.{leb};
+
+// How many names there are: a pair is packed as its edge times this, and its node.
+const NAME_COUNT: u64 = 65536;
 
 // What is listed of a pair.
 pub enum Part {
@@ -51,7 +55,7 @@ fn wide(x: u32) -> u64
 fn code_of(edge: u32, node: u32) -> u64
     ensures { λ r. ⌜ r ≡ code (pair edge node) ⌝ }
 {
-    wide(edge) * 65536 + wide(node) + 1
+    wide(edge) * NAME_COUNT + wide(node) + 1
 }
 
 // The code of the entry for a pair; 0 where it is not asked for.
@@ -447,17 +451,6 @@ fn write_pairs(b: &[u32], from: usize, q: PairQuery, list: &mut [u32]) -> usize
     write_by_least(b, from, q, list)
 }
 
-// Has a pair query second entries: adjacent pairs.
-fn has_second(d: Direction) -> bool
-    ensures { λ r. ⌜ r ≡ hasSecond d ⌝ }
-{
-    match d {
-        Direction::Outpointing => false,
-        Direction::Inpointing => false,
-        Direction::Adjacent => true,
-    }
-}
-
 // Can a key give two entries.
 fn gives_two(q: Query) -> bool
     ensures { λ r. ⌜ r ≡ givesTwo q ⌝ }
@@ -465,7 +458,7 @@ fn gives_two(q: Query) -> bool
     match q {
         Query::Pairs(p) => {
             let d = p.d;
-            has_second(d)
+            chain::both_ways(d)
         }
         Query::Nodes(_) => false,
         Query::Spaces => false,

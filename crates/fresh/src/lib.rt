@@ -5,12 +5,12 @@ ghost use mathlib.Core.Path.{_≡_};
 ghost use Prim.Native.Nat.{_+_, _-_, _*_, _≤_};
 ghost use lib.ListN.{length};
 ghost use Rattle.layouts.specs.Buffer.{headWords, recordWords, fitsLength, capacityOf, follower, Preparing};
-ghost use Rattle.words.specs.Words.{Inside};
+ghost use Rattle.words.specs.Words.{mostIndex, Inside};
 ghost use Rattle.fresh.specs.Prepare.{headed, universeIn, chained, preparedBuffer, afterPreparing};
 
 // The free record after record i in ascending order; 0 after the last.
 fn follower_of(c: usize, i: usize) -> usize
-    requires { ⌜ i ≤ 4096 ⌝ }
+    requires { ⌜ i ≤ mostIndex ⌝ }
     ensures { λ r. ⌜ r ≡ follower c i ⌝ }
 {
     if i < c {

@@ -208,6 +208,10 @@ pub record AtTuple (b : List ℕ) (space at sp : ℕ) (k : Key) : Type 0 where
   pub start : sp ≡ spaceStart b space at
   pub key : k ≡ keyAt b at
 
+pub at-tuple : (b : List ℕ) (space at sp : ℕ) (k : Key) → Walkable b → Spanning b space at → at ≢ 0 → sp ≡ spaceStart b space at → k ≡ keyAt b at
+    → AtTuple b space at sp k
+at-tuple b space at sp k w S n e f = record { walkable = w; spanning = S; some = n; start = e; key = f }
+
 module _ (b : List ℕ) (space at sp : ℕ) (k : Key) (T : AtTuple b space at sp k) where
   E : Entered b sp at
   E = entered b (T .walkable) space at sp (T .spanning) (T .some) (T .start)
@@ -232,13 +236,17 @@ module _ (b : List ℕ) (space at sp : ℕ) (k : Key) (T : AtTuple b space at sp
         ap (endsPresent (tuplesOf b)) (sym e) ∙ ends-no-first (tuplesOf b) k g (sym (found (nodeKey (k .s) (k .n)) refl i one r h) ∙ z)
 
     module _ (j : Key) (two : j ≡ nodeKey (k .s) (k .m)) (seek : ℕ) (K : Seeking b j sp seek) where
-      pub no-second-end : isAt b seek j ≡ false → isBefore b seek j ≡ false → endsPresent (tuplesOf b) (keyAt b at) ≡ false
-      no-second-end a l =
+      pub no-second-end : (x y : Bool) → x ≡ isAt b seek j → x ≡ false → y ≡ isBefore b seek j → y ≡ false
+          → endsPresent (tuplesOf b) (keyAt b at) ≡ false
+      no-second-end x y ex fx ey fy =
+          let a : isAt b seek j ≡ false = sym ex ∙ fx in
+          let l : isBefore b seek j ≡ false = sym ey ∙ fy in
           ap (endsPresent (tuplesOf b)) (sym e)
           ∙ ends-no-second (tuplesOf b) k g (sym (found (nodeKey (k .s) (k .m)) refl j two (isAt b seek j) (seek-end b j sp seek K l)) ∙ a)
 
-      pub both-ends : r ≡ true → isAt b seek j ≡ true → endsPresent (tuplesOf b) (keyAt b at) ≡ true
-      both-ends z a =
+      pub both-ends : r ≡ true → (x : Bool) → x ≡ isAt b seek j → x ≡ true → endsPresent (tuplesOf b) (keyAt b at) ≡ true
+      both-ends z x ex tx =
+          let a : isAt b seek j ≡ true = sym ex ∙ tx in
           ap (endsPresent (tuplesOf b)) (sym e)
           ∙ ends-both (tuplesOf b) k g (sym (found (nodeKey (k .s) (k .n)) refl i one r h) ∙ z)
           (sym (found (nodeKey (k .s) (k .m)) refl j two (isAt b seek j) (seek-end b j sp seek K (at-not-before b seek j a))) ∙ a)

@@ -10,12 +10,14 @@ use lib.ListN.{length, getD, set, replicate, length-set, length-replicate, getD-
 use lib.Seq.{getD-set-same, getD-set-other, set-out}
 use borrow.Author.Tests.{eqb-true, eqb-false, eq-eqb, ne-eqb, ltb-true, ltb-false}
 use Rattle.model.specs.declared.Key.{Key}
-use Rattle.model.specs.Keys.{nodeKey, edgeKey}
+use Rattle.model.specs.Keys.{mostName, nodeKey, edgeKey}
+use Rattle.model.specs.OneCall.{nameCount}
 use Rattle.model.specs.Tuples.{present}
 use Rattle.layouts.specs.Buffer.{capacityOf, keyAt, tuplesOf}
 use Rattle.model.proofs.Bools.{or-cases, and-left, and-right, not-yes}
 use Rattle.model.proofs.Tuples.{same-key}
-use Rattle.presence.specs.Presence.{isAt, Held, Marked, Marks, MarksFit, markCount, nodeMark, edgeMark, edgeRecord, nodeSlot, edgeSlot, withMark, withNodeMark, withEdgeMark, withNamed, lookFrom, nodeShown, edgeShown}
+use Rattle.presence.specs.Presence.{isAt, Held, Marked, Marks, MarksFit, markCount, markTries, markStep, spaceFactor, edgeFactor, secondFactor}
+use Rattle.presence.specs.Presence.{nodeMark, edgeMark, edgeRecord, nodeSlot, edgeSlot, withMark, withNodeMark, withEdgeMark, withNamed, lookFrom, nodeShown, edgeShown}
 
 -- ---- places
 
@@ -27,34 +29,44 @@ pub edge-slot-below : (k : Key) → edgeSlot k < markCount
 unfolding edgeSlot
 edge-slot-below k = omega arith
 
-pub node-slot-sum : (s n i j : ℕ) → i ≡ s → j ≡ n → (5003 * i + j) % markCount ≡ nodeSlot s n
-unfolding nodeSlot
-node-slot-sum s n i j p q = ap₂ (λ (x y : ℕ). (5003 * x + y) % markCount) p q
+-- a place that is one of these fits
+pub node-slot-fits : (s n at : ℕ) → at ≡ nodeSlot s n → at < markCount
+node-slot-fits s n at e = omega (arith, e, node-slot-below s n)
 
-pub edge-slot-sum : (k : Key) (n g m : ℕ) → n ≡ k .n → g ≡ k .g → m ≡ k .m → (n + 3571 * g + 2741 * m) % markCount ≡ edgeSlot k
+pub edge-slot-fits : (k : Key) (at : ℕ) → at ≡ edgeSlot k → at < markCount
+edge-slot-fits k at e = omega (arith, e, edge-slot-below k)
+
+pub node-slot-sum : (s n i j : ℕ) → i ≡ s → j ≡ n → (spaceFactor * i + j) % markCount ≡ nodeSlot s n
+unfolding nodeSlot
+node-slot-sum s n i j p q = ap₂ (λ (x y : ℕ). (spaceFactor * x + y) % markCount) p q
+
+pub edge-slot-sum : (k : Key) (n g m : ℕ) → n ≡ k .n → g ≡ k .g → m ≡ k .m → (n + edgeFactor * g + secondFactor * m) % markCount ≡ edgeSlot k
 unfolding edgeSlot
-edge-slot-sum k n g m q r t = λ i. (q i + 3571 * r i + 2741 * t i) % markCount
+edge-slot-sum k n g m q r t = λ i. (q i + edgeFactor * r i + secondFactor * t i) % markCount
 
 -- ---- one mark
 
-pub record-of-node : (w : ℕ) → w % 65536 ≢ 0 → 0 ≡ edgeRecord w
+pub record-of-node : (w : ℕ) → w % nameCount ≢ 0 → 0 ≡ edgeRecord w
 unfolding edgeRecord
-record-of-node w h = simp (ne-eqb (w % 65536) 0 h)
+record-of-node w h = simp (ne-eqb (w % nameCount) 0 h)
 
-pub record-of-edge : (w : ℕ) → w % 65536 ≡ 0 → w / 65536 ≡ edgeRecord w
+record-of-edge : (w : ℕ) → w % nameCount ≡ 0 → w / nameCount ≡ edgeRecord w
 unfolding edgeRecord
-record-of-edge w h = simp (eq-eqb (w % 65536) 0 h)
+record-of-edge w h = simp (eq-eqb (w % nameCount) 0 h)
 
-node-record : (s n : ℕ) → n ≢ 0 → n ≤ 65535 → 0 ≡ edgeRecord (nodeMark s n)
+pub record-told : (w i : ℕ) → w % nameCount ≡ 0 → i ≡ w / nameCount → i ≡ edgeRecord w
+record-told w i h e = e ∙ record-of-edge w h
+
+node-record : (s n : ℕ) → n ≢ 0 → n ≤ mostName → 0 ≡ edgeRecord (nodeMark s n)
 unfolding nodeMark
-node-record s n h l = record-of-node (s * 65536 + n) (λ z. h (omega arith))
+node-record s n h l = record-of-node (s * nameCount + n) (λ z. h (omega arith))
 
 edge-record : (i : ℕ) → i ≡ edgeRecord (edgeMark i)
 unfolding edgeMark
 edge-record i =
-    let z : (i * 65536) % 65536 ≡ 0 = omega arith in
-    let d : i ≡ (i * 65536) / 65536 = omega arith in
-    d ∙ record-of-edge (i * 65536) z
+    let z : (i * nameCount) % nameCount ≡ 0 = omega arith in
+    let d : i ≡ (i * nameCount) / nameCount = omega arith in
+    d ∙ record-of-edge (i * nameCount) z
 
 -- no record is held
 none-held : (b : List ℕ) → Held b 0
@@ -63,12 +75,12 @@ none-held b = record { high = omega arith; has = λ n. absurd (n refl) }
 no-mark : (b : List ℕ) → Marked b 0
 unfolding nodeMark
 no-mark b =
-    let z : _≡_ {A = ℕ} (0 % 65536) 0 = omega arith in
-    let d : _≡_ {A = ℕ} 0 (0 / 65536) = omega arith in
+    let z : _≡_ {A = ℕ} (0 % nameCount) 0 = omega arith in
+    let d : _≡_ {A = ℕ} 0 (0 / nameCount) = omega arith in
     record { edge = subst (Held b) (d ∙ record-of-edge 0 z) (none-held b); node = λ s n h l e. absurd (h (omega arith)) }
 
 module _ (b : List ℕ) where
-  node-marked : (s n : ℕ) → n ≢ 0 → n ≤ 65535 → present (nodeKey s n) (tuplesOf b) ≡ true → Marked b (nodeMark s n)
+  node-marked : (s n : ℕ) → n ≢ 0 → n ≤ mostName → present (nodeKey s n) (tuplesOf b) ≡ true → Marked b (nodeMark s n)
   unfolding nodeMark
   node-marked s n h l t =
       record {
@@ -98,20 +110,23 @@ looked : (p : ℕ → Bool) (Q : Type 0) (left : ℕ) (ms : List ℕ) (at : ℕ)
 unfolding lookFrom
 looked p Q zero ms at h e = absurd (false≢true e)
 looked p Q (suc left) ms at h e =
-    ⊎-elim (λ t. h at t) (λ t. looked p Q left ms ((at + 1021) % markCount) h (and-right (not (eqb (getD ms at 0) 0)) _ t))
+    ⊎-elim (λ t. h at t) (λ t. looked p Q left ms ((at + markStep) % markCount) h (and-right (not (eqb (getD ms at 0) 0)) _ t))
     (or-cases (p (getD ms at 0)) _ e)
 
 module _ (b ms : List ℕ) (M : Marks b ms) where
-  pub show-node : (s n : ℕ) → n ≢ 0 → n ≤ 65535 → nodeShown ms s n ≡ true → present (nodeKey s n) (tuplesOf b) ≡ true
+  pub show-node : (s n : ℕ) → n ≢ 0 → n ≤ mostName → nodeShown ms s n ≡ true → present (nodeKey s n) (tuplesOf b) ≡ true
   unfolding nodeShown
   show-node s n h l e =
-      looked (λ (w : ℕ). eqb w (nodeMark s n)) (present (nodeKey s n) (tuplesOf b) ≡ true) 64 ms (nodeSlot s n)
+      looked (λ (w : ℕ). eqb w (nodeMark s n)) (present (nodeKey s n) (tuplesOf b) ≡ true) markTries ms (nodeSlot s n)
       (λ j t. M .held j .node s n h l (eqb-true (getD ms j 0) (nodeMark s n) t)) e
+
+  pub shown-node : (s n : ℕ) (r : Bool) → n ≢ 0 → n ≤ mostName → r ≡ nodeShown ms s n → r ≡ true → true ≡ present (nodeKey s n) (tuplesOf b)
+  shown-node s n r h l e t = sym (show-node s n h l (sym e ∙ t))
 
   pub show-edge : (k : Key) → edgeShown b ms k ≡ true → present (edgeKey 0 (k .n) (k .g) (k .m)) (tuplesOf b) ≡ true
   unfolding edgeShown
   show-edge k e =
-      looked (λ (w : ℕ). isAt b (edgeRecord w) (edgeKey 0 (k .n) (k .g) (k .m))) (present (edgeKey 0 (k .n) (k .g) (k .m)) (tuplesOf b) ≡ true) 64 ms
+      looked (λ (w : ℕ). isAt b (edgeRecord w) (edgeKey 0 (k .n) (k .g) (k .m))) (present (edgeKey 0 (k .n) (k .g) (k .m)) (tuplesOf b) ≡ true) markTries ms
       (edgeSlot k) (λ j t. shown b (edgeRecord (getD ms j 0)) (edgeKey 0 (k .n) (k .g) (k .m)) (M .held j .edge) t) e
 
 pub marks-fit : (b ms : List ℕ) → Marks b ms → MarksFit b ms
@@ -120,15 +135,15 @@ marks-fit b ms M = record { size = M .size; low = λ j. M .held j .edge .high }
 -- what is left of looking at the marks, at a place with so many to go
 pub record Looking (p : ℕ → Bool) (ms : List ℕ) (from at left : ℕ) : Type 0 where
   pub below : at < markCount
-  pub rest : lookFrom p left ms at ≡ lookFrom p 64 ms from
+  pub rest : lookFrom p left ms at ≡ lookFrom p markTries ms from
 
 module _ (p : ℕ → Bool) (ms : List ℕ) (from : ℕ) where
-  pub look-start : (at : ℕ) → at ≡ from → from < markCount → Looking p ms from at 64
-  look-start at e h = record { below = omega arith; rest = ap (lookFrom p 64 ms) e }
+  pub look-start : (at : ℕ) → at ≡ from → from < markCount → Looking p ms from at markTries
+  look-start at e h = record { below = omega arith; rest = ap (lookFrom p markTries ms) e }
 
   module _ (at left : ℕ) (L : Looking p ms from at left) where
     one : left ≢ 0
-        → cond (p (getD ms at 0)) true (cond (eqb (getD ms at 0) 0) false (lookFrom p (left - 1) ms ((at + 1021) % markCount))) ≡ lookFrom p 64 ms from
+        → cond (p (getD ms at 0)) true (cond (eqb (getD ms at 0) 0) false (lookFrom p (left - 1) ms ((at + markStep) % markCount))) ≡ lookFrom p markTries ms from
     unfolding lookFrom
     one h = go left (L .rest) h
       where
@@ -140,41 +155,41 @@ module _ (p : ℕ → Bool) (ms : List ℕ) (from : ℕ) where
         same false true z = refl
         same false false z = refl
 
-        go : (l : ℕ) → lookFrom p l ms at ≡ lookFrom p 64 ms from → l ≢ 0
-            → cond (p (getD ms at 0)) true (cond (eqb (getD ms at 0) 0) false (lookFrom p (l - 1) ms ((at + 1021) % markCount))) ≡ lookFrom p 64 ms from
+        go : (l : ℕ) → lookFrom p l ms at ≡ lookFrom p markTries ms from → l ≢ 0
+            → cond (p (getD ms at 0)) true (cond (eqb (getD ms at 0) 0) false (lookFrom p (l - 1) ms ((at + markStep) % markCount))) ≡ lookFrom p markTries ms from
         go zero r h = absurd (h refl)
         go (suc l) r h =
-            same (p (getD ms at 0)) (eqb (getD ms at 0) 0) (lookFrom p (suc l - 1) ms ((at + 1021) % markCount))
-            ∙ ap (λ (x : ℕ). p (getD ms at 0) || (not (eqb (getD ms at 0) 0) && lookFrom p x ms ((at + 1021) % markCount))) (pred l) ∙ r
+            same (p (getD ms at 0)) (eqb (getD ms at 0) 0) (lookFrom p (suc l - 1) ms ((at + markStep) % markCount))
+            ∙ ap (λ (x : ℕ). p (getD ms at 0) || (not (eqb (getD ms at 0) 0) && lookFrom p x ms ((at + markStep) % markCount))) (pred l) ∙ r
 
     module _ (left≢ : left ≢ 0) where
-      pub look-found : p (getD ms at 0) ≡ true → true ≡ lookFrom p 64 ms from
+      pub look-found : p (getD ms at 0) ≡ true → true ≡ lookFrom p markTries ms from
       look-found t =
-          sym (ap (λ (x : Bool). cond x true (cond (eqb (getD ms at 0) 0) false (lookFrom p (left - 1) ms ((at + 1021) % markCount)))) t) ∙ one left≢
+          sym (ap (λ (x : Bool). cond x true (cond (eqb (getD ms at 0) 0) false (lookFrom p (left - 1) ms ((at + markStep) % markCount)))) t) ∙ one left≢
 
       module _ (t : p (getD ms at 0) ≡ false) (w : ℕ) (e : w ≡ getD ms at 0) where
-        further : cond (eqb (getD ms at 0) 0) false (lookFrom p (left - 1) ms ((at + 1021) % markCount)) ≡ lookFrom p 64 ms from
+        further : cond (eqb (getD ms at 0) 0) false (lookFrom p (left - 1) ms ((at + markStep) % markCount)) ≡ lookFrom p markTries ms from
         further =
-            sym (ap (λ (x : Bool). cond x true (cond (eqb (getD ms at 0) 0) false (lookFrom p (left - 1) ms ((at + 1021) % markCount)))) t) ∙ one left≢
+            sym (ap (λ (x : Bool). cond x true (cond (eqb (getD ms at 0) 0) false (lookFrom p (left - 1) ms ((at + markStep) % markCount)))) t) ∙ one left≢
 
-        pub look-none : w ≡ 0 → false ≡ lookFrom p 64 ms from
+        pub look-none : w ≡ 0 → false ≡ lookFrom p markTries ms from
         look-none z =
-            sym (ap (λ (x : Bool). cond x false (lookFrom p (left - 1) ms ((at + 1021) % markCount))) (eq-eqb (getD ms at 0) 0 (sym e ∙ z))) ∙ further
+            sym (ap (λ (x : Bool). cond x false (lookFrom p (left - 1) ms ((at + markStep) % markCount))) (eq-eqb (getD ms at 0) 0 (sym e ∙ z))) ∙ further
 
-        pub look-next : w ≢ 0 → Looking p ms from ((at + 1021) % markCount) (left - 1)
+        pub look-next : w ≢ 0 → Looking p ms from ((at + markStep) % markCount) (left - 1)
         look-next n =
             record {
               below = omega arith;
               rest =
-                  sym (ap (λ (x : Bool). cond x false (lookFrom p (left - 1) ms ((at + 1021) % markCount))) (ne-eqb (getD ms at 0) 0 (λ z. n (e ∙ z))))
+                  sym (ap (λ (x : Bool). cond x false (lookFrom p (left - 1) ms ((at + markStep) % markCount))) (ne-eqb (getD ms at 0) 0 (λ z. n (e ∙ z))))
                   ∙ further;
             }
 
-    pub look-end : left ≡ 0 → false ≡ lookFrom p 64 ms from
+    pub look-end : left ≡ 0 → false ≡ lookFrom p markTries ms from
     unfolding lookFrom
     look-end z = go left (L .rest) z
       where
-        go : (l : ℕ) → lookFrom p l ms at ≡ lookFrom p 64 ms from → l ≡ 0 → false ≡ lookFrom p 64 ms from
+        go : (l : ℕ) → lookFrom p l ms at ≡ lookFrom p markTries ms from → l ≡ 0 → false ≡ lookFrom p markTries ms from
         go zero r z = r
         go (suc l) r z = absurd (omega arith)
 
@@ -237,8 +252,8 @@ module _ (P : ℕ → Type 0) (i : ℕ) (p : P i) where
   unfolding withMark
   mark-all zero ms at h = h
   mark-all (suc left) ms at h =
-      either (eqb (getD ms at 0) 0) (set ms at i) (withMark left ms ((at + 1021) % markCount) i) (set-all ms at h)
-      (mark-all left ms ((at + 1021) % markCount) h)
+      either (eqb (getD ms at 0) 0) (set ms at i) (withMark left ms ((at + markStep) % markCount) i) (set-all ms at h)
+      (mark-all left ms ((at + markStep) % markCount) h)
 
 -- what holds of every mark, and of the marks of a key and its record
 module _ (P : ℕ → Type 0) (k : Key) (i : ℕ) (n : k .g ≡ 0 → k .n ≢ 0 → P (nodeMark (k .s) (k .n))) (r : P (edgeMark i)) where
@@ -249,11 +264,11 @@ module _ (P : ℕ → Type 0) (k : Key) (i : ℕ) (n : k .g ≡ 0 → k .n ≢ 0
       go : (g : Bool) → eqb (k .g) 0 ≡ g → (z : Bool) → eqb (k .n) 0 ≡ z → (s : Bool) → (j : ℕ)
           → P
           (getD
-          (cond g (cond z ms (withMark 64 ms (nodeSlot (k .s) (k .n)) (nodeMark (k .s) (k .n)))) (cond s (withMark 64 ms (edgeSlot k) (edgeMark i)) ms)) j 0)
+          (cond g (cond z ms (withMark markTries ms (nodeSlot (k .s) (k .n)) (nodeMark (k .s) (k .n)))) (cond s (withMark markTries ms (edgeSlot k) (edgeMark i)) ms)) j 0)
       go true e true f s = h
       go true e false f s =
-          mark-all P (nodeMark (k .s) (k .n)) (n (eqb-true (k .g) 0 e) (eqb-false (k .n) 0 f)) 64 ms (nodeSlot (k .s) (k .n)) h
-      go false e z f true = mark-all P (edgeMark i) r 64 ms (edgeSlot k) h
+          mark-all P (nodeMark (k .s) (k .n)) (n (eqb-true (k .g) 0 e) (eqb-false (k .n) 0 f)) markTries ms (nodeSlot (k .s) (k .n)) h
+      go false e z f true = mark-all P (edgeMark i) r markTries ms (edgeSlot k) h
       go false e z f false = h
 
 same-length : (t : Bool) (xs ys zs : List ℕ) → length xs ≡ length zs → length ys ≡ length zs → length (cond t xs ys) ≡ length zs
@@ -264,19 +279,19 @@ mark-length : (left : ℕ) (ms : List ℕ) (at i : ℕ) → length (withMark lef
 unfolding withMark
 mark-length zero ms at i = refl
 mark-length (suc left) ms at i =
-    same-length (eqb (getD ms at 0) 0) (set ms at i) (withMark left ms ((at + 1021) % markCount) i) ms (length-set ms at i)
-    (mark-length left ms ((at + 1021) % markCount) i)
+    same-length (eqb (getD ms at 0) 0) (set ms at i) (withMark left ms ((at + markStep) % markCount) i) ms (length-set ms at i)
+    (mark-length left ms ((at + markStep) % markCount) i)
 
 named-length : (ms : List ℕ) (k : Key) (i : ℕ) → length (withNamed ms k i) ≡ length ms
 unfolding withNamed withNodeMark withEdgeMark
 named-length ms k i =
-    same-length (eqb (k .g) 0) (cond (eqb (k .n) 0) ms (withMark 64 ms (nodeSlot (k .s) (k .n)) (nodeMark (k .s) (k .n))))
-    (cond (eqb (k .s) 0) (withMark 64 ms (edgeSlot k) (edgeMark i)) ms) ms
-    (same-length (eqb (k .n) 0) ms (withMark 64 ms (nodeSlot (k .s) (k .n)) (nodeMark (k .s) (k .n))) ms refl
-    (mark-length 64 ms (nodeSlot (k .s) (k .n)) (nodeMark (k .s) (k .n))))
-    (same-length (eqb (k .s) 0) (withMark 64 ms (edgeSlot k) (edgeMark i)) ms ms (mark-length 64 ms (edgeSlot k) (edgeMark i)) refl)
+    same-length (eqb (k .g) 0) (cond (eqb (k .n) 0) ms (withMark markTries ms (nodeSlot (k .s) (k .n)) (nodeMark (k .s) (k .n))))
+    (cond (eqb (k .s) 0) (withMark markTries ms (edgeSlot k) (edgeMark i)) ms) ms
+    (same-length (eqb (k .n) 0) ms (withMark markTries ms (nodeSlot (k .s) (k .n)) (nodeMark (k .s) (k .n))) ms refl
+    (mark-length markTries ms (nodeSlot (k .s) (k .n)) (nodeMark (k .s) (k .n))))
+    (same-length (eqb (k .s) 0) (withMark markTries ms (edgeSlot k) (edgeMark i)) ms ms (mark-length markTries ms (edgeSlot k) (edgeMark i)) refl)
 
-module _ (b ms : List ℕ) (k : Key) (i : ℕ) (low : k .n ≤ 65535) (ms′ : List ℕ) (e : ms′ ≡ withNamed ms k i) where
+module _ (b ms : List ℕ) (k : Key) (i : ℕ) (low : k .n ≤ mostName) (ms′ : List ℕ) (e : ms′ ≡ withNamed ms k i) where
   pub named-marks : Marks b ms → Held b i → (k .g ≡ 0 → present (nodeKey (k .s) (k .n)) (tuplesOf b) ≡ true) → Marks b ms′
   named-marks M H t =
       subst (Marks b) (sym e)
@@ -303,44 +318,44 @@ module _ (ms : List ℕ) (k : Key) where
   unfolding withNodeMark
   node-none e = simp (eq-eqb (k .n) 0 e)
 
-  pub node-some : k .n ≢ 0 → (at w : ℕ) → at ≡ nodeSlot (k .s) (k .n) → w ≡ nodeMark (k .s) (k .n) → (ms′ : List ℕ) → ms′ ≡ withMark 64 ms at w → ms′ ≡ withNodeMark ms k
+  pub node-some : k .n ≢ 0 → (at w : ℕ) → at ≡ nodeSlot (k .s) (k .n) → w ≡ nodeMark (k .s) (k .n) → (ms′ : List ℕ) → ms′ ≡ withMark markTries ms at w → ms′ ≡ withNodeMark ms k
   unfolding withNodeMark
-  node-some n at w e f ms′ g = g ∙ ap₂ (withMark 64 ms) e f ∙ simp (ne-eqb (k .n) 0 n)
+  node-some n at w e f ms′ g = g ∙ ap₂ (withMark markTries ms) e f ∙ simp (ne-eqb (k .n) 0 n)
 
   module _ (i : ℕ) where
     pub edge-none : k .s ≢ 0 → ms ≡ withEdgeMark ms k i
     unfolding withEdgeMark
     edge-none n = simp (ne-eqb (k .s) 0 n)
 
-    pub edge-some : k .s ≡ 0 → (at w : ℕ) → at ≡ edgeSlot k → w ≡ edgeMark i → (ms′ : List ℕ) → ms′ ≡ withMark 64 ms at w → ms′ ≡ withEdgeMark ms k i
+    pub edge-some : k .s ≡ 0 → (at w : ℕ) → at ≡ edgeSlot k → w ≡ edgeMark i → (ms′ : List ℕ) → ms′ ≡ withMark markTries ms at w → ms′ ≡ withEdgeMark ms k i
     unfolding withEdgeMark
-    edge-some e at w f g ms′ h = h ∙ ap₂ (withMark 64 ms) f g ∙ simp (eq-eqb (k .s) 0 e)
+    edge-some e at w f g ms′ h = h ∙ ap₂ (withMark markTries ms) f g ∙ simp (eq-eqb (k .s) 0 e)
 
 -- what is left of the search for a place, at a place with so many to go
 pub record Placing (ms₀ ms : List ℕ) (i at₀ at left : ℕ) : Type 0 where
   pub same : ms ≡ ms₀
   pub below : at < markCount
-  pub rest : withMark left ms₀ at i ≡ withMark 64 ms₀ at₀ i
+  pub rest : withMark left ms₀ at i ≡ withMark markTries ms₀ at₀ i
 
 module _ (ms₀ : List ℕ) (i : ℕ) where
-  pub placing-start : (at : ℕ) → at < markCount → Placing ms₀ ms₀ i at at 64
+  pub placing-start : (at : ℕ) → at < markCount → Placing ms₀ ms₀ i at at markTries
   placing-start at h = record { same = refl; below = h; rest = refl }
 
   module _ (ms : List ℕ) (at₀ at left : ℕ) (P : Placing ms₀ ms i at₀ at left) where
-    pub place-free : left ≢ 0 → (m : ℕ) → m ≡ getD ms at 0 → m ≡ 0 → (ms′ : List ℕ) → ms′ ≡ set ms at i → ms′ ≡ withMark 64 ms₀ at₀ i
+    pub place-free : left ≢ 0 → (m : ℕ) → m ≡ getD ms at 0 → m ≡ 0 → (ms′ : List ℕ) → ms′ ≡ set ms at i → ms′ ≡ withMark markTries ms₀ at₀ i
     unfolding withMark
     place-free h m e z ms′ f = go left (P .rest) h
       where
         free : eqb (getD ms₀ at 0) 0 ≡ true
         free = eq-eqb (getD ms₀ at 0) 0 (ap (λ (xs : List ℕ). getD xs at 0) (sym (P .same)) ∙ sym e ∙ z)
 
-        go : (l : ℕ) → withMark l ms₀ at i ≡ withMark 64 ms₀ at₀ i → l ≢ 0 → ms′ ≡ withMark 64 ms₀ at₀ i
+        go : (l : ℕ) → withMark l ms₀ at i ≡ withMark markTries ms₀ at₀ i → l ≢ 0 → ms′ ≡ withMark markTries ms₀ at₀ i
         go zero r h = absurd (h refl)
         go (suc l) r h =
             f ∙ ap (λ (xs : List ℕ). set xs at i) (P .same)
-            ∙ sym (ap (λ (t : Bool). cond t (set ms₀ at i) (withMark l ms₀ ((at + 1021) % markCount) i)) free) ∙ r
+            ∙ sym (ap (λ (t : Bool). cond t (set ms₀ at i) (withMark l ms₀ ((at + markStep) % markCount) i)) free) ∙ r
 
-    pub place-next : left ≢ 0 → (m : ℕ) → m ≡ getD ms at 0 → m ≢ 0 → Placing ms₀ ms i at₀ ((at + 1021) % markCount) (left - 1)
+    pub place-next : left ≢ 0 → (m : ℕ) → m ≡ getD ms at 0 → m ≢ 0 → Placing ms₀ ms i at₀ ((at + markStep) % markCount) (left - 1)
     unfolding withMark
     place-next h m e z = record { same = P .same; below = omega arith; rest = go left (P .rest) h }
       where
@@ -350,15 +365,15 @@ module _ (ms₀ : List ℕ) (i : ℕ) where
         taken : eqb (getD ms₀ at 0) 0 ≡ false
         taken = ne-eqb (getD ms₀ at 0) 0 (λ y. z (e ∙ ap (λ (xs : List ℕ). getD xs at 0) (P .same) ∙ y))
 
-        go : (l : ℕ) → withMark l ms₀ at i ≡ withMark 64 ms₀ at₀ i → l ≢ 0 → withMark (l - 1) ms₀ ((at + 1021) % markCount) i ≡ withMark 64 ms₀ at₀ i
+        go : (l : ℕ) → withMark l ms₀ at i ≡ withMark markTries ms₀ at₀ i → l ≢ 0 → withMark (l - 1) ms₀ ((at + markStep) % markCount) i ≡ withMark markTries ms₀ at₀ i
         go zero r h = absurd (h refl)
         go (suc l) r h =
-            ap (λ (x : ℕ). withMark x ms₀ ((at + 1021) % markCount) i) (pred l) ∙ sym (ap (λ (t : Bool). cond t (set ms₀ at i) (withMark l ms₀ ((at + 1021) % markCount) i)) taken) ∙ r
+            ap (λ (x : ℕ). withMark x ms₀ ((at + markStep) % markCount) i) (pred l) ∙ sym (ap (λ (t : Bool). cond t (set ms₀ at i) (withMark l ms₀ ((at + markStep) % markCount) i)) taken) ∙ r
 
-    pub place-none : left ≡ 0 → ms ≡ withMark 64 ms₀ at₀ i
+    pub place-none : left ≡ 0 → ms ≡ withMark markTries ms₀ at₀ i
     unfolding withMark
     place-none h = go left (P .rest) h
       where
-        go : (l : ℕ) → withMark l ms₀ at i ≡ withMark 64 ms₀ at₀ i → l ≡ 0 → ms ≡ withMark 64 ms₀ at₀ i
+        go : (l : ℕ) → withMark l ms₀ at i ≡ withMark markTries ms₀ at₀ i → l ≡ 0 → ms ≡ withMark markTries ms₀ at₀ i
         go zero r h = P .same ∙ r
         go (suc l) r h = absurd (omega arith)

@@ -1,12 +1,15 @@
 -- What a tuple names in two parts: all but the ends of an edge, and these.
 use mathlib.Core.Bool.{Bool, true, false, not, _&&_, _||_}
-use mathlib.Core.List.{[], _∷_}
+use mathlib.Core.List.{List, [], _∷_}
 use mathlib.Core.Path.{_≡_, refl, sym, ap, ap₂, _∙_}
+use Prim.Native.Nat.{ℕ}
 use Rattle.model.specs.declared.Key.{Key}
 use Rattle.model.specs.Keys.{nodeKey, edgeKey, isEdge}
 use Rattle.model.specs.Tuples.{Tuples, present}
 use Rattle.model.specs.Rules.{nodeSupported, edgeSupported, everyKey}
-use Rattle.presence.specs.Presence.{supported, edgeInUniverse, namedPresent, endsPresent}
+use Rattle.layouts.specs.Buffer.{tuplesOf}
+use Rattle.presence.specs.declared.ends.Found.{Found}
+use Rattle.presence.specs.Presence.{Decided, everyEnd, supported, edgeInUniverse, namedPresent, endsPresent}
 
 -- ---- tests
 
@@ -58,3 +61,8 @@ module _ (ts : Tuples) (named : Bool) (m : named ≡ everyKey (namedPresent ts) 
 
   pub named-yes-ends : named ≡ true → (r : Bool) → r ≡ everyKey (endsPresent ts) ts → r ≡ everyKey (supported ts) ts
   named-yes-ends f r e = e ∙ sym (named-ends ∙ ap (λ (a : Bool). a && everyKey (endsPresent ts) ts) f)
+
+-- what the walk has found decides
+pub decided-yes : (b marks list : List ℕ) (f : Found) → Decided b marks list f → f .sure ≡ true → (r : Bool) → r ≡ everyEnd b list (f .kept) → r ≡ true
+    → true ≡ everyKey (supported (tuplesOf b)) (tuplesOf b)
+decided-yes b marks list f D s r e t = sym t ∙ e ∙ sym (D .decided s)

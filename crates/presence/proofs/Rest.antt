@@ -130,9 +130,18 @@ module _ (p : Key → Bool) (b : List ℕ) where
             ∙ or-left (sameKey (keyAt b at) (keyAt b at)) _ (own-key (keyAt b at)));
       }
 
+  -- with the key and the test's answer as the walk has them
+  pub every-told-next : (at n : ℕ) (k : Key) (r : Bool) → Walkable b → EveryLeft p b at → at ≢ 0 → n ≡ next b at → k ≡ keyAt b at → r ≡ p k → r ≡ true
+      → EveryLeft p b n
+  every-told-next at n k r w E at≢ e f g t = every-next at n w E at≢ e (ap p (sym f) ∙ sym g ∙ t)
+
   pub every-no : (at : ℕ) → Walkable b → EveryLeft p b at → at ≢ 0 → p (keyAt b at) ≡ false → false ≡ everyKey p (tuplesOf b)
   every-no at w E at≢ t =
       sym (one-more at (next b at) w E at≢ refl ∙ ap (λ (a : Bool). a && everyKey p (tuplesFrom b (next b at))) t)
+
+  pub every-told-no : (at : ℕ) (k : Key) (r : Bool) → Walkable b → EveryLeft p b at → at ≢ 0 → k ≡ keyAt b at → r ≡ p k → r ≡ false
+      → false ≡ everyKey p (tuplesOf b)
+  every-told-no at k r w E at≢ f g t = every-no at w E at≢ (ap p (sym f) ∙ sym g ∙ t)
 
 -- the used chain is not empty where its keys ascend from (0,0,0,0)
 module _ (b : List ℕ) (U : UsedEnds b) where
@@ -153,19 +162,19 @@ module _ (b : List ℕ) (i : ℕ) (k : Key) where
   unfolding isAt
   at-none z = simp (eq-eqb i 0 z)
 
-  pub at-some : i ≢ 0 → (j : Key) → j ≡ keyAt b i → sameKey j k ≡ isAt b i k
+  pub at-some : i ≢ 0 → (j : Key) → j ≡ keyAt b i → (r : Bool) → r ≡ sameKey j k → r ≡ isAt b i k
   unfolding isAt
-  at-some n j e = ap (λ (x : Key). sameKey x k) e ∙ simp (ne-eqb i 0 n)
+  at-some n j e r f = f ∙ ap (λ (x : Key). sameKey x k) e ∙ simp (ne-eqb i 0 n)
 
   pub before-none : i ≡ 0 → false ≡ isBefore b i k
   unfolding isBefore
   before-none z = simp (eq-eqb i 0 z)
 
-  pub before-some : i ≢ 0 → (j : Key) → j ≡ keyAt b i → isLess (compareKeys j k) ≡ isBefore b i k
+  pub before-some : i ≢ 0 → (j : Key) → j ≡ keyAt b i → (r : Bool) → r ≡ isLess (compareKeys j k) → r ≡ isBefore b i k
   unfolding isBefore
-  before-some n j e = ap (λ (x : Key). isLess (compareKeys x k)) e ∙ simp (ne-eqb i 0 n)
+  before-some n j e r f = f ∙ ap (λ (x : Key). isLess (compareKeys x k)) e ∙ simp (ne-eqb i 0 n)
 
-  pub before-not-none : isBefore b i k ≡ true → i ≢ 0
+  before-not-none : isBefore b i k ≡ true → i ≢ 0
   unfolding isBefore
   before-not-none t = eqb-false i 0 (not-yes (eqb i 0) (and-left (not (eqb i 0)) _ t))
 
@@ -196,8 +205,12 @@ module _ (b : List ℕ) (k : Key) where
     seek-w : Walkable b
     seek-w = S .seekable .walkable
 
-    pub seek-next : (n : ℕ) → isBefore b at k ≡ true → n ≡ next b at → Seeking b k from n
-    seek-next n t e =
+    pub seek-inside : (r : Bool) → r ≡ isBefore b at k → r ≡ true → Inside b at
+    seek-inside r f y = record-inside b at seek-w (seek-on .high) (before-not-none b at k (sym f ∙ y))
+
+    pub seek-next : (n : ℕ) (r : Bool) → r ≡ isBefore b at k → r ≡ true → n ≡ next b at → Seeking b k from n
+    seek-next n r f y e =
+        let t : isBefore b at k ≡ true = sym f ∙ y in
         let at≢ = before-not-none b at k t in
         let more = tuples-next b at n seek-w seek-on at≢ e in
         let asc : Ascending keyOf compareKeys (tupleAt b at ∷ tuplesFrom b n) = subst (Ascending keyOf compareKeys) more (S .seekable .ascends) in
@@ -214,8 +227,8 @@ module _ (b : List ℕ) (k : Key) where
               S .left ∙ ap (present k) more ∙ present-cons k b at (tuplesFrom b n) ∙ ap (λ (a : Bool). a || present k (tuplesFrom b n)) lower;
         }
 
-    pub seek-fewer : (n : ℕ) → isBefore b at k ≡ true → n ≡ next b at → length (recordsFrom b n) < length (recordsFrom b at)
-    seek-fewer n t e = fewer b at n seek-w seek-on (before-not-none b at k t) e
+    pub seek-fewer : (n : ℕ) (r : Bool) → r ≡ isBefore b at k → r ≡ true → n ≡ next b at → length (recordsFrom b n) < length (recordsFrom b at)
+    seek-fewer n r f y e = fewer b at n seek-w seek-on (before-not-none b at k (sym f ∙ y)) e
 
     -- found, or nowhere
     pub seek-end : isBefore b at k ≡ false → isAt b at k ≡ present k (tuplesFrom b from)
@@ -241,3 +254,6 @@ module _ (b : List ℕ) (k : Key) where
                 ∙ ap (λ (a : Bool). a || present k (tuplesFrom b (next b at))) (ap isEq (flip-key (keyAt b at) k ∙ ap opposite f)))
             by-order Ordering·gt f asc l =
                 ap isEq f ∙ sym (not-present k b at (tuplesFrom b (next b at)) (flip-key (keyAt b at) k ∙ ap opposite f) asc)
+
+    pub seek-told : (r t : Bool) → r ≡ isAt b at k → t ≡ isBefore b at k → t ≡ false → r ≡ present k (tuplesFrom b from)
+    seek-told r t e f z = e ∙ seek-end (sym f ∙ z)

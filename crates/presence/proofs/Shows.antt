@@ -2,21 +2,21 @@
 use mathlib.Core.Bool.{Bool, true, false, cond, not, _&&_, _||_}
 use mathlib.Core.List.{List}
 use mathlib.Core.Logic.{_≢_}
-use mathlib.Core.Path.{_≡_, refl, sym, ap, ap₂, _∙_}
+use mathlib.Core.Path.{_≡_, refl, sym, ap, ap₂, _∙_, subst}
 use Prim.Native.Nat.{ℕ, zero, suc, _+_, _-_, _≤_, _<_}
 use native.Mathlib.Omega.{arith}
 use lib.Dec.{eqb, leb}
 use lib.ListN.{getD, set}
 use borrow.Author.Tests.{eqb-true, eqb-false, eq-eqb, ne-eqb, lt-ltb, le-ltb, leb-true}
 use Rattle.model.specs.declared.Key.{Key}
-use Rattle.model.specs.Keys.{nodeKey}
+use Rattle.model.specs.Keys.{mostName, nodeKey}
 use Rattle.model.specs.Tuples.{Tuples, present}
-use Rattle.layouts.specs.Buffer.{keyAt, tuplesOf}
+use Rattle.layouts.specs.Buffer.{capacityOf, keyAt, tuplesOf}
 use Rattle.model.specs.Numbers.{everyUpTo}
 use Rattle.model.specs.Rules.{smallKey, noEdgeWithoutNode, edgeHasEnd}
 use Rattle.model.proofs.Bools.{and-left, and-right, not-yes}
 use Rattle.presence.specs.declared.ends.Found.{Found}
-use Rattle.presence.specs.Presence.{withNodeMark, withEdgeMark, withNamed, nodeShown, edgeShown, nodeSettled, edgeSettled, settled, endThere, endShown, nothingKept, foundWith, listWith, everyEnd, goodKey, shapedKey}
+use Rattle.presence.specs.Presence.{withNodeMark, withEdgeMark, withNamed, nodeShown, edgeShown, nodeSettled, edgeSettled, settled, endThere, endShown, nothingKept, foundWith, listWith, everyEnd, KeptRecords, goodKey, shapedKey}
 
 -- ---- the words of a good key
 
@@ -49,19 +49,19 @@ module _ (k : Key) (e : goodKey k ≡ true) where
   unfolding goodKey
   small = and-left (smallKey k) _ e
 
-  pub good-s : k .s ≤ 65535
+  pub good-s : k .s ≤ mostName
   unfolding smallKey
-  good-s = leb-true (k .s) 65535 (and-left (leb (k .s) 65535) _ small)
+  good-s = leb-true (k .s) mostName (and-left (leb (k .s) mostName) _ small)
 
-  pub good-n : k .n ≤ 65535
+  pub good-n : k .n ≤ mostName
   unfolding smallKey
-  good-n = leb-true (k .n) 65535 (and-left (leb (k .n) 65535) _ (and-right (leb (k .s) 65535) _ small))
+  good-n = leb-true (k .n) mostName (and-left (leb (k .n) mostName) _ (and-right (leb (k .s) mostName) _ small))
 
-  pub good-m : k .m ≤ 65535
+  pub good-m : k .m ≤ mostName
   unfolding smallKey
   good-m =
-      leb-true (k .m) 65535
-      (and-right (leb (k .g) 65535) _ (and-right (leb (k .n) 65535) _ (and-right (leb (k .s) 65535) _ small)))
+      leb-true (k .m) mostName
+      (and-right (leb (k .g) mostName) _ (and-right (leb (k .n) mostName) _ (and-right (leb (k .s) mostName) _ small)))
 
   -- without g it is the key of a node or a space
   pub good-node : k .g ≡ 0 → k ≡ nodeKey (k .s) (k .n)
@@ -128,13 +128,15 @@ module _ (ms : List ℕ) (k : Key) where
   end-looked l t h = h ∙ simp (le-ltb (k .n) (k .m) l)
 
 module _ (ts : Tuples) (k : Key) where
-  pub there-none : k .g ≡ 0 → true ≡ endThere ts k
+  pub there-none : k .g ≡ 0 → (j : Key) → k ≡ j → true ≡ endThere ts j
   unfolding endThere
-  there-none g = simp (eq-eqb (k .g) 0 g)
+  there-none g j e = let own : true ≡ endThere ts k = simp (eq-eqb (k .g) 0 g) in own ∙ ap (endThere ts) e
 
-  pub there-edge : k .g ≢ 0 → (t : Bool) → t ≡ present (nodeKey (k .s) (k .m)) ts → t ≡ endThere ts k
+  pub there-edge : k .g ≢ 0 → (t : Bool) → t ≡ present (nodeKey (k .s) (k .m)) ts → (j : Key) → k ≡ j → t ≡ endThere ts j
   unfolding endThere
-  there-edge g t h = h ∙ simp (ne-eqb (k .g) 0 g)
+  there-edge g t h j e =
+      let own : present (nodeKey (k .s) (k .m)) ts ≡ endThere ts k = simp (ne-eqb (k .g) 0 g) in
+      h ∙ own ∙ ap (endThere ts) e
 
 -- ---- second ends that are kept
 
@@ -206,6 +208,11 @@ pub record Ending (b list : List ℕ) (kept j : ℕ) : Type 0 where
 module _ (b list : List ℕ) (kept : ℕ) where
   pub ending-start : Ending b list kept kept
   ending-start = record { low = omega arith; left = refl }
+
+  pub kept-record : (j i : ℕ) → Ending b list kept j → KeptRecords b list kept → 0 < j → i ≡ getD list (j - 1) 0
+      → (i ≢ 0) × (i ≤ capacityOf b) × (goodKey (keyAt b i) ≡ true)
+  kept-record j i E K h e =
+      subst (λ (x : ℕ). (x ≢ 0) × (x ≤ capacityOf b) × (goodKey (keyAt b x) ≡ true)) (sym e) (K .named (j - 1) (omega (arith, E .low)))
 
   module _ (j : ℕ) (E : Ending b list kept j) where
     pub ending-end : j ≤ 0 → true ≡ everyEnd b list kept

@@ -13,6 +13,7 @@ use Rattle.model.specs.Keys.{mostName, keyOf, nodeKey, edgeKey, isEdge, compare
 use Rattle.model.specs.Tuples.{Tuples, present}
 use Rattle.layouts.specs.Buffer.{word, leastLength, mostLength, capacityOf, next, keyAt, tupleAt, walk, orNothing, usedChain, tuplesOf}
 use Rattle.model.specs.Numbers.{everyUpTo}
+use Rattle.model.specs.OneCall.{nameCount}
 use Rattle.model.specs.Rules.{ascendsFromUniverse, smallKey, noEdgeWithoutNode, edgeHasEnd, nodeSupported, edgeSupported, everyKey}
 use Rattle.layouts.specs.Chains.{Rest}
 use Rattle.presence.specs.declared.ends.Found.{Found}
@@ -111,20 +112,37 @@ pub record Held (b : List ℕ) (i : ℕ) : Type 0 where
   pub high : i ≤ capacityOf b
   pub has : i ≢ 0 → present (keyAt b i) (tuplesOf b) ≡ true
 
+-- places for marks; how many of them are looked at for one mark, and how far the next one is
 abbrev pub markCount : ℕ
 markCount = 4096
 
+abbrev pub markTries : ℕ
+markTries = 64
+
+abbrev pub markStep : ℕ
+markStep = 1021
+
+-- what the words of a key are multiplied by for the place that is looked at first: s of a node, g and m of an edge
+abbrev pub spaceFactor : ℕ
+spaceFactor = 5003
+
+abbrev pub edgeFactor : ℕ
+edgeFactor = 3571
+
+abbrev pub secondFactor : ℕ
+secondFactor = 2741
+
 -- the mark of node n in s; n is not 0
 unfoldable pub nodeMark : ℕ → ℕ → ℕ
-nodeMark s n = s * 65536 + n
+nodeMark s n = s * nameCount + n
 
 -- the mark of the edge tuple of 0 in record i
 unfoldable pub edgeMark : ℕ → ℕ
-edgeMark i = i * 65536
+edgeMark i = i * nameCount
 
 -- the record of an edge tuple's mark; 0 for no mark and for the mark of a node
 unfoldable pub edgeRecord : ℕ → ℕ
-edgeRecord w = cond (eqb (w % 65536) 0) (w / 65536) 0
+edgeRecord w = cond (eqb (w % nameCount) 0) (w / nameCount) 0
 
 -- what is known of a mark: the record of an edge tuple is held, and what marks a node is the mark of a node tuple
 pub record Marked (b : List ℕ) (w : ℕ) : Type 0 where
@@ -138,23 +156,23 @@ pub record Marks (b marks : List ℕ) : Type 0 where
 
 -- the places where the marks of a node and of an edge tuple of 0 are sought first
 unfoldable pub nodeSlot : ℕ → ℕ → ℕ
-nodeSlot s n = (5003 * s + n) % markCount
+nodeSlot s n = (spaceFactor * s + n) % markCount
 
 unfoldable pub edgeSlot : Key → ℕ
-edgeSlot k = (k .n + 3571 * k .g + 2741 * k .m) % markCount
+edgeSlot k = (k .n + edgeFactor * k .g + secondFactor * k .m) % markCount
 
 -- the marks with a mark put at the first place without one, of so many from a place on
 unfoldable pub withMark : ℕ → List ℕ → ℕ → ℕ → List ℕ
 withMark zero marks at w = marks
-withMark (suc left) marks at w = cond (eqb (getD marks at 0) 0) (set marks at w) (withMark left marks ((at + 1021) % markCount) w)
+withMark (suc left) marks at w = cond (eqb (getD marks at 0) 0) (set marks at w) (withMark left marks ((at + markStep) % markCount) w)
 
 -- with the mark of a key without g, where it is a node's
 unfoldable pub withNodeMark : List ℕ → Key → List ℕ
-withNodeMark marks k = cond (eqb (k .n) 0) marks (withMark 64 marks (nodeSlot (k .s) (k .n)) (nodeMark (k .s) (k .n)))
+withNodeMark marks k = cond (eqb (k .n) 0) marks (withMark markTries marks (nodeSlot (k .s) (k .n)) (nodeMark (k .s) (k .n)))
 
 -- with the mark of an edge tuple, where it is one of 0
 unfoldable pub withEdgeMark : List ℕ → Key → ℕ → List ℕ
-withEdgeMark marks k i = cond (eqb (k .s) 0) (withMark 64 marks (edgeSlot k) (edgeMark i)) marks
+withEdgeMark marks k i = cond (eqb (k .s) 0) (withMark markTries marks (edgeSlot k) (edgeMark i)) marks
 
 -- with the mark of a tuple in record i that other tuples may name
 unfoldable pub withNamed : List ℕ → Key → ℕ → List ℕ
@@ -169,15 +187,15 @@ pub record MarksFit (b marks : List ℕ) : Type 0 where
 unfoldable pub lookFrom : (ℕ → Bool) → ℕ → List ℕ → ℕ → Bool
 lookFrom p zero marks at = false
 lookFrom p (suc left) marks at =
-    p (getD marks at 0) || (not (eqb (getD marks at 0) 0) && lookFrom p left marks ((at + 1021) % markCount))
+    p (getD marks at 0) || (not (eqb (getD marks at 0) 0) && lookFrom p left marks ((at + markStep) % markCount))
 
 -- do the marks show node n in s
 unfoldable pub nodeShown : List ℕ → ℕ → ℕ → Bool
-nodeShown marks s n = lookFrom (λ (w : ℕ). eqb w (nodeMark s n)) 64 marks (nodeSlot s n)
+nodeShown marks s n = lookFrom (λ (w : ℕ). eqb w (nodeMark s n)) markTries marks (nodeSlot s n)
 
 -- do they show the edge tuple of 0 with the n, g, m of a key
 unfoldable pub edgeShown : List ℕ → List ℕ → Key → Bool
-edgeShown b marks k = lookFrom (λ (w : ℕ). isAt b (edgeRecord w) (edgeKey 0 (k .n) (k .g) (k .m))) 64 marks (edgeSlot k)
+edgeShown b marks k = lookFrom (λ (w : ℕ). isAt b (edgeRecord w) (edgeKey 0 (k .n) (k .g) (k .m))) markTries marks (edgeSlot k)
 
 -- ---- what a tuple names, looked for while the used chain is walked
 

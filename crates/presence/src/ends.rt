@@ -11,7 +11,9 @@ ghost use mathlib.Core.Logic.{_≢_};
 ghost use mathlib.Core.Path.{_≡_};
 ghost use Prim.Native.Nat.{suc, _≤_, _<_};
 ghost use lib.ListN.{length, getD, set};
+ghost use Rattle.model.specs.Keys.{mostName};
 ghost use Rattle.layouts.specs.Buffer.{capacityOf, keyAt, tuplesOf};
+ghost use Rattle.words.specs.Words.{mostIndex};
 ghost use Rattle.presence.specs.Presence.{Walkable, Sorted, Marks, MarksFit, markCount, goodKey, KeptRecords, keptCount, nodeSettled, edgeSettled, endThere, endShown, everyEnd, foundWith, listWith, withNamed};
 
 // What the walk of the used chain finds.
@@ -24,7 +26,7 @@ pub struct Found {
 
 // Is all shown so far, and now what a key without g names.
 fn node_sure(marks: &[u32], sure: bool, key: Key, k: Key) -> bool
-    requires { ⌜ (length (now marks) ≡ markCount) × (k .n ≤ 65535) ⌝ }
+    requires { ⌜ (length (now marks) ≡ markCount) × (k .n ≤ mostName) ⌝ }
     ensures { λ r. ⌜ r ≡ (sure && nodeSettled (now (marks .entry)) key k) ⌝ }
 {
     if !sure {
@@ -64,7 +66,7 @@ fn edge_sure(b: &[u32], marks: &[u32], sure: bool, key: Key, k: Key) -> bool
 
 // Is a second end shown by the marks; a node after the first end is not marked yet.
 fn end_shown(marks: &[u32], k: Key) -> bool
-    requires { ⌜ (length (now marks) ≡ markCount) × (k .s ≤ 65535) × (k .m ≤ 65535) ⌝ }
+    requires { ⌜ (length (now marks) ≡ markCount) × (k .s ≤ mostName) × (k .m ≤ mostName) ⌝ }
     ensures { λ r. ⌜ r ≡ endShown (now (marks .entry)) k ⌝ }
 {
     if k.n < k.m {
@@ -75,7 +77,7 @@ fn end_shown(marks: &[u32], k: Key) -> bool
 
 // A list with record i at a place.
 fn set_record(list: &mut [u16], at: usize, i: usize)
-    requires { ⌜ (at < length (now list)) × (i ≤ 4096) ⌝ }
+    requires { ⌜ (at < length (now list)) × (i ≤ mostIndex) ⌝ }
     ensures { λ _. ⌜ now (list .exit) ≡ set (now (list .entry)) at i ⌝ }
 {
     list[at] = i as u16;
@@ -83,7 +85,7 @@ fn set_record(list: &mut [u16], at: usize, i: usize)
 
 // Keeps record `at` where an edge's second end is not shown, and gives how many are kept.
 fn keep_end(marks: &[u32], list: &mut [u16], kept: usize, k: Key, at: usize) -> usize
-    requires { ⌜ (length (now marks) ≡ markCount) × (length (now list) ≡ keptCount) × (kept < keptCount) × (k .s ≤ 65535) × (k .m ≤ 65535) × (at ≤ 4096) ⌝ }
+    requires { ⌜ (length (now marks) ≡ markCount) × (length (now list) ≡ keptCount) × (kept < keptCount) × (k .s ≤ mostName) × (k .m ≤ mostName) × (at ≤ mostIndex) ⌝ }
     ensures answer { λ r. ⌜ r ≡ cond (endShown (now (marks .entry)) k) kept (suc kept) ⌝ }
     ensures lent { λ _. ⌜ now (list .exit) ≡ cond (endShown (now (marks .entry)) k) (now (list .entry)) (set (now (list .entry)) kept at) ⌝ }
 {
@@ -104,7 +106,7 @@ pub fn take(
     k: Key,
     at: usize,
 ) -> Found
-    requires { ⌜ Walkable (now b) × MarksFit (now b) (now marks) × (length (now list) ≡ keptCount) × (found .kept < keptCount) × (goodKey k ≡ true) × (at ≤ 4096) ⌝ }
+    requires { ⌜ Walkable (now b) × MarksFit (now b) (now marks) × (length (now list) ≡ keptCount) × (found .kept < keptCount) × (goodKey k ≡ true) × (at ≤ mostIndex) ⌝ }
     ensures answer { λ r. ⌜ r ≡ foundWith (now (b .entry)) (now (marks .entry)) key k found ⌝ }
     ensures marked { λ _. ⌜ now (marks .exit) ≡ withNamed (now (marks .entry)) k at ⌝ }
     ensures listed { λ _. ⌜ now (list .exit) ≡ listWith (now (marks .entry)) (now (list .entry)) k (found .kept) at ⌝ }

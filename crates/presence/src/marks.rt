@@ -9,42 +9,61 @@ ghost use mathlib.Core.Logic.{_≢_};
 ghost use mathlib.Core.Path.{_≡_};
 ghost use Prim.Native.Nat.{_≤_, _<_};
 ghost use lib.ListN.{length, getD, set};
-ghost use Rattle.model.specs.Keys.{nodeKey};
+ghost use Rattle.model.specs.Keys.{mostName, nodeKey};
 ghost use Rattle.model.specs.Tuples.{present};
 ghost use Rattle.layouts.specs.Buffer.{tuplesOf};
-ghost use Rattle.presence.specs.Presence.{Walkable, Sorted, Marks, MarksFit, markCount, nodeMark, edgeMark, edgeRecord, nodeSlot, edgeSlot, withMark, withNodeMark, withEdgeMark, nodeShown, edgeShown};
+ghost use Rattle.words.specs.Words.{mostIndex};
+ghost use Rattle.presence.specs.Presence.{Walkable, Sorted, Marks, MarksFit, markCount, markTries, nodeMark, edgeMark, edgeRecord, nodeSlot, edgeSlot, withMark, withNodeMark, withEdgeMark, nodeShown, edgeShown};
+
+// How many names there are: a mark is a number times this, and a name.
+const NAME_COUNT: u32 = 65536;
+
+// Places for marks.
+const MARK_COUNT: usize = 4096;
+
+// How many of them are looked at for one mark, and how far the next one is.
+const MARK_TRIES: usize = 64;
+
+const MARK_STEP: usize = 1021;
+
+// What the words of a key are multiplied by for the place that is looked at first: s of a node, g and m of an edge.
+const SPACE_FACTOR: usize = 5003;
+
+const EDGE_FACTOR: usize = 3571;
+
+const SECOND_FACTOR: usize = 2741;
 
 // The mark of node n in s.
 fn node_mark(s: u32, n: u32) -> u32
-    requires { ⌜ (s ≤ 65535) × (n ≤ 65535) ⌝ }
+    requires { ⌜ (s ≤ mostName) × (n ≤ mostName) ⌝ }
     ensures { λ r. ⌜ r ≡ nodeMark s n ⌝ }
 {
-    s * 65536 + n
+    s * NAME_COUNT + n
 }
 
 // The mark of the edge tuple of 0 in record i.
 fn edge_mark(i: usize) -> u32
-    requires { ⌜ i ≤ 4096 ⌝ }
+    requires { ⌜ i ≤ mostIndex ⌝ }
     ensures { λ r. ⌜ r ≡ edgeMark i ⌝ }
 {
-    (i * 65536) as u32
+    (i as u32) * NAME_COUNT
 }
 
 // The record of an edge tuple's mark; 0 for no mark and for the mark of a node.
 fn edge_record(w: u32) -> usize
     ensures { λ r. ⌜ r ≡ edgeRecord w ⌝ }
 {
-    if w % 65536 != 0 {
+    if w % NAME_COUNT != 0 {
         return 0;
     }
-    words::index_of(w / 65536)
+    words::index_of(w / NAME_COUNT)
 }
 
 // The place where the mark of node n in s is sought first.
 fn node_slot(s: u32, n: u32) -> usize
     ensures { λ r. ⌜ r ≡ nodeSlot s n ⌝ }
 {
-    (5003 * words::index_of(s) + words::index_of(n)) % 4096
+    (SPACE_FACTOR * words::index_of(s) + words::index_of(n)) % MARK_COUNT
 }
 
 // The place where the mark of an edge tuple of 0 is sought first.
@@ -54,7 +73,7 @@ fn edge_slot(k: Key) -> usize
     let n = words::index_of(k.n);
     let g = words::index_of(k.g);
     let m = words::index_of(k.m);
-    (n + 3571 * g + 2741 * m) % 4096
+    (n + EDGE_FACTOR * g + SECOND_FACTOR * m) % MARK_COUNT
 }
 
 // The mark at a place.
@@ -65,26 +84,26 @@ fn mark_at(marks: &[u32], at: usize) -> u32
     marks[at]
 }
 
-// Puts a mark at the first place without one of the 64 from a place on; where all have one, no mark is put.
+// Puts a mark at the first place without one of those that are looked at from a place on; where all have one, no mark is put.
 fn put_mark(marks: &mut [u32], from: usize, w: u32)
     requires { ⌜ (length (now marks) ≡ markCount) × (from < markCount) ⌝ }
-    ensures { λ _. ⌜ now (marks .exit) ≡ withMark 64 (now (marks .entry)) from w ⌝ }
+    ensures { λ _. ⌜ now (marks .exit) ≡ withMark markTries (now (marks .entry)) from w ⌝ }
 {
     let mut at = from;
-    let mut left: usize = 64;
+    let mut left: usize = MARK_TRIES;
     while left != 0 {
         if mark_at(marks, at) == 0 {
             marks[at] = w;
             return;
         }
-        at = (at + 1021) % 4096;
+        at = (at + MARK_STEP) % MARK_COUNT;
         left -= 1;
     }
 }
 
 // Marks a key without g, where it is a node's.
 pub fn mark_node(marks: &mut [u32], k: Key)
-    requires { ⌜ (length (now marks) ≡ markCount) × (k .s ≤ 65535) × (k .n ≤ 65535) ⌝ }
+    requires { ⌜ (length (now marks) ≡ markCount) × (k .s ≤ mostName) × (k .n ≤ mostName) ⌝ }
     ensures { λ _. ⌜ now (marks .exit) ≡ withNodeMark (now (marks .entry)) k ⌝ }
 {
     if k.n == 0 {
@@ -95,7 +114,7 @@ pub fn mark_node(marks: &mut [u32], k: Key)
 
 // Marks an edge tuple in record i, where it is one of 0.
 pub fn mark_edge(marks: &mut [u32], k: Key, i: usize)
-    requires { ⌜ (length (now marks) ≡ markCount) × (i ≤ 4096) ⌝ }
+    requires { ⌜ (length (now marks) ≡ markCount) × (i ≤ mostIndex) ⌝ }
     ensures { λ _. ⌜ now (marks .exit) ≡ withEdgeMark (now (marks .entry)) k i ⌝ }
 {
     if k.s != 0 {
@@ -106,12 +125,12 @@ pub fn mark_edge(marks: &mut [u32], k: Key, i: usize)
 
 // Do the marks show node n in s: those from its place on, up to one that is 0.
 pub fn node_shown(marks: &[u32], s: u32, n: u32) -> bool
-    requires { ⌜ (length (now marks) ≡ markCount) × (s ≤ 65535) × (n ≤ 65535) ⌝ }
+    requires { ⌜ (length (now marks) ≡ markCount) × (s ≤ mostName) × (n ≤ mostName) ⌝ }
     ensures { λ r. ⌜ r ≡ nodeShown (now (marks .entry)) s n ⌝ }
 {
     let mark = node_mark(s, n);
     let mut at = node_slot(s, n);
-    let mut left: usize = 64;
+    let mut left: usize = MARK_TRIES;
     while left != 0 {
         let w = mark_at(marks, at);
         if w == mark {
@@ -120,7 +139,7 @@ pub fn node_shown(marks: &[u32], s: u32, n: u32) -> bool
         if w == 0 {
             return false;
         }
-        at = (at + 1021) % 4096;
+        at = (at + MARK_STEP) % MARK_COUNT;
         left -= 1;
     }
     false
@@ -138,7 +157,7 @@ pub fn edge_shown(b: &[u32], marks: &[u32], k: Key) -> bool
         m: k.m,
     };
     let mut at = edge_slot(k);
-    let mut left: usize = 64;
+    let mut left: usize = MARK_TRIES;
     while left != 0 {
         let w = mark_at(marks, at);
         if is_at(b, edge_record(w), edge) {
@@ -147,7 +166,7 @@ pub fn edge_shown(b: &[u32], marks: &[u32], k: Key) -> bool
         if w == 0 {
             return false;
         }
-        at = (at + 1021) % 4096;
+        at = (at + MARK_STEP) % MARK_COUNT;
         left -= 1;
     }
     false
@@ -155,7 +174,7 @@ pub fn edge_shown(b: &[u32], marks: &[u32], k: Key) -> bool
 
 // Is node n of s in the used chain: the marks are looked at first.
 pub fn node_there(b: &[u32], marks: &[u32], s: u32, n: u32) -> bool
-    requires { ⌜ Sorted (now b) × Marks (now b) (now marks) × (s ≤ 65535) × (n ≤ 65535) × (n ≢ 0) ⌝ }
+    requires { ⌜ Sorted (now b) × Marks (now b) (now marks) × (s ≤ mostName) × (n ≤ mostName) × (n ≢ 0) ⌝ }
     ensures { λ r. ⌜ r ≡ present (nodeKey s n) (tuplesOf (now (b .entry))) ⌝ }
 {
     if node_shown(marks, s, n) {

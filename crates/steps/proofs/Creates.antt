@@ -20,11 +20,11 @@ use Rattle.model.specs.Steps.{objectKeys, created}
 use Rattle.model.proofs.Bools.{or-cases, or-left, or-right, not-yes, not-no, clash, failed}
 use Rattle.model.proofs.Tuples.{same-key, own-key, among, present-add, present-addAll, addAll-ascending, length-addAll}
 use Rattle.layouts.proofs.Sizes.{capacity-length}
-use Rattle.chain.specs.Links.{Linked, Hint, KeepsHints, Edited}
+use Rattle.chain.specs.Links.{bothWays, Linked, Hint, KeepsHints, Edited}
 use Rattle.edit.specs.Edits.{Adding}
 use Rattle.located.specs.declared.Near.{Near}
 use Rattle.located.specs.Located.{NearIn}
-use Rattle.steps.specs.Objects.{pairKey, mainKey, bothWays, isAdjacent, isSpace, Room}
+use Rattle.steps.specs.Objects.{pairKey, mainKey, isAdjacent, isSpace, Room}
 use Rattle.steps.proofs.Named.{object-keys, keys-one, keys-two, edited-twice}
 
 -- ---- how many of some keys are missing

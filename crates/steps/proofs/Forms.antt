@@ -7,7 +7,7 @@ use Rattle.model.specs.declared.Fields.{Fields}
 use Rattle.model.specs.declared.Key.{Key}
 use Rattle.model.specs.declared.Object.{Object}
 use Rattle.located.specs.declared.Near.{Near}
-use Rattle.steps.specs.Objects.{pairHint, mainHint, pairKey, mainKey, bothWays, isAdjacent, isSpace}
+use Rattle.steps.specs.Objects.{pairHint, mainHint, pairKey, mainKey, isAdjacent, isSpace}
 
 pub pair-hint-as : (d d′ : Direction) (near : Near) (h : ℕ) → d ≡ d′ → h ≡ pairHint d′ near → h ≡ pairHint d near
 pair-hint-as d d′ near h e H = H ∙ ap (λ (x : Direction). pairHint x near) (sym e)
@@ -20,9 +20,6 @@ pair-key-as d d′ s f k e K = K ∙ ap (λ (x : Direction). pairKey x s f) (sym
 
 pub main-key-as : (o o′ : Object) (s : ℕ) (f : Fields) (k : Key) → o ≡ o′ → k ≡ mainKey o′ s f → k ≡ mainKey o s f
 main-key-as o o′ s f k e K = K ∙ ap (λ (x : Object). mainKey x s f) (sym e)
-
-pub both-ways-as : (d d′ : Direction) (r : Bool) → d ≡ d′ → r ≡ bothWays d′ → r ≡ bothWays d
-both-ways-as d d′ r e R = R ∙ ap bothWays (sym e)
 
 pub adjacent-as : (o o′ : Object) (r : Bool) → o ≡ o′ → r ≡ isAdjacent o′ → r ≡ isAdjacent o
 adjacent-as o o′ r e R = R ∙ ap isAdjacent (sym e)

@@ -18,11 +18,11 @@ use Rattle.layouts.specs.Buffer.{word, recordStart, valuePlace, keyAt, usedOf, 
 use Rattle.model.specs.Steps.{objectKeys, firstValue}
 use Rattle.model.proofs.Bools.{not-yes, not-no}
 use Rattle.words.specs.Words.{putWord}
-use Rattle.chain.specs.Links.{Hint, KeepsHints, findIn, Edited}
+use Rattle.chain.specs.Links.{bothWays, Hint, KeepsHints, findIn, Edited}
 use Rattle.edit.specs.Edits.{assignIn, Assigned}
 use Rattle.located.specs.declared.Near.{Near}
 use Rattle.located.specs.Located.{NearIn}
-use Rattle.steps.specs.Objects.{pairHint, mainHint, pairKey, mainKey, bothWays, isAdjacent, assignAllIn, Bound}
+use Rattle.steps.specs.Objects.{pairHint, mainHint, pairKey, mainKey, isAdjacent, assignAllIn, Bound}
 
 -- the key of the edge from m to n
 abbrev secondKey : ℕ → Fields → Key

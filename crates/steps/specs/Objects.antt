@@ -13,7 +13,7 @@ use Rattle.model.specs.Keys.{Value, spaceKey, nodeKey, edgeKey}
 use Rattle.model.specs.Tuples.{missing, assignAll}
 use Rattle.layouts.specs.Buffer.{capacityOf, tuplesOf}
 use Rattle.located.specs.declared.Near.{Near}
-use Rattle.chain.specs.Links.{Edited}
+use Rattle.chain.specs.Links.{bothWays, Edited}
 use Rattle.edit.specs.Edits.{assignIn}
 
 -- ---- hints
@@ -44,12 +44,7 @@ mainKey (Object.P d) s f = pairKey d s f
 mainKey Object.UN s f = nodeKey s (f .n)
 mainKey Object.US s f = spaceKey s
 
--- "for A, each of the two": has a pair a second key, that of the edge from m to n
-unfoldable pub bothWays : Direction → Bool
-bothWays Outpointing = false
-bothWays Inpointing = false
-bothWays Adjacent = true
-
+-- has an object a second key: that of the edge from m to n
 unfoldable pub isAdjacent : Object → Bool
 isAdjacent (Object.P d) = bothWays d
 isAdjacent Object.UN = false

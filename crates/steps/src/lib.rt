@@ -13,7 +13,7 @@ ghost use Rattle.layouts.specs.Buffer.{tuplesOf};
 ghost use Rattle.model.specs.Steps.{objectKeys, created, firstValue};
 ghost use Rattle.chain.specs.Links.{Linked, Hint, KeepsHints, Edited};
 ghost use Rattle.located.specs.Located.{NearIn};
-ghost use Rattle.steps.specs.Objects.{pairHint, mainHint, pairKey, mainKey, bothWays, isAdjacent, isSpace, Room, Bound};
+ghost use Rattle.steps.specs.Objects.{pairHint, mainHint, pairKey, mainKey, isAdjacent, isSpace, Room, Bound};
 
 // The key in space s of the edge from n to m.
 fn edge_key(s: u32, f: Fields) -> Key
@@ -93,23 +93,12 @@ fn main_hint(o: Object, near: Near) -> usize
     }
 }
 
-// Are both edges of a pair meant.
-fn both_ways(d: Direction) -> bool
-    ensures { λ r. ⌜ r ≡ bothWays d ⌝ }
-{
-    match d {
-        Direction::Outpointing => false,
-        Direction::Inpointing => false,
-        Direction::Adjacent => true,
-    }
-}
-
 // Has an object a second key.
 fn is_adjacent(o: Object) -> bool
     ensures { λ r. ⌜ r ≡ isAdjacent o ⌝ }
 {
     match o {
-        Object::P(d) => both_ways(d),
+        Object::P(d) => chain::both_ways(d),
         Object::UN => false,
         Object::US => false,
     }

@@ -6,6 +6,10 @@ use Rattle.model.specs.declared.Key.{Key}
 use Rattle.model.specs.Keys.{Value}
 use Rattle.layouts.specs.Buffer.{recordWords, recordStart, nextPlace, valuePlace}
 
+-- numbers of records that are written as words and counted on from are at most this; a store has half as many records
+abbrev pub mostIndex : ℕ
+mostIndex = 4096
+
 -- record i is a record of the buffer: one of 1 to C
 pub record Inside (b : List ℕ) (i : ℕ) : Type 0 where
   pub low : 1 ≤ i

@@ -6,7 +6,7 @@ ghost use lib.ListN.{length, set};
 ghost use Rattle.layouts.specs.Buffer.{word, headWords, recordWords, fitsLength, capacityOf, recordStart, wordOf, next, keyAt, tupleAt};
 ghost use Rattle.model.specs.Ordered.{isLess};
 ghost use Rattle.model.specs.Keys.{nodeKey, compareKeys, sameKey};
-ghost use Rattle.words.specs.Words.{Inside, putWord, putNext, putValue, putTuple};
+ghost use Rattle.words.specs.Words.{mostIndex, Inside, putWord, putNext, putValue, putTuple};
 
 // Words before the first record, and words of a record.
 const HEAD_WORDS: usize = 4;
@@ -73,7 +73,7 @@ pub fn head_word(b: &[u32], at: usize) -> usize
 
 // One of the words 0 to 3, written.
 pub fn put_head_word(b: &mut [u32], at: usize, w: usize)
-    requires { ⌜ (at < length (now b)) × (w ≤ 4096) ⌝ }
+    requires { ⌜ (at < length (now b)) × (w ≤ mostIndex) ⌝ }
     ensures { λ _. ⌜ now (b .exit) ≡ set (now (b .entry)) at w ⌝ }
 {
     b[at] = w as u32;
@@ -136,7 +136,7 @@ pub fn value_of(b: &[u32], i: usize) -> u32
 
 // The next of record i, written.
 pub fn put_next(b: &mut [u32], i: usize, j: usize)
-    requires { ⌜ Inside (now b) i × (j ≤ 4096) ⌝ }
+    requires { ⌜ Inside (now b) i × (j ≤ mostIndex) ⌝ }
     ensures { λ _. ⌜ now (b .exit) ≡ putNext (now (b .entry)) i j ⌝ }
 {
     put_word(b, i, NEXT, j as u32);

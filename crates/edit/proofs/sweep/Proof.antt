@@ -13,9 +13,10 @@ abbrev μ-loop : tie.MeasureT-loop
 
 next-of-requires : tie.Need-next-of-requires Inv-loop μ-loop
 next-of-requires c κs =
+    let at-start-behind : tie.After-start-behind Inv-loop μ-loop = search in
     let at-span-of : tie.After-span-of Inv-loop μ-loop = search in
     let at-start : tie.Start Inv-loop μ-loop = search in
-    sweep-start _ _ _ _ _ (at-start .pre .0) (at-start .pre .2) (at-span-of .span-of .ensures) (c .before .start-behind .ensures) refl .0
+    sweep-start _ _ _ _ _ (at-start .pre .0) (at-start .pre .2) (at-span-of .span-of .ensures) (at-start-behind .start-behind .ensures) refl .0
 
 loop-holds : tie.Need-loop-holds Inv-loop μ-loop
 loop-holds c =

@@ -15,8 +15,9 @@ abbrev μ-loop : tie.MeasureT-loop
 
 add-count : tie.Need-add-count Inv-loop μ-loop
 add-count c =
+    let at-at-loop : tie.At-loop Inv-loop μ-loop = search in
     let at-start : tie.Start Inv-loop μ-loop = search in
-    omega (arith, done-most _ _ (at-start .pre .0) _ _ _ (c .before .loop .inv))
+    omega (arith, done-most _ _ (at-start .pre .0) _ _ _ (at-at-loop .loop .inv))
 
 pub count-by-least-spec : {M : Type 1} → statement M
 count-by-least-spec =

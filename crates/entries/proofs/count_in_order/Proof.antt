@@ -16,11 +16,16 @@ is-outside-requires c κs = tt
 
 returns : tie.Need-returns Inv-loop μ-loop
 returns c =
+    let at-is-outside : tie.After-is-outside Inv-loop μ-loop = search in
     let at-key-of : tie.After-key-of Inv-loop μ-loop = search in
     let at-in-loop : tie.In-loop Inv-loop μ-loop = search in
     let at-at-loop : tie.At-loop Inv-loop μ-loop = search in
     let at-start : tie.Start Inv-loop μ-loop = search in
-    rise-end _ _ (at-start .pre .0) (at-start .pre .2) _ _ _ (at-at-loop .loop .inv) (silent-outside _ _ _ (at-at-loop .loop .inv .walked) (at-at-loop .loop .inv .onward) (at-in-loop .loop-test .taken) _ _ (at-key-of .key-of .ensures) (c .before .is-outside .ensures) (c .if1 .taken))
+    let S = at-at-loop .loop .inv in
+    let silent =
+    silent-outside _ _ _ (S .walked) (S .onward) (at-in-loop .loop-test .taken) _ _ (at-key-of .key-of .ensures)
+    (at-is-outside .is-outside .ensures) (c .if1 .taken) in
+    rise-end _ _ (at-start .pre .0) (at-start .pre .2) _ _ _ S silent
 
 first-code-requires : tie.Need-first-code-requires Inv-loop μ-loop
 first-code-requires c κs = tt
@@ -33,8 +38,9 @@ add-count c =
 
 returns-2 : tie.Need-returns-2 Inv-loop μ-loop
 returns-2 c =
+    let at-at-loop : tie.At-loop Inv-loop μ-loop = search in
     let at-start : tie.Start Inv-loop μ-loop = search in
-    rise-end _ _ (at-start .pre .0) (at-start .pre .2) _ _ _ (c .before .loop .inv) (silent-end _ _ _ (c .before .loop .inv .walked) (c .loop-test .left))
+    rise-end _ _ (at-start .pre .0) (at-start .pre .2) _ _ _ (at-at-loop .loop .inv) (silent-end _ _ _ (at-at-loop .loop .inv .walked) (c .loop-test .left))
 
 pub count-in-order-spec : {M : Type 1} → statement M
 count-in-order-spec =

@@ -10,8 +10,9 @@ pairs-in-order-requires c κs = tt
 count-in-order-requires : tie.Need-count-in-order-requires
 unfolding entriesInOrder
 count-in-order-requires c κs =
+    let at-pairs-in-order : tie.After-pairs-in-order = search in
     let at-start : tie.Start = search in
-    (at-start .pre .0, at-start .pre .1, sym (c .before .pairs-in-order .ensures) ∙ c .if1 .taken)
+    (at-start .pre .0, at-start .pre .1, sym (at-pairs-in-order .pairs-in-order .ensures) ∙ c .if1 .taken)
 
 returns : tie.Need-returns
 returns c = c .count-in-order .ensures

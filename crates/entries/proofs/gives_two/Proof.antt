@@ -8,7 +8,7 @@ returns : tie.Need-returns
 unfolding givesTwo
 returns c =
     let at-q : tie.After-q = search in
-    c .has-second .ensures ∙ sym (ap givesTwo (at-q .q .given .1))
+    c .both-ways .ensures ∙ sym (ap givesTwo (at-q .q .given .1))
 
 returns-2 : tie.Need-returns-2
 unfolding givesTwo

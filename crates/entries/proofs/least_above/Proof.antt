@@ -16,21 +16,27 @@ outside-pairs-requires c κs = tt
 
 returns : tie.Need-returns Inv-loop μ-loop
 returns c =
+    let at-outside-pairs : tie.After-outside-pairs Inv-loop μ-loop = search in
     let at-key-of : tie.After-key-of Inv-loop μ-loop = search in
     let at-in-loop : tie.In-loop Inv-loop μ-loop = search in
     let at-at-loop : tie.At-loop Inv-loop μ-loop = search in
-    near-end _ _ _ _ _ (at-at-loop .loop .inv) (silent-outside _ _ _ (at-at-loop .loop .inv .walked) (at-at-loop .loop .inv .onward) (at-in-loop .loop-test .taken) _ _ (at-key-of .key-of .ensures) (c .before .outside-pairs .ensures) (c .if1 .taken))
+    let S = at-at-loop .loop .inv in
+    let silent =
+    silent-outside _ _ _ (S .walked) (S .onward) (at-in-loop .loop-test .taken) _ _ (at-key-of .key-of .ensures)
+    (at-outside-pairs .outside-pairs .ensures) (c .if1 .taken) in
+    near-end _ _ _ _ _ S silent
 
 touches-requires : tie.Need-touches-requires Inv-loop μ-loop
 touches-requires c κs = tt
 
 loop-again : tie.Need-loop-again Inv-loop μ-loop
 loop-again c =
+    let at-touches : tie.After-touches Inv-loop μ-loop = search in
     let at-next-of : tie.After-next-of Inv-loop μ-loop = search in
     let at-key-of : tie.After-key-of Inv-loop μ-loop = search in
     let at-in-loop : tie.In-loop Inv-loop μ-loop = search in
     let at-at-loop : tie.At-loop Inv-loop μ-loop = search in
-    near-skip _ _ _ _ _ (at-at-loop .loop .inv) (at-in-loop .loop-test .taken) _ _ (at-key-of .key-of .ensures) (apart-silent _ _ _ (c .before .touches .ensures) (c .if2 .taken)) (at-next-of .next-of .ensures)
+    near-skip _ _ _ _ _ (at-at-loop .loop .inv) (at-in-loop .loop-test .taken) _ _ (at-key-of .key-of .ensures) (apart-silent _ _ _ (at-touches .touches .ensures) (c .if2 .taken)) (at-next-of .next-of .ensures)
 
 first-pair-code-requires : tie.Need-first-pair-code-requires Inv-loop μ-loop
 first-pair-code-requires c κs = tt
@@ -45,7 +51,9 @@ nearer-code-requires-2 : tie.Need-nearer-code-requires-2 Inv-loop μ-loop
 nearer-code-requires-2 c κs = tt
 
 returns-2 : tie.Need-returns-2 Inv-loop μ-loop
-returns-2 c = near-end _ _ _ _ _ (c .before .loop .inv) (silent-end _ _ _ (c .before .loop .inv .walked) (c .loop-test .left))
+returns-2 c =
+    let at-at-loop : tie.At-loop Inv-loop μ-loop = search in
+    near-end _ _ _ _ _ (at-at-loop .loop .inv) (silent-end _ _ _ (at-at-loop .loop .inv .walked) (c .loop-test .left))
 
 pub least-above-spec : {M : Type 1} → statement M
 least-above-spec =

@@ -6,15 +6,17 @@ use Rattle.entries.proofs.surely_fits.Tie as tie
 
 returns : tie.Need-returns
 returns c =
+    let at-gives-two : tie.After-gives-two = search in
     let at-head-word : tie.After-head-word = search in
     let at-start : tie.Start = search in
-    fits-told _ (at-start .pre) _ (at-head-word .head-word .ensures) _ _ _ (c .before .gives-two .ensures) _ (c .if1 .taken)
+    fits-told _ (at-start .pre) _ (at-head-word .head-word .ensures) _ _ _ (at-gives-two .gives-two .ensures) _ (c .if1 .taken)
 
 returns-2 : tie.Need-returns-2
 returns-2 c =
+    let at-gives-two : tie.After-gives-two = search in
     let at-head-word : tie.After-head-word = search in
     let at-start : tie.Start = search in
-    fits-told _ (at-start .pre) _ (at-head-word .head-word .ensures) _ _ _ (c .before .gives-two .ensures) _ (c .if1 .left)
+    fits-told _ (at-start .pre) _ (at-head-word .head-word .ensures) _ _ _ (at-gives-two .gives-two .ensures) _ (c .if1 .left)
 
 pub surely-fits-spec : {M : Type 1} → statement M
 surely-fits-spec =

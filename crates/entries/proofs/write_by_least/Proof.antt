@@ -15,19 +15,15 @@ abbrev μ-loop : tie.MeasureT-loop
 
 mul-list : tie.Need-mul-list Inv-loop μ-loop
 mul-list c =
+    let at-at-loop : tie.At-loop Inv-loop μ-loop = search in
     let at-start : tie.Start Inv-loop μ-loop = search in
-    omega (arith, done-most _ _ (at-start .pre .0) _ _ _ (c .before .loop .inv .listing))
+    omega (arith, done-most _ _ (at-start .pre .0) _ _ _ (at-at-loop .loop .inv .listing))
 
 add-done : tie.Need-add-done Inv-loop μ-loop
 add-done c =
+    let at-at-loop : tie.At-loop Inv-loop μ-loop = search in
     let at-start : tie.Start Inv-loop μ-loop = search in
-    omega (arith, done-most _ _ (at-start .pre .0) _ _ _ (c .before .loop .inv .listing))
-
-returns : tie.Need-returns Inv-loop μ-loop
-returns c = (
-  count-end _ _ (c .before .before .before .before .before .pre .0) _ _ _ (c .before .loop .inv .listing) (c .loop-test .left),
-  write-end _ _ (c .before .before .before .before .before .pre .0) _ (c .before .before .before .before .before .pre .2) _ _ _ _ (c .before .loop .inv) (c .loop-test .left),
-)
+    omega (arith, done-most _ _ (at-start .pre .0) _ _ _ (at-at-loop .loop .inv .listing))
 
 pub write-by-least-spec : {M : Type 1} → statement M
 write-by-least-spec =
@@ -46,4 +42,4 @@ write-by-least-spec =
     (λ c. search list-less)
     (λ c. search write-on)
     (λ c. search write-length)
-    returns)
+    (λ c. (search count-end, search write-end)))

@@ -17,11 +17,18 @@ is-outside-requires c κs = tt
 
 returns : tie.Need-returns Inv-loop μ-loop
 returns c =
+    let at-is-outside : tie.After-is-outside Inv-loop μ-loop = search in
     let at-key-of : tie.After-key-of Inv-loop μ-loop = search in
     let at-in-loop : tie.In-loop Inv-loop μ-loop = search in
     let at-at-loop : tie.At-loop Inv-loop μ-loop = search in
     let at-start : tie.Start Inv-loop μ-loop = search in
-    (rise-end _ _ (at-start .pre .0) (at-start .pre .2) _ _ _ (at-at-loop .loop .inv .rises) (silent-outside _ _ _ (at-at-loop .loop .inv .rises .walked) (at-at-loop .loop .inv .rises .onward) (at-in-loop .loop-test .taken) _ _ (at-key-of .key-of .ensures) (c .before .is-outside .ensures) (c .if1 .taken)), fill-end _ _ (at-start .pre .0) (at-start .pre .2) _ (at-start .pre .3) _ _ _ _ (at-at-loop .loop .inv) (silent-outside _ _ _ (at-at-loop .loop .inv .rises .walked) (at-at-loop .loop .inv .rises .onward) (at-in-loop .loop-test .taken) _ _ (at-key-of .key-of .ensures) (c .before .is-outside .ensures) (c .if1 .taken)))
+    let S = at-at-loop .loop .inv in
+    let silent =
+    silent-outside _ _ _ (S .rises .walked) (S .rises .onward) (at-in-loop .loop-test .taken) _ _ (at-key-of .key-of .ensures)
+    (at-is-outside .is-outside .ensures) (c .if1 .taken) in (
+      rise-end _ _ (at-start .pre .0) (at-start .pre .2) _ _ _ (S .rises) silent,
+      fill-end _ _ (at-start .pre .0) (at-start .pre .2) _ (at-start .pre .3) _ _ _ _ S silent,
+    )
 
 first-code-requires : tie.Need-first-code-requires Inv-loop μ-loop
 first-code-requires c κs = tt
@@ -40,8 +47,13 @@ add-done c =
 
 returns-2 : tie.Need-returns-2 Inv-loop μ-loop
 returns-2 c =
+    let at-at-loop : tie.At-loop Inv-loop μ-loop = search in
     let at-start : tie.Start Inv-loop μ-loop = search in
-    (rise-end _ _ (at-start .pre .0) (at-start .pre .2) _ _ _ (c .before .loop .inv .rises) (silent-end _ _ _ (c .before .loop .inv .rises .walked) (c .loop-test .left)), fill-end _ _ (at-start .pre .0) (at-start .pre .2) _ (at-start .pre .3) _ _ _ _ (c .before .loop .inv) (silent-end _ _ _ (c .before .loop .inv .rises .walked) (c .loop-test .left)))
+    let S = at-at-loop .loop .inv in
+    let silent = silent-end _ _ _ (S .rises .walked) (c .loop-test .left) in (
+      rise-end _ _ (at-start .pre .0) (at-start .pre .2) _ _ _ (S .rises) silent,
+      fill-end _ _ (at-start .pre .0) (at-start .pre .2) _ (at-start .pre .3) _ _ _ _ S silent,
+    )
 
 pub write-in-order-spec : {M : Type 1} → statement M
 write-in-order-spec =

@@ -10,9 +10,10 @@ pairs-in-order-requires c κs = tt
 write-in-order-requires : tie.Need-write-in-order-requires
 unfolding entriesInOrder
 write-in-order-requires c κs =
+    let at-then1 : tie.Then1 = search in
     let at-pairs-in-order : tie.After-pairs-in-order = search in
     let at-start : tie.Start = search in
-    (at-start .pre .0, at-start .pre .1, sym (at-pairs-in-order .pairs-in-order .ensures) ∙ c .before .if1 .taken, at-start .pre .2)
+    (at-start .pre .0, at-start .pre .1, sym (at-pairs-in-order .pairs-in-order .ensures) ∙ at-then1 .if1 .taken, at-start .pre .2)
 
 pub write-pairs-spec : {M : Type 1} → statement M
 write-pairs-spec =

@@ -23,7 +23,8 @@ put-next-requires : tie.Need-put-next-requires Inv-loop μ-loop
 put-next-requires c κs =
     let at-at-loop : tie.At-loop Inv-loop μ-loop = search in
     let at-start : tie.Start Inv-loop μ-loop = search in
-    (record { low = omega arith; high = omega (arith, ap length (at-at-loop .loop .inv .1), chained-length (at-start .args .c) (at-start .args .b .now) (at-at-loop .loop .n)) }, omega (arith, follower-most (at-start .args .c) (at-at-loop .loop .n + 2)))
+    let same = ap length (at-at-loop .loop .inv .1) ∙ chained-length _ _ _ in
+    (record { low = omega arith; high = omega (arith, same) }, omega (arith, follower-most (at-start .args .c) (at-at-loop .loop .n + 2)))
 
 same-length : tie.Need-same-length Inv-loop μ-loop
 same-length c =

@@ -1,12 +1,11 @@
 use borrow.Author.Tests.{not-true, not-false}
 use native.Mathlib.Omega.{arith}
-use mathlib.Core.Path.{sym, _∙_}
 use mathlib.Core.Logic.{⊎-elim}
 use lib.ListN.{length}
 use Rattle.presence.specs.Presence.{recordsFrom}
-use Rattle.presence.proofs.EdgeEnds.{Spanning, spanning-start, AtTuple, own-space, no-edge, no-first-end, no-second-end, both-ends, go-on, leave, finish}
+use Rattle.presence.proofs.EdgeEnds.{Spanning, spanning-start, at-tuple, own-space, no-edge, no-first-end, no-second-end, both-ends, go-on, leave, finish}
 use Rattle.presence.proofs.Support.{head-some}
-use Rattle.presence.proofs.Rest.{record-inside, on-head, fewer, before-not-none, Seeking, seek-start, seek-next, seek-fewer}
+use Rattle.presence.proofs.Rest.{record-inside, on-head, fewer, Seeking, seek-start, seek-inside, seek-next, seek-fewer}
 use Rattle.presence.proofs.edge_ends.edges_ended.Statement.{statement}
 use Rattle.presence.proofs.edge_ends.edges_ended.Tie as tie
 use borrow.Author.Needs.{needs}
@@ -35,10 +34,11 @@ tuples-again c =
     let at-in-tuples : tie.In-tuples Inv-loop μ-loop Inv-tuples μ-tuples = search in
     let at-at-tuples : tie.At-tuples Inv-loop μ-loop Inv-tuples μ-tuples = search in
     let at-start : tie.Start Inv-loop μ-loop Inv-tuples μ-tuples = search in
-    let T : AtTuple (at-start .args .b .now) (at-at-tuples .tuples .space) (at-at-tuples .tuples .at) (at-space-start .space-start .result) (at-key-of .key-of .result) = record { walkable = at-start .pre .used .walkable; spanning = at-at-tuples .tuples .inv; some = at-in-tuples .tuples-test .taken; start = at-space-start .space-start .ensures; key = at-key-of .key-of .ensures } in go-on _ _ _ _ _ T _ (c .next-of2 .ensures) (no-edge _ _ _ _ _ T (c .before .if1 .taken))
-
-node-key-requires : tie.Need-node-key-requires Inv-loop μ-loop Inv-tuples μ-tuples
-node-key-requires c κs = tt
+    let at-then1 : tie.Then1 Inv-loop μ-loop Inv-tuples μ-tuples = search in
+    let T =
+    at-tuple _ _ _ _ _ (at-start .pre .used .walkable) (at-at-tuples .tuples .inv) (at-in-tuples .tuples-test .taken) (at-space-start .space-start .ensures)
+    (at-key-of .key-of .ensures) in
+    go-on _ _ _ _ _ T _ (c .next-of2 .ensures) (no-edge _ _ _ _ _ T (at-then1 .if1 .taken))
 
 holds-from-requires : tie.Need-holds-from-requires Inv-loop μ-loop Inv-tuples μ-tuples
 holds-from-requires c κs =
@@ -47,10 +47,10 @@ holds-from-requires c κs =
     let at-in-tuples : tie.In-tuples Inv-loop μ-loop Inv-tuples μ-tuples = search in
     let at-at-tuples : tie.At-tuples Inv-loop μ-loop Inv-tuples μ-tuples = search in
     let at-start : tie.Start Inv-loop μ-loop Inv-tuples μ-tuples = search in
-    own-space (at-start .args .b .now) (at-at-tuples .tuples .space) (at-at-tuples .tuples .at) (at-space-start .space-start .result) (at-key-of .key-of .result) (record { walkable = at-start .pre .used .walkable; spanning = at-at-tuples .tuples .inv; some = at-in-tuples .tuples-test .taken; start = at-space-start .space-start .ensures; key = at-key-of .key-of .ensures })
-
-node-key-requires-2 : tie.Need-node-key-requires-2 Inv-loop μ-loop Inv-tuples μ-tuples
-node-key-requires-2 c κs = tt
+    let T =
+    at-tuple _ _ _ _ _ (at-start .pre .used .walkable) (at-at-tuples .tuples .inv) (at-in-tuples .tuples-test .taken) (at-space-start .space-start .ensures)
+    (at-key-of .key-of .ensures) in
+    own-space _ _ _ _ _ T
 
 loop-holds : tie.Need-loop-holds Inv-loop μ-loop Inv-tuples μ-tuples
 loop-holds c =
@@ -59,19 +59,33 @@ loop-holds c =
     let at-in-tuples : tie.In-tuples Inv-loop μ-loop Inv-tuples μ-tuples = search in
     let at-at-tuples : tie.At-tuples Inv-loop μ-loop Inv-tuples μ-tuples = search in
     let at-start : tie.Start Inv-loop μ-loop Inv-tuples μ-tuples = search in
-    seek-start (at-start .args .b .now) (c .node-key2 .result) (at-space-start .space-start .result) (own-space (at-start .args .b .now) (at-at-tuples .tuples .space) (at-at-tuples .tuples .at) (at-space-start .space-start .result) (at-key-of .key-of .result) (record { walkable = at-start .pre .used .walkable; spanning = at-at-tuples .tuples .inv; some = at-in-tuples .tuples-test .taken; start = at-space-start .space-start .ensures; key = at-key-of .key-of .ensures }))
+    let T =
+    at-tuple _ _ _ _ _ (at-start .pre .used .walkable) (at-at-tuples .tuples .inv) (at-in-tuples .tuples-test .taken) (at-space-start .space-start .ensures)
+    (at-key-of .key-of .ensures) in
+    seek-start _ _ _ (own-space _ _ _ _ _ T)
 
 is-at-requires : tie.Need-is-at-requires Inv-loop μ-loop Inv-tuples μ-tuples
 is-at-requires c κs = (c .loop .inv .seekable .walkable, c .loop .inv .seekable .on .high)
 
 next-of-requires-3 : tie.Need-next-of-requires-3 Inv-loop μ-loop Inv-tuples μ-tuples
-next-of-requires-3 c κs = record-inside _ _ (c .before .before .before .before .loop .inv .seekable .walkable) (c .before .before .before .before .loop .inv .seekable .on .high) (before-not-none (c .before .before .before .before .before .before .before .before .before .before .before .before .before .before .before .before .before .before .args .b .now) _ (c .before .before .before .before .before .node-key2 .result) (sym (c .before .is-before .ensures) ∙ not-false _ (c .if4 .left)))
+next-of-requires-3 c κs =
+    let at-is-before : tie.After-is-before Inv-loop μ-loop Inv-tuples μ-tuples = search in
+    let at-at-loop : tie.At-loop Inv-loop μ-loop Inv-tuples μ-tuples = search in
+    seek-inside _ _ _ _ (at-at-loop .loop .inv) _ (at-is-before .is-before .ensures) (not-false _ (c .if4 .left))
 
 loop-less : tie.Need-loop-less Inv-loop μ-loop Inv-tuples μ-tuples
-loop-less c = seek-fewer (c .before .before .before .before .before .before .before .before .before .before .before .before .before .before .before .before .before .before .before .args .b .now) (c .before .before .before .before .before .before .node-key2 .result) (c .before .before .before .before .before .before .before .before .before .before .before .before .space-start .result) (c .before .before .before .before .before .loop .seek) (c .before .before .before .before .before .loop .inv) (c .next-of3 .result) (sym (c .before .before .is-before .ensures) ∙ not-false _ (c .before .if4 .left)) (c .next-of3 .ensures)
+loop-less c =
+    let at-else4 : tie.Else4 Inv-loop μ-loop Inv-tuples μ-tuples = search in
+    let at-is-before : tie.After-is-before Inv-loop μ-loop Inv-tuples μ-tuples = search in
+    let at-at-loop : tie.At-loop Inv-loop μ-loop Inv-tuples μ-tuples = search in
+    seek-fewer _ _ _ _ (at-at-loop .loop .inv) _ _ (at-is-before .is-before .ensures) (not-false _ (at-else4 .if4 .left)) (c .next-of3 .ensures)
 
 loop-again : tie.Need-loop-again Inv-loop μ-loop Inv-tuples μ-tuples
-loop-again c = seek-next (c .before .before .before .before .before .before .before .before .before .before .before .before .before .before .before .before .before .before .before .args .b .now) (c .before .before .before .before .before .before .node-key2 .result) (c .before .before .before .before .before .before .before .before .before .before .before .before .space-start .result) (c .before .before .before .before .before .loop .seek) (c .before .before .before .before .before .loop .inv) (c .next-of3 .result) (sym (c .before .before .is-before .ensures) ∙ not-false _ (c .before .if4 .left)) (c .next-of3 .ensures)
+loop-again c =
+    let at-else4 : tie.Else4 Inv-loop μ-loop Inv-tuples μ-tuples = search in
+    let at-is-before : tie.After-is-before Inv-loop μ-loop Inv-tuples μ-tuples = search in
+    let at-at-loop : tie.At-loop Inv-loop μ-loop Inv-tuples μ-tuples = search in
+    seek-next _ _ _ _ (at-at-loop .loop .inv) _ _ (at-is-before .is-before .ensures) (not-false _ (at-else4 .if4 .left)) (c .next-of3 .ensures)
 
 next-of-requires-4 : tie.Need-next-of-requires-4 Inv-loop μ-loop Inv-tuples μ-tuples
 next-of-requires-4 c κs =
@@ -82,6 +96,7 @@ next-of-requires-4 c κs =
 
 tuples-again-2 : tie.Need-tuples-again-2 Inv-loop μ-loop Inv-tuples μ-tuples
 tuples-again-2 c =
+    let at-else3 : tie.Else3 Inv-loop μ-loop Inv-tuples μ-tuples = search in
     let at-is-at : tie.After-is-at Inv-loop μ-loop Inv-tuples μ-tuples = search in
     let at-at-loop : tie.At-loop Inv-loop μ-loop Inv-tuples μ-tuples = search in
     let at-node-key2 : tie.After-node-key2 Inv-loop μ-loop Inv-tuples μ-tuples = search in
@@ -94,12 +109,32 @@ tuples-again-2 c =
     let at-in-tuples : tie.In-tuples Inv-loop μ-loop Inv-tuples μ-tuples = search in
     let at-at-tuples : tie.At-tuples Inv-loop μ-loop Inv-tuples μ-tuples = search in
     let at-start : tie.Start Inv-loop μ-loop Inv-tuples μ-tuples = search in
-    let T : AtTuple (at-start .args .b .now) (at-at-tuples .tuples .space) (at-at-tuples .tuples .at) (at-space-start .space-start .result) (at-key-of .key-of .result) = record { walkable = at-start .pre .used .walkable; spanning = at-at-tuples .tuples .inv; some = at-in-tuples .tuples-test .taken; start = at-space-start .space-start .ensures; key = at-key-of .key-of .ensures } in go-on _ _ _ _ _ T _ (c .next-of4 .ensures) (both-ends _ _ _ _ _ T (at-else1 .if1 .left) (at-node-key .node-key .result) (at-node-key .node-key .ensures) (at-holds-from .holds-from .result) (at-holds-from .holds-from .ensures) (at-node-key2 .node-key2 .result) (at-node-key2 .node-key2 .ensures) (at-at-loop .loop .seek) (at-at-loop .loop .inv) (not-false _ (at-else2 .if2 .left)) (sym (at-is-at .is-at .ensures) ∙ not-false _ (c .before .if3 .left)))
+    let T =
+    at-tuple _ _ _ _ _ (at-start .pre .used .walkable) (at-at-tuples .tuples .inv) (at-in-tuples .tuples-test .taken) (at-space-start .space-start .ensures)
+    (at-key-of .key-of .ensures) in
+    go-on _ _ _ _ _ T _ (c .next-of4 .ensures)
+    (both-ends _ _ _ _ _ T (at-else1 .if1 .left) _ (at-node-key .node-key .ensures) _ (at-holds-from .holds-from .ensures) _
+    (at-node-key2 .node-key2 .ensures) _ (at-at-loop .loop .inv) (not-false _ (at-else2 .if2 .left)) _ (at-is-at .is-at .ensures)
+    (not-false _ (at-else3 .if3 .left)))
 
+-- the walk has ended, or a tuple lacks its first end or its second
 returns : tie.Need-returns Inv-loop μ-loop Inv-tuples μ-tuples
 returns c =
     let at-start : tie.Start Inv-loop μ-loop Inv-tuples μ-tuples = search in
-    ⊎-elim (λ w. finish (at-start .args .b .now) (c .before .tuples .space) (c .before .tuples .at) (c .before .tuples .inv) (w .0 .left)) (⊎-elim (λ w. let T : AtTuple (at-start .args .b .now) (c .before .tuples .space) (c .before .tuples .at) (w .2 .result) (w .1 .result) = record { walkable = at-start .pre .used .walkable; spanning = c .before .tuples .inv; some = w .0 .taken; start = w .2 .ensures; key = w .1 .ensures } in leave _ _ _ _ _ T (no-first-end _ _ _ _ _ T (w .4 .left) (w .5 .result) (w .5 .ensures) (w .6 .result) (w .6 .ensures) (not-true _ (w .7 .taken)))) (λ w. let T : AtTuple (at-start .args .b .now) (c .before .tuples .space) (c .before .tuples .at) (w .2 .result) (w .1 .result) = record { walkable = at-start .pre .used .walkable; spanning = c .before .tuples .inv; some = w .0 .taken; start = w .2 .ensures; key = w .1 .ensures } in leave _ _ _ _ _ T (no-second-end _ _ _ _ _ T (w .4 .left) (w .5 .result) (w .5 .ensures) (w .6 .result) (w .6 .ensures) (w .8 .result) (w .8 .ensures) (w .9 .seek) (w .9 .inv) (sym (w .10 .ensures) ∙ not-true _ (w .11 .taken)) (sym (w .12 .ensures) ∙ not-true _ (w .13 .taken))))) (c .tuples-test .came)
+    let at-at-tuples : tie.At-tuples Inv-loop μ-loop Inv-tuples μ-tuples = search in
+    let w = at-start .pre .used .walkable in
+    let S = at-at-tuples .tuples .inv in
+    ⊎-elim (λ x. finish _ _ _ S (x .0 .left))
+    (⊎-elim
+    (λ x.
+    let T = at-tuple _ _ _ _ _ w S (x .0 .taken) (x .2 .ensures) (x .1 .ensures) in
+    leave _ _ _ _ _ T (no-first-end _ _ _ _ _ T (x .4 .left) (x .5 .result) (x .5 .ensures) (x .6 .result) (x .6 .ensures) (not-true _ (x .7 .taken))))
+    (λ x.
+    let T = at-tuple _ _ _ _ _ w S (x .0 .taken) (x .2 .ensures) (x .1 .ensures) in
+    leave _ _ _ _ _ T
+    (no-second-end _ _ _ _ _ T (x .4 .left) (x .5 .result) (x .5 .ensures) (x .6 .result) (x .6 .ensures) (x .8 .result) (x .8 .ensures) (x .9 .seek)
+    (x .9 .inv) _ _ (x .10 .ensures) (not-true _ (x .11 .taken)) (x .12 .ensures) (not-true _ (x .13 .taken)))))
+    (c .tuples-test .came)
 
 pub edges-ended-spec : {M : Type 1} → statement M
 edges-ended-spec =
@@ -117,9 +152,9 @@ edges-ended-spec =
     (λ c κs. search record-inside)
     (λ c. search fewer)
     tuples-again
-    node-key-requires
+    (λ c κs. search needs)
     holds-from-requires
-    node-key-requires-2
+    (λ c κs. search needs)
     loop-holds
     is-at-requires
     (λ c κs. search needs)

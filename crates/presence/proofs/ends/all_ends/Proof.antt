@@ -1,12 +1,6 @@
 use native.Mathlib.Omega.{arith}
 use borrow.Author.Tests.{not-true, not-false}
-use mathlib.Core.Bool.{true}
-use mathlib.Core.Logic.{_≢_}
-use mathlib.Core.Path.{_≡_, sym, subst}
-use Prim.Native.Nat.{ℕ, _≤_}
-use Rattle.layouts.specs.Buffer.{capacityOf, keyAt}
-use Rattle.presence.specs.Presence.{goodKey}
-use Rattle.presence.proofs.Shows.{Ending, ending-start, ending-no, ending-next, ending-end}
+use Rattle.presence.proofs.Shows.{Ending, kept-record, ending-start, ending-no, ending-next, ending-end}
 use Rattle.presence.proofs.ends.all_ends.Statement.{statement}
 use Rattle.presence.proofs.ends.all_ends.Tie as tie
 
@@ -21,9 +15,13 @@ loop-holds c = ending-start _ _ _
 
 end-there-requires : tie.Need-end-there-requires Inv-loop μ-loop
 end-there-requires c κs =
+    let at-in-loop : tie.In-loop Inv-loop μ-loop = search in
     let at-at-loop : tie.At-loop Inv-loop μ-loop = search in
-    let at-start : tie.Start Inv-loop μ-loop = search in
-    (at-start .pre .0, at-start .pre .1, subst (λ (x : ℕ). (x ≢ 0) × (x ≤ capacityOf (at-start .args .b .now)) × (goodKey (keyAt (at-start .args .b .now) x) ≡ true)) (sym (c .record-at .ensures)) (at-start .pre .2 .named _ (omega (arith, c .before .loop-test .taken, at-at-loop .loop .inv .low))))
+    let at-start : tie.Start Inv-loop μ-loop = search in (
+      at-start .pre .0,
+      at-start .pre .1,
+      kept-record _ _ _ _ _ (at-at-loop .loop .inv) (at-start .pre .2) (at-in-loop .loop-test .taken) (c .record-at .ensures),
+    )
 
 pub all-ends-spec : {M : Type 1} → statement M
 all-ends-spec =

@@ -1,34 +1,21 @@
 use mathlib.Core.Bool.{true}
 use mathlib.Core.Path.{_≡_, ap, _∙_}
-use Rattle.model.specs.declared.Key.{Key}
-use Rattle.layouts.specs.Buffer.{tuplesOf}
-use Rattle.presence.specs.Presence.{goodKey, endThere}
+use Rattle.presence.specs.Presence.{goodKey}
 use Rattle.presence.proofs.Rest.{record-inside}
 use Rattle.presence.proofs.Shows.{good-s, good-m, good-end-some, there-none, there-edge}
 use Rattle.presence.proofs.ends.end_there.Statement.{statement}
 use Rattle.presence.proofs.ends.end_there.Tie as tie
 
-returns : tie.Need-returns
-returns c =
-    let at-key-of : tie.After-key-of = search in
-    let at-start : tie.Start = search in
-    there-none (tuplesOf (at-start .args .b .now)) (at-key-of .key-of .result) (c .if1 .taken) ∙ ap (λ (k : Key). endThere (tuplesOf (at-start .args .b .now)) k) (at-key-of .key-of .ensures)
-
 node-there-requires : tie.Need-node-there-requires
 node-there-requires c κs =
     let at-key-of : tie.After-key-of = search in
     let at-start : tie.Start = search in
-    let good : goodKey (at-key-of .key-of .result) ≡ true = ap goodKey (at-key-of .key-of .ensures) ∙ at-start .pre .2 .2 in (at-start .pre .0, at-start .pre .1, good-s _ good, good-m _ good, good-end-some _ good (c .if1 .left))
-
-returns-2 : tie.Need-returns-2
-returns-2 c =
-    let at-key-of : tie.After-key-of = search in
-    let at-start : tie.Start = search in
-    there-edge (tuplesOf (at-start .args .b .now)) (at-key-of .key-of .result) (c .before .if1 .left) _ (c .node-there .ensures) ∙ ap (λ (k : Key). endThere (tuplesOf (at-start .args .b .now)) k) (at-key-of .key-of .ensures)
+    let good : goodKey (at-key-of .key-of .result) ≡ true = ap goodKey (at-key-of .key-of .ensures) ∙ at-start .pre .2 .2 in
+    (at-start .pre .0, at-start .pre .1, good-s _ good, good-m _ good, good-end-some _ good (c .if1 .left))
 
 pub end-there-spec : {M : Type 1} → statement M
 end-there-spec = tie.close (tie.spec
     (λ c κs. search record-inside)
-    returns
+    (λ c. search there-none)
     node-there-requires
-    returns-2)
+    (λ c. search there-edge))

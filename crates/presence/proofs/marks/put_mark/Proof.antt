@@ -33,10 +33,10 @@ same-length c =
 
 loop-again : tie.Need-loop-again Inv-loop μ-loop
 loop-again c =
+    let at-mark-at : tie.After-mark-at Inv-loop μ-loop = search in
     let at-in-loop : tie.In-loop Inv-loop μ-loop = search in
     let at-at-loop : tie.At-loop Inv-loop μ-loop = search in
-    let at-start : tie.Start Inv-loop μ-loop = search in
-    place-next _ (at-start .args .w) _ _ _ (at-at-loop .loop .left) (at-at-loop .loop .inv) (at-in-loop .loop-test .taken) _ (c .before .mark-at .ensures) (c .if1 .left)
+    place-next _ _ _ _ _ _ (at-at-loop .loop .inv) (at-in-loop .loop-test .taken) _ (at-mark-at .mark-at .ensures) (c .if1 .left)
 
 pub put-mark-spec : {M : Type 1} → statement M
 put-mark-spec =
