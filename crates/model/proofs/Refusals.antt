@@ -23,7 +23,8 @@ use Rattle.model.specs.declared.Removal.{Removal}
 use Rattle.model.specs.Operators.{operatorOf}
 use Rattle.model.specs.Pairs.{nodeOf, pairsOf, nodeNames, withEdge, anyPair}
 use Rattle.model.specs.Steps.{Reply, refusal, name, added, removed, valued, yesNo, pairs, fieldsOf, decoded, firstArgument, nodeTaken, removeNodes, destroyed, wouldAdd, listed, reply, idleReply, after}
-use Rattle.model.specs.Refusals.{Stop, stop, first, selectsNothing, noOperator, zeroName, lacksSpace, destroysUniverse, spaceAbsent, nodeAbsent, secondAbsent, edgeAbsent, listShort, full, ofCall, ofTuples, ifLookedUp, earlier, refusalOf}
+use Rattle.model.specs.Refusals.{Stop, stop, first, selectsNothing, noOperator, zeroName, lacksSpace, destroysUniverse, spaceAbsent, nodeAbsent}
+use Rattle.model.specs.Refusals.{secondAbsent, edgeAbsent, listShort, full, ofCall, ofTuples, ifLookedUp, earlier, refusalOf}
 use Rattle.model.specs.Machine.{State, Outcome, Request, calling, serve, step, idle, outcomeOf, machine}
 use Rattle.model.specs.OneCall.{writes}
 use Rattle.model.specs.CallLists.{toAdd, Exceeds}

@@ -10,7 +10,8 @@ use borrow.Author.Tests.{eqb-true, eqb-false, leb-true}
 use Rattle.model.specs.declared.Call.{Call}
 use Rattle.model.specs.Operators.{table, operatorOf, within, readsOf}
 use Rattle.model.specs.Steps.{Reply, refusal, decoded, objectKeys, created, destroyed, listed, firstArgument, wouldList, wouldAdd, reply, idleReply, after}
-use Rattle.model.specs.Refusals.{Stop, first, selectsNothing, noOperator, zeroName, lacksSpace, destroysUniverse, spaceAbsent, nodeAbsent, secondAbsent, workedOn, edgeAbsent, listShort, full, ofCall, ofTuples, ifLookedUp, earlier, refusalOf}
+use Rattle.model.specs.Refusals.{Stop, first, selectsNothing, noOperator, zeroName, lacksSpace, destroysUniverse, spaceAbsent, nodeAbsent, secondAbsent}
+use Rattle.model.specs.Refusals.{workedOn, edgeAbsent, listShort, full, ofCall, ofTuples, ifLookedUp, earlier, refusalOf}
 use Rattle.model.specs.Machine.{State, outcomeOf, machine}
 use Rattle.model.specs.Unread.{readable}
 use Rattle.model.proofs.Bools.{and-left, and-right, not-no}

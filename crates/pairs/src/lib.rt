@@ -11,13 +11,19 @@ ghost use Rattle.model.specs.OneCall.{listCount, unpack};
 ghost use Rattle.pairs.specs.InWords.{mostListed, lentWords, CallInWords};
 ghost use Rattle.pairs.specs.InPairs.{unpackedOnto, CallInPairs};
 
+// How many names there are: a pair is packed as its edge times this, and its node.
+const NAME_COUNT: u32 = 65536;
+
+// The words that the core is lent for its list.
+const MOST_LISTED: usize = 4096;
+
 // The pair that is packed in a word.
 fn pair_of(w: u32) -> Pair
     ensures { λ r. ⌜ r ≡ unpack w ⌝ }
 {
     Pair {
-        edge: EdgeName((w / 65536) as u16),
-        node: NodeName((w % 65536) as u16),
+        edge: EdgeName((w / NAME_COUNT) as u16),
+        node: NodeName((w % NAME_COUNT) as u16),
     }
 }
 
@@ -60,10 +66,10 @@ fn count_of(answer: Answer) -> usize
 fn lent_words(room: usize) -> usize
     ensures { λ r. ⌜ r ≡ lentWords room ⌝ }
 {
-    if room < 4096 {
+    if room < MOST_LISTED {
         return room;
     }
-    4096
+    MOST_LISTED
 }
 
 // One call on any buffer with an answer list of so much room: what it lists stands in the first words.
@@ -79,7 +85,7 @@ fn execute_words(store: &mut [u32], call: Call, room: usize, words: &mut [u32]) 
 pub fn execute_pairs(store: &mut [u32], call: Call, list: &mut [Pair]) -> Answer
     ensures { λ r. ⌜ CallInPairs (now (store .entry)) (now (list .entry)) call r (now (store .exit)) (now (list .exit)) ⌝ }
 {
-    let mut words = [0; 4096];
+    let mut words = [0; MOST_LISTED];
     let answer = execute_words(store, call, list.len(), &mut words);
     write_pairs(list, &words, count_of(answer));
     answer

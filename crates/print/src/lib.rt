@@ -10,6 +10,9 @@ ghost use Rattle.text.specs.Bytes.{equalsSign};
 ghost use Rattle.text.specs.Numerals.{digit, printedNumber};
 ghost use Rattle.print.specs.Answers.{signed, change, yesOrNo, entryText, entriesText, answerText, answerLine, Fits, Put, Printable};
 
+// How many names there are: an entry is packed as its edge times this, and its node.
+const NAME_COUNT: u32 = 65536;
+
 // Writes one byte.
 fn put_byte(out: &mut [u8], at: usize, b: u8) -> usize
     requires { ⌜ Fits (b ∷ []) (now out) at ⌝ }
@@ -129,9 +132,9 @@ fn put_entry(out: &mut [u8], at: usize, w: u32) -> usize
     ensures { λ r. ⌜ Put (entryText (unpack w)) (now (out .entry)) at r (now (out .exit)) ⌝ }
 {
     let behind_blank = put_byte(out, at, b' ');
-    let behind_edge = put_number(out, behind_blank, w / 65536);
+    let behind_edge = put_number(out, behind_blank, w / NAME_COUNT);
     let behind_colon = put_byte(out, behind_edge, b':');
-    put_number(out, behind_colon, w % 65536)
+    put_number(out, behind_colon, w % NAME_COUNT)
 }
 
 // Writes the first entries of the answer list.

@@ -109,6 +109,9 @@ pub fn destroy_space(b: &mut [u32], near: Near, f: Fields)
 
 // D 24–29: "the nodes of such pairs are collected first, then each is removed as by DUN".
 
+// Places for the nodes that are collected: two for each tuple that a store can hold.
+const MOST_COLLECTED: usize = 4096;
+
 // Removes each of the first `count` nodes of a list from space s (0: from all spaces), with its edges.
 fn remove_each(b: &mut [u32], s: u32, nodes: &[u32], count: usize)
     requires { ⌜ Linked (now b) × (count ≤ length (now nodes)) × NamedBelow (now nodes) count × (count ≤ 4096) ⌝ }
@@ -126,7 +129,7 @@ fn remove_listed(b: &mut [u32], near: Near, l: Listing, f: Fields)
     requires { ⌜ Readable (now b) × NearIn (now b) near × NamesAsked l f × NodesListed (listed l f (tuplesOf (now b))) ⌝ }
     ensures { λ _. ⌜ Edited (now (b .entry)) (now (b .exit)) (removeNodes (f .s) (listed l f (tuplesOf (now (b .entry)))) (tuplesOf (now (b .entry)))) ⌝ }
 {
-    let mut nodes: [u32; 4096] = [0; 4096];
+    let mut nodes: [u32; MOST_COLLECTED] = [0; MOST_COLLECTED];
     let count = listings::write_listed(b, near, l, f, &mut nodes);
     remove_each(b, f.s, &nodes, count);
 }
