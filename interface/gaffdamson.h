@@ -44,16 +44,29 @@ enum {
 #define GAFFDAMSON_WORDS(records) (4 + 6 * (size_t)(records))
 
 /*
- * An answer is kind * 2^32 + number.
+ * An answer: its kind, and two words that it carries.
  *
- *   kind                     number
- *   GAFFDAMSON_REFUSAL       which condition stopped the call, see below
- *   GAFFDAMSON_NAME          the name of a node or a space; UNIVERSE is 0
- *   GAFFDAMSON_VALUE         the value; 0 is NIL
- *   GAFFDAMSON_YES_NO        1 for yes, 0 for no
- *   GAFFDAMSON_LIST          k: the first k places of the lent list are
- *                            written, the rest of it stays
- *   GAFFDAMSON_CAPACITY      C; of gaffdamson_prepare alone
+ *   kind                  first                              second
+ *   GAFFDAMSON_REFUSAL    the condition that stopped the     0
+ *                         call, see below
+ *   GAFFDAMSON_NAME       the name of a node or a space;     0
+ *                         UNIVERSE is 0
+ *   GAFFDAMSON_VALUE      the value; 0 where it is NIL       1 for a number,
+ *                                                            0 for NIL
+ *   GAFFDAMSON_YES_NO     1 for yes, 0 for no                0
+ *   GAFFDAMSON_LIST       k: the first k places of the       0
+ *                         lent list are written, the rest
+ *                         of it stays
+ *   GAFFDAMSON_CAPACITY   the capacity; answered by          0
+ *                         gaffdamson_prepare alone
+ *   GAFFDAMSON_ADDED      the name                           how many tuples
+ *                                                            were added
+ *   GAFFDAMSON_REMOVED    the name                           how many tuples
+ *                                                            were removed
+ *
+ * C operators answer ADDED, D operators REMOVED, B operators NAME. The number
+ * counts tuples in all spaces: a new node in a numbered space is one there and
+ * one in UNIVERSE. It is 0 where nothing changed.
  */
 enum {
     GAFFDAMSON_REFUSAL = 0,
@@ -61,18 +74,14 @@ enum {
     GAFFDAMSON_VALUE = 2,
     GAFFDAMSON_YES_NO = 3,
     GAFFDAMSON_LIST = 4,
-    GAFFDAMSON_CAPACITY = 5
+    GAFFDAMSON_CAPACITY = 5,
+    GAFFDAMSON_ADDED = 6,
+    GAFFDAMSON_REMOVED = 7
 };
 
-/* The kind of an answer. */
-static inline uint32_t gaffdamson_kind(uint64_t answer) {
-    return (uint32_t)(answer >> 32);
-}
-
-/* The number of an answer. */
-static inline uint32_t gaffdamson_number(uint64_t answer) {
-    return (uint32_t)answer;
-}
+typedef struct {
+    uint32_t kind, first, second;
+} gaffdamson_answer;
 
 /*
  * Refusals. The first that applies is answered, and nothing is changed.
@@ -80,7 +89,7 @@ static inline uint32_t gaffdamson_number(uint64_t answer) {
  *   1   the buffer is not a store; of gaffdamson_prepare: its length is not
  *       10 to 12,297 words
  *   2   the operator is not 1 to 57
- *   3   a name that is read is 0
+ *   3   a name that is read is 0, or a word above 65,535, which is no name
  *  12   VOP, VIP, VUN, CUS, BUS, VUS, XUS, DUS with no selection; tested here,
  *       after 3 and before 4
  *   4   DUS on UNIVERSE
@@ -206,6 +215,14 @@ enum {
 };
 
 /*
+ * The form of a call's value: NIL, or (any other number) the value v.
+ */
+enum {
+    GAFFDAMSON_NIL = 0,
+    GAFFDAMSON_NUMBER = 1
+};
+
+/*
  * The form of a call's space: UNIVERSE, no selection (`-` in a script), or (any
  * other number) the space s. s is read in this last form alone.
  *
@@ -219,6 +236,49 @@ enum {
     GAFFDAMSON_NUMBERED = 1,
     GAFFDAMSON_NOTHING = 2
 };
+
+/*
+ * A call. Fields that are left out of a C initializer are 0, which is NIL and
+ * UNIVERSE:
+ *
+ *   gaffdamson_request create = {.op = GAFFDAMSON_CUN, .n = 1};
+ *
+ * Any words are a call. A name has 16 bits; a greater word stands for 0.
+ */
+typedef struct {
+    uint32_t op;            /* the operator */
+    uint32_t n, g, m;       /* the first node, the edge, the second node */
+    uint32_t value_form, v; /* the value */
+    uint32_t space_form, s; /* the space */
+} gaffdamson_request;
+
+/* A call on UNIVERSE, with NIL. */
+static inline gaffdamson_request gaffdamson_on_universe(
+    uint32_t op, uint32_t n, uint32_t g, uint32_t m) {
+    gaffdamson_request call = {op, n, g, m, GAFFDAMSON_NIL, 0, GAFFDAMSON_UNIVERSE, 0};
+    return call;
+}
+
+/* The same call in space s; also the call of CUS to DUS on space s. */
+static inline gaffdamson_request gaffdamson_in_space(gaffdamson_request call, uint32_t s) {
+    call.space_form = GAFFDAMSON_NUMBERED;
+    call.s = s;
+    return call;
+}
+
+/* The same call with no selection. */
+static inline gaffdamson_request gaffdamson_on_nothing(gaffdamson_request call) {
+    call.space_form = GAFFDAMSON_NOTHING;
+    call.s = 0;
+    return call;
+}
+
+/* The same call with the value v. */
+static inline gaffdamson_request gaffdamson_with_value(gaffdamson_request call, uint32_t v) {
+    call.value_form = GAFFDAMSON_NUMBER;
+    call.v = v;
+    return call;
+}
 
 /*
  * One entry of a list, in either of two forms. Lists ascend by edge, then
@@ -245,7 +305,7 @@ static inline uint16_t gaffdamson_entry_node(uint32_t entry) {
  * capacity C; or refusal 1, and then changes nothing. What the buffer held
  * before does not matter.
  */
-uint64_t gaffdamson_prepare(uint32_t *store, size_t store_length);
+gaffdamson_answer gaffdamson_prepare(uint32_t *store, size_t store_length);
 
 /* Is the buffer a store? 1 for yes, 0 for no. */
 uint32_t gaffdamson_is_store(const uint32_t *store, size_t store_length);
@@ -255,35 +315,34 @@ uint32_t gaffdamson_is_store(const uint32_t *store, size_t store_length);
  * is refused, 1. A list answer stands in the first k places of the list, as
  * packed entries; 2,048 places are enough for any call.
  */
-uint64_t gaffdamson_call(
+gaffdamson_answer gaffdamson_call(
     uint32_t *store, size_t store_length,
-    uint32_t op, uint16_t n, uint16_t g, uint16_t m, uint32_t v,
-    uint32_t form, uint16_t s,
+    gaffdamson_request call,
     uint32_t *list, size_t list_length);
 
 /* The same, with a list of pairs. */
-uint64_t gaffdamson_call_pairs(
+gaffdamson_answer gaffdamson_call_pairs(
     uint32_t *store, size_t store_length,
-    uint32_t op, uint16_t n, uint16_t g, uint16_t m, uint32_t v,
-    uint32_t form, uint16_t s,
+    gaffdamson_request call,
     gaffdamson_pair *list, size_t list_length);
 
 /*
  * Makes a whole list of calls, one after the other. The buffer is checked
  * once, before the first.
  *
- *   calls     six words for each call: the operator; n + 65,536 * g;
- *             m + 65,536 * s; v; the form of the space; the length of the
- *             call's list. There are calls_length / 6 calls, rounded down;
- *             words past the last are not read.
- *   answers   two words for each call: the kind and the number of its answer.
+ *   calls     nine words for each call: the eight of a gaffdamson_request, in
+ *             their order, then the length of the call's list. There are
+ *             calls_length / 9 calls, rounded down; words past the last are
+ *             not read.
+ *   answers   three words for each call: the kind, first and second of its
+ *             answer.
  *   lists     the lists of the calls, one after the other, each with the
  *             length that its call asks for, as packed entries.
  *
  * Gives 0 where every call was made (calls that were refused among them); 1
- * where the buffer is not a store; 9 where the answers have less than two words
- * for each call or the lists fewer places than the calls ask for together. 1
- * is tested before 9. After 1 or 9 nothing is changed. Words of answers and
+ * where the buffer is not a store; 9 where the answers have less than three
+ * words for each call or the lists fewer places than the calls ask for together.
+ * 1 is tested before 9. After 1 or 9 nothing is changed. Words of answers and
  * lists that belong to no call stay.
  */
 uint32_t gaffdamson_run(
@@ -293,8 +352,8 @@ uint32_t gaffdamson_run(
     uint32_t *lists, size_t lists_length);
 
 enum {
-    GAFFDAMSON_WORDS_IN_A_CALL = 6,
-    GAFFDAMSON_WORDS_IN_AN_ANSWER = 2
+    GAFFDAMSON_WORDS_IN_A_CALL = 9,
+    GAFFDAMSON_WORDS_IN_AN_ANSWER = 3
 };
 
 #ifdef __cplusplus

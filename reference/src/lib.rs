@@ -1,4 +1,4 @@
-//! A second, independent implementation of the graph store of document 01, with request 1 of document 02.
+//! A second, independent implementation of the graph store of document 01, with requests 1 and 2 of document 02.
 //!
 //! It is written from these (and the manual, GRASPER 1.0, 1978, where
 //! document 01 points to it), to be plainly right rather than fast.

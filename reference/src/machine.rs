@@ -106,8 +106,12 @@ pub struct Call {
 pub enum Answer {
     /// The number of the condition that stopped the call.
     Refusal(u32),
-    /// The name of a node or a space.
+    /// The name of a node or a space: the answer of B.
     Name(u16),
+    /// Of C: that name, and how many tuples were added.
+    Added(u16, usize),
+    /// Of D: that name, and how many tuples were removed.
+    Removed(u16, usize),
     Value(Value),
     YesNo(bool),
     /// Entries (edge, node), ascending, each once.
@@ -173,14 +177,17 @@ impl Machine {
 /// Request 1: the step where the space is nothing. "Nothing is looked up in the
 /// graph, so conditions 5 to 10 are not tested. C, B and D change nothing and
 /// return the first argument; X says no; S, SUN included, answers an empty
-/// list." 12, after 3: "a V operator, or any of 51–55".
+/// list." 12, after 3: "a V operator, or any of 51–55". Request 2: the number
+/// is "0 where nothing changed".
 fn step_on_nothing(kind: Kind, call: &Call) -> Answer {
     if reads_name_zero(call) {
         return Answer::Refusal(3);
     }
     match (call.operator, kind) {
         (51..=55, _) | (_, Kind::Value) => Answer::Refusal(12),
-        (_, Kind::Create | Kind::Bind | Kind::Destroy) => Answer::Name(call.n.0),
+        (_, Kind::Create) => Answer::Added(call.n.0, 0),
+        (_, Kind::Bind) => Answer::Name(call.n.0),
+        (_, Kind::Destroy) => Answer::Removed(call.n.0, 0),
         (_, Kind::Exists) => Answer::YesNo(false),
         (_, Kind::SetOf) => Answer::List(Vec::new()),
     }
@@ -362,11 +369,14 @@ fn edge_keys(s: SpaceName, n: Node, (g, m): Pair, direction: Direction) -> BTree
 /// C operators.
 impl Machine {
     /// Adds what is missing, with NIL; "a present one keeps its value".
+    /// Request 2: "The number is the difference of the tuple counts before and
+    /// after."
     fn create(&mut self, call: &Call) -> Answer {
+        let before = self.tuples.len();
         for key in self.missing_keys(call) {
             self.tuples.insert(key, NIL);
         }
-        first_argument(call)
+        Answer::Added(first_argument(call), self.tuples.len() - before)
     }
 
     /// The tuples to add: "the keys that the step would add and that are
@@ -394,11 +404,12 @@ fn created_keys(call: &Call) -> BTreeSet<Key> {
     }
 }
 
-/// The answer of C, B and D: "the first argument (51, 52, 55: the space)".
-fn first_argument(call: &Call) -> Answer {
+/// The name that C, B and D return: "the first argument (51, 52, 55: the
+/// space)".
+fn first_argument(call: &Call) -> u16 {
     match call.operator {
-        51 | 52 | 55 => Answer::Name(call.space.written().0),
-        _ => Answer::Name(call.n.0),
+        51 | 52 | 55 => call.space.written().0,
+        _ => call.n.0,
     }
 }
 
@@ -422,7 +433,7 @@ impl Machine {
         for key in self.named_tuples(call) {
             self.tuples.insert(key, call.v);
         }
-        first_argument(call)
+        Answer::Name(first_argument(call))
     }
 
     /// "the value in s". The conditions have made sure of the one tuple.
@@ -440,7 +451,9 @@ impl Machine {
 
 /// D operators.
 impl Machine {
+    /// The number is again the difference of the tuple counts, in all spaces.
     fn destroy(&mut self, call: &Call) -> Answer {
+        let before = self.tuples.len();
         match call.operator {
             12..=23 => self.destroy_edges(call),
             24..=29 => self.destroy_nodes(call),
@@ -448,7 +461,7 @@ impl Machine {
             55 => self.remove_space(call.space.written()),
             _ => (),
         }
-        first_argument(call)
+        Answer::Removed(first_argument(call), before - self.tuples.len())
     }
 
     /// Removes the edges of the chosen pairs of n.
@@ -572,7 +585,7 @@ mod tests {
                 n: Node(n),
                 ..call(45)
             };
-            assert_eq!(machine.step(&create), Answer::Name(n));
+            assert_eq!(machine.step(&create), Answer::Added(n, 1));
         }
         machine
     }
@@ -654,7 +667,7 @@ mod tests {
             space: Space::Numbered(SpaceName(9)),
             ..odd
         };
-        assert_eq!(machine.step(&space_9), Answer::Name(9));
+        assert_eq!(machine.step(&space_9), Answer::Added(9, 1));
         for space in [Space::Numbered(SpaceName(0)), Space::Nothing] {
             let sus = Call {
                 operator: 56,

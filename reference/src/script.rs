@@ -145,11 +145,14 @@ fn read_number(word: &[u8]) -> Option<u32> {
 }
 
 /// Prints an answer and a line feed: "`= name`, `V value`, `T` or `NIL`,
-/// `L k` then ` edge:node` for each, `R number`".
+/// `L k` then ` edge:node` for each, `R number`". Request 2: of C and D "as
+/// `= 1 +2` or `= 1 -5`, with `+0` or `-0` for none".
 pub fn print_answer(answer: &Answer, output: &mut impl Write) -> io::Result<()> {
     match answer {
         Answer::Refusal(number) => write!(output, "R {number}")?,
         Answer::Name(name) => write!(output, "= {name}")?,
+        Answer::Added(name, count) => write!(output, "= {name} +{count}")?,
+        Answer::Removed(name, count) => write!(output, "= {name} -{count}")?,
         Answer::Value(value) => write!(output, "V {value}")?,
         Answer::YesNo(true) => write!(output, "T")?,
         Answer::YesNo(false) => write!(output, "NIL")?,
@@ -213,6 +216,10 @@ mod tests {
     fn every_answer_has_its_line() {
         assert_eq!(printed(&Answer::Refusal(11)), "R 11\n");
         assert_eq!(printed(&Answer::Name(7)), "= 7\n");
+        assert_eq!(printed(&Answer::Added(1, 2)), "= 1 +2\n");
+        assert_eq!(printed(&Answer::Added(0, 0)), "= 0 +0\n");
+        assert_eq!(printed(&Answer::Removed(1, 2_047)), "= 1 -2047\n");
+        assert_eq!(printed(&Answer::Removed(65_535, 0)), "= 65535 -0\n");
         assert_eq!(printed(&Answer::Value(u32::MAX)), "V 4294967295\n");
         assert_eq!(printed(&Answer::YesNo(true)), "T\n");
         assert_eq!(printed(&Answer::YesNo(false)), "NIL\n");

@@ -72,6 +72,16 @@ fn a_program_with_one_wrong_answer_fails() {
 }
 
 #[test]
+fn a_program_that_leaves_out_a_number_fails() {
+    filtered_program_fails("no-number", "sed 's/ +0$//'", 30);
+}
+
+#[test]
+fn a_program_with_a_wrong_sign_fails() {
+    filtered_program_fails("sign", "sed 's/ -0$/ +0/'", 20);
+}
+
+#[test]
 fn nothing_is_compared_without_a_program_or_scripts() {
     let missing = Path::new("/missing/slips");
     let (code, last, _) = compared(&folder("missing"), missing, &["random", "3", "1"]);
@@ -101,7 +111,8 @@ fn everything_occurs_in_random_scripts() {
         tally.add(&input, &script::printed(&input));
     }
     let kinds = [
-        "=", "L", "NIL", "R 10", "R 11", "R 12", "R 3", "R 4", "R 5", "R 6", "R 7", "R 8", "T", "V",
+        "=", "= +", "= +0", "= -", "= -0", "L", "NIL", "R 10", "R 11", "R 12", "R 3", "R 4", "R 5",
+        "R 6", "R 7", "R 8", "T", "V",
     ];
     assert_eq!(tally.kinds(), kinds);
     assert_eq!(tally.operators(), (1..=57).collect::<Vec<u32>>());

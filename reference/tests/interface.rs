@@ -4,7 +4,7 @@ use std::collections::BTreeMap;
 use std::fs;
 use std::path::Path;
 
-use gaffdamson_reference::operators;
+use gaffdamson_reference::{operators, packed};
 
 /// The names with their numbers that stand in a file, on lines of their own.
 fn names(file: &str, prefix: &str, between: &str, end: &[char]) -> BTreeMap<String, u32> {
@@ -59,13 +59,47 @@ fn refusals_have_the_same_names_for_c_and_rust() {
 }
 
 #[test]
-fn spaces_have_the_same_forms_for_c_and_rust() {
+fn values_and_spaces_have_the_same_forms_for_c_and_rust() {
     let for_c = names_for_c();
-    let for_rust = names("rust/src/c.rs", "const ", ": u32 = ", &[';']);
-    let forms = [("UNIVERSE", 0), ("NUMBERED", 1), ("NOTHING", 2)];
+    let for_rust = names("rust/src/words.rs", "const ", ": u32 = ", &[';']);
+    let forms = [
+        ("NIL", 0),
+        ("NUMBER", 1),
+        ("UNIVERSE", 0),
+        ("NUMBERED", 1),
+        ("NOTHING", 2),
+    ];
     for (name, form) in forms {
         assert_eq!(for_c.get(name), Some(&form), "{name}");
         assert_eq!(for_rust.get(name), Some(&form), "{name}");
     }
     assert_eq!(for_rust.len(), forms.len());
+}
+
+#[test]
+fn answers_have_the_same_kinds_for_c_and_rust() {
+    let for_c = names_for_c();
+    let for_rust = names("rust/src/answer.rs", "const ", ": u32 = ", &[';']);
+    let kinds = [
+        "REFUSAL", "NAME", "VALUE", "YES_NO", "LIST", "CAPACITY", "ADDED", "REMOVED",
+    ];
+    for (name, kind) in kinds.into_iter().zip(0..) {
+        assert_eq!(for_c.get(name), Some(&kind), "{name}");
+        assert_eq!(for_rust.get(name), Some(&kind), "{name}");
+    }
+    assert_eq!(for_rust.len(), kinds.len());
+}
+
+#[test]
+fn calls_and_answers_have_the_same_words_for_c_and_rust() {
+    let for_c = names_for_c();
+    let for_rust = names("rust/src/words.rs", "pub const ", ": usize = ", &[';']);
+    for (name, words) in [
+        ("WORDS_IN_A_CALL", packed::WORDS_IN_A_CALL),
+        ("WORDS_IN_AN_ANSWER", packed::WORDS_IN_AN_ANSWER),
+    ] {
+        let words = words as u32;
+        assert_eq!(for_c.get(name), Some(&words), "{name}");
+        assert_eq!(for_rust.get(name), Some(&words), "{name}");
+    }
 }

@@ -191,6 +191,20 @@ fn formula(machine: &mut Machine, call: &Call) -> Option<Vec<Call>> {
     Some(for_each(machine, call, set, part, fill))
 }
 
+/// How many tuples an answer of C or D says were added or removed.
+fn changed(answer: &Answer) -> Option<usize> {
+    match answer {
+        Answer::Added(_, count) | Answer::Removed(_, count) => Some(*count),
+        _ => None,
+    }
+}
+
+/// Makes a call of C or D, and says how many tuples it added or removed.
+fn made(machine: &mut Machine, call: &Call) -> usize {
+    changed(&machine.step(call)).expect("an answer of C or D")
+}
+
+/// What the parts add or remove is what the operator adds or removes.
 #[test]
 fn operators_are_built_from_others() {
     let mut compared = 0;
@@ -201,12 +215,11 @@ fn operators_are_built_from_others() {
             let call = draws.call();
             let mut at_once = machine.clone();
             let answer = at_once.step(&call);
-            if matches!(answer, Answer::Name(_)) {
+            if changed(&answer).is_some() {
                 if let Some(calls) = formula(&mut machine.clone(), &call) {
-                    for part in calls {
-                        assert!(matches!(machine.step(&part), Answer::Name(_)));
-                    }
+                    let parts: usize = calls.iter().map(|part| made(&mut machine, part)).sum();
                     assert_eq!(machine, at_once, "{call:?}");
+                    assert_eq!(Some(parts), changed(&answer), "{call:?}");
                     compared += 1;
                 }
             }

@@ -49,7 +49,8 @@ fn on_graph(capacity: usize) -> Compared {
     let mut compared = Compared::new(capacity, 3);
     for line in GRAPH {
         let call = script::read_call(line.as_bytes(), 0).expect("readable");
-        assert!(matches!(compared.step(&call), Answer::Name(_)), "{line}");
+        let is_refused = matches!(compared.step(&call), Answer::Refusal(_));
+        assert!(!is_refused, "{line}");
     }
     compared
 }
@@ -60,7 +61,9 @@ const TUPLES: usize = 13;
 /// What an operator from 1 to 50 answers on nothing; V is refused.
 fn expected(operator: u32, n: u16) -> Answer {
     match kind(operator) {
-        Some(Kind::Create | Kind::Bind | Kind::Destroy) => Answer::Name(n),
+        Some(Kind::Create) => Answer::Added(n, 0),
+        Some(Kind::Bind) => Answer::Name(n),
+        Some(Kind::Destroy) => Answer::Removed(n, 0),
         Some(Kind::Exists) => Answer::YesNo(false),
         Some(Kind::SetOf) => Answer::List(Vec::new()),
         _ => Answer::Refusal(12),
@@ -159,7 +162,7 @@ fn condition_9_is_not_tested() {
     check_with(
         2_048,
         0,
-        &[("CUN 1", "= 1"), ("SUN", "R 9"), ("SUN -", "L 0")],
+        &[("CUN 1", "= 1 +1"), ("SUN", "R 9"), ("SUN -", "L 0")],
     );
 }
 
@@ -178,10 +181,10 @@ fn condition_10_is_not_tested() {
         check_call(
             &mut compared,
             &call([n, g, m], operator, 0),
-            &Answer::Name(n),
+            &Answer::Added(n, 0),
         );
     }
-    let fresh = [("CUN 1", "R 10"), ("CUN 1 -", "= 1"), ("CUN 1", "R 10")];
+    let fresh = [("CUN 1", "R 10"), ("CUN 1 -", "= 1 +0"), ("CUN 1", "R 10")];
     check_with(1, 0, &fresh);
 }
 
@@ -211,11 +214,11 @@ fn an_empty_space_universe_and_nothing_are_three() {
             ("VUS -", "R 12"),
             ("DUS U", "R 4"),
             ("DUS -", "R 12"),
-            ("DUS 8", "= 8"),
+            ("DUS 8", "= 8 -1"),
             // and what makes one.
-            ("CUN 4 -", "= 4"),
+            ("CUN 4 -", "= 4 +0"),
             ("XUN 4", "NIL"),
-            ("CUN 4 9", "= 4"),
+            ("CUN 4 9", "= 4 +2"),
             ("XUN 4", "T"),
         ],
     );
@@ -431,7 +434,8 @@ fn random_lists_have_nothing_with_every_operator() {
             if *answer != Answer::Refusal(3) {
                 *met.entry(call.operator).or_insert(0) += 1;
             }
-            if let (1..=50, Answer::Name(_)) = (call.operator, answer) {
+            let is_refused = matches!(answer, Answer::Refusal(_));
+            if call.operator <= 50 && !is_refused {
                 assert_eq!(*answer, expected(call.operator, call.n.0));
             }
         }
@@ -449,7 +453,8 @@ fn random_lists_have_nothing_with_every_operator() {
 #[test]
 fn a_run_of_words_has_three_forms() {
     let compared = on_graph(40);
-    let sun = |form: u32, s: u32| [50, 0, s << 16, 0, form, 3];
+    let sun = |form: u32, s: u32| [50, 0, 0, 0, 0, 0, form, s, 3];
+    let on_nothing = |operator, n, s| [operator, n, 0, 0, 0, 0, 2, s, 0];
     let calls = [
         sun(0, 9),
         sun(1, 9),
@@ -458,32 +463,32 @@ fn a_run_of_words_has_three_forms() {
         sun(2, 7),
         sun(3, 9),
         sun(3, 7),
-        [45, 7, 9 << 16, 0, 2, 0],
-        [49, 1, 9 << 16, 0, 2, 0],
-        [51, 0, 7 << 16, 0, 2, 0],
-        [55, 0, 9 << 16, 0, 2, 0],
-        [47, 1, 9 << 16, 0, 2, 0],
-        [47, 0, 9 << 16, 0, 2, 0],
-        [56, 0, 0, 0, 2, 3],
+        on_nothing(45, 7, 9),
+        on_nothing(49, 1, 9),
+        on_nothing(51, 0, 7),
+        on_nothing(55, 0, 9),
+        on_nothing(47, 1, 9),
+        on_nothing(47, 0, 9),
+        [56, 0, 0, 0, 0, 0, 2, 0, 3],
     ];
     let expected = [
-        [4, 3],
-        [4, 2],
-        [4, 0],
-        [4, 0],
-        [4, 0],
-        [4, 2],
-        [0, 5],
-        [1, 7],
-        [1, 1],
-        [0, 12],
-        [0, 12],
-        [0, 12],
-        [0, 3],
-        [4, 3],
+        [4, 3, 0],
+        [4, 2, 0],
+        [4, 0, 0],
+        [4, 0, 0],
+        [4, 0, 0],
+        [4, 2, 0],
+        [0, 5, 0],
+        [6, 7, 0],
+        [7, 1, 0],
+        [0, 12, 0],
+        [0, 12, 0],
+        [0, 12, 0],
+        [0, 3, 0],
+        [4, 3, 0],
     ];
     let mut words = compared.words.clone();
-    let mut answers = [[9; 2]; 14];
+    let mut answers = [[9; 3]; 14];
     let mut lists = [99; 24];
     let answers_flat = answers.as_flattened_mut();
     assert_eq!(

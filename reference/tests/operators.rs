@@ -43,13 +43,13 @@ fn on_star(lines: &[(&str, &str)]) {
 #[test]
 fn operator_1_cop() {
     on_graph(&[
-        ("COP 2 9 3", "= 2"),
+        ("COP 2 9 3", "= 2 +1"),
         ("SOP 2", "L 2 5:1 9:3"),
         ("SOP 3", "L 1 7:1"),
         ("VOP 2 9 3", "V 0"),
     ]);
     on_graph(&[
-        ("COP 2 4 1 9", "= 2"),
+        ("COP 2 4 1 9", "= 2 +2"),
         ("SOP 2 9", "L 1 4:1"),
         ("SOP 2", "L 2 4:1 5:1"),
     ]);
@@ -60,7 +60,7 @@ fn operator_1_cop_keeps_what_is_present() {
     on_graph(&[
         ("BOP 1 5 2 60", "= 1"),
         ("BOP 1 5 2 61 9", "= 1"),
-        ("COP 1 5 2 9", "= 1"),
+        ("COP 1 5 2 9", "= 1 +0"),
         ("VOP 1 5 2", "V 60"),
         ("VOP 1 5 2 9", "V 61"),
     ]);
@@ -69,12 +69,12 @@ fn operator_1_cop_keeps_what_is_present() {
 #[test]
 fn operator_2_cip() {
     on_graph(&[
-        ("CIP 2 9 3", "= 2"),
+        ("CIP 2 9 3", "= 2 +1"),
         ("SOP 2", "L 1 5:1"),
         ("SOP 3", "L 2 7:1 9:2"),
     ]);
     on_graph(&[
-        ("CIP 1 5 2 9", "= 1"),
+        ("CIP 1 5 2 9", "= 1 +1"),
         ("SOP 2 9", "L 1 5:1"),
         ("SOP 2", "L 1 5:1"),
     ]);
@@ -83,13 +83,13 @@ fn operator_2_cip() {
 #[test]
 fn operator_3_cap() {
     on_graph(&[
-        ("CAP 2 9 3", "= 2"),
+        ("CAP 2 9 3", "= 2 +2"),
         ("SOP 2", "L 2 5:1 9:3"),
         ("SOP 3", "L 2 7:1 9:2"),
     ]);
     on_graph(&[
         ("BOP 1 5 2 61 9", "= 1"),
-        ("CAP 2 5 1 9", "= 2"),
+        ("CAP 2 5 1 9", "= 2 +1"),
         ("VOP 1 5 2 9", "V 61"),
         ("VOP 2 5 1 9", "V 0"),
     ]);
@@ -182,14 +182,14 @@ fn operator_11_xap() {
 #[test]
 fn operator_12_dop() {
     on_graph(&[
-        ("DOP 1 5 2", "= 1"),
+        ("DOP 1 5 2", "= 1 -2"),
         ("XOP 1 5 2", "NIL"),
         ("XOP 1 5 2 9", "NIL"),
         ("XOP 2 5 1", "T"),
-        ("DOP 1 5 2", "= 1"),
+        ("DOP 1 5 2", "= 1 -0"),
     ]);
     on_graph(&[
-        ("DOP 1 5 2 9", "= 1"),
+        ("DOP 1 5 2 9", "= 1 -1"),
         ("XOP 1 5 2 9", "NIL"),
         ("XOP 1 5 2", "T"),
     ]);
@@ -198,12 +198,12 @@ fn operator_12_dop() {
 #[test]
 fn operator_13_dip() {
     on_graph(&[
-        ("DIP 1 5 2", "= 1"),
+        ("DIP 1 5 2", "= 1 -1"),
         ("XOP 2 5 1", "NIL"),
         ("XOP 1 5 2", "T"),
     ]);
     on_graph(&[
-        ("DIP 2 5 1 9", "= 2"),
+        ("DIP 2 5 1 9", "= 2 -1"),
         ("XOP 1 5 2 9", "NIL"),
         ("XOP 1 5 2", "T"),
     ]);
@@ -212,13 +212,13 @@ fn operator_13_dip() {
 #[test]
 fn operator_14_dap() {
     on_graph(&[
-        ("DAP 2 5 1", "= 2"),
+        ("DAP 2 5 1", "= 2 -3"),
         ("XOP 2 5 1", "NIL"),
         ("XOP 1 5 2", "NIL"),
         ("XOP 1 5 2 9", "NIL"),
     ]);
     on_graph(&[
-        ("DAP 2 5 1 9", "= 2"),
+        ("DAP 2 5 1 9", "= 2 -1"),
         ("XOP 1 5 2 9", "NIL"),
         ("XOP 1 5 2", "T"),
         ("XOP 2 5 1", "T"),
@@ -228,14 +228,14 @@ fn operator_14_dap() {
 #[test]
 fn operator_15_dog() {
     on_graph(&[
-        ("DOG 1", "= 1"),
+        ("DOG 1", "= 1 -4"),
         ("SOP 1", "L 0"),
         ("SIP 1", "L 2 5:2 7:3"),
         ("SAP 1 9", "L 0"),
         ("SUN", "L 3 0:1 0:2 0:3"),
     ]);
     on_graph(&[
-        ("DOG 1 9", "= 1"),
+        ("DOG 1 9", "= 1 -1"),
         ("SOP 1 9", "L 0"),
         ("SOP 1", "L 3 5:2 6:3 8:1"),
     ]);
@@ -244,13 +244,13 @@ fn operator_15_dog() {
 #[test]
 fn operator_16_dig() {
     on_graph(&[
-        ("DIG 1", "= 1"),
+        ("DIG 1", "= 1 -3"),
         ("SIP 1", "L 0"),
         ("SOP 1", "L 2 5:2 6:3"),
         ("SOP 1 9", "L 1 5:2"),
     ]);
     on_graph(&[
-        ("DIG 2 9", "= 2"),
+        ("DIG 2 9", "= 2 -1"),
         ("SOP 1 9", "L 0"),
         ("SOP 1", "L 3 5:2 6:3 8:1"),
     ]);
@@ -259,14 +259,14 @@ fn operator_16_dig() {
 #[test]
 fn operator_17_dag() {
     on_graph(&[
-        ("DAG 1", "= 1"),
+        ("DAG 1", "= 1 -6"),
         ("SAP 1", "L 0"),
         ("SAP 1 9", "L 0"),
         ("SUN", "L 3 0:1 0:2 0:3"),
         ("SUN 9", "L 2 0:1 0:2"),
     ]);
     on_graph(&[
-        ("DAG 2 9", "= 2"),
+        ("DAG 2 9", "= 2 -1"),
         ("SAP 1 9", "L 0"),
         ("SAP 1", "L 4 5:2 6:3 7:3 8:1"),
     ]);
@@ -275,13 +275,13 @@ fn operator_17_dag() {
 #[test]
 fn operator_18_dogg() {
     on_graph(&[
-        ("DOGG 1 5", "= 1"),
+        ("DOGG 1 5", "= 1 -2"),
         ("SOP 1", "L 2 6:3 8:1"),
         ("SOP 1 9", "L 0"),
         ("SOP 2", "L 1 5:1"),
     ]);
     on_graph(&[
-        ("DOGG 1 5 9", "= 1"),
+        ("DOGG 1 5 9", "= 1 -1"),
         ("SOP 1 9", "L 0"),
         ("SOP 1", "L 3 5:2 6:3 8:1"),
     ]);
@@ -290,15 +290,15 @@ fn operator_18_dogg() {
 #[test]
 fn operator_19_digg() {
     on_graph(&[
-        ("DIGG 1 5", "= 1"),
+        ("DIGG 1 5", "= 1 -1"),
         ("SIP 1", "L 2 7:3 8:1"),
         ("SOP 1", "L 3 5:2 6:3 8:1"),
         ("SOP 1 9", "L 1 5:2"),
     ]);
     on_graph(&[
-        ("DIGG 1 5 9", "= 1"),
+        ("DIGG 1 5 9", "= 1 -0"),
         ("SOP 1 9", "L 1 5:2"),
-        ("DIGG 2 5 9", "= 2"),
+        ("DIGG 2 5 9", "= 2 -1"),
         ("SOP 1 9", "L 0"),
         ("SOP 1", "L 3 5:2 6:3 8:1"),
     ]);
@@ -307,12 +307,12 @@ fn operator_19_digg() {
 #[test]
 fn operator_20_dagg() {
     on_graph(&[
-        ("DAGG 1 5", "= 1"),
+        ("DAGG 1 5", "= 1 -3"),
         ("SAP 1", "L 3 6:3 7:3 8:1"),
         ("SAP 1 9", "L 0"),
     ]);
     on_graph(&[
-        ("DAGG 2 5 9", "= 2"),
+        ("DAGG 2 5 9", "= 2 -1"),
         ("SAP 1 9", "L 0"),
         ("SAP 1", "L 4 5:2 6:3 7:3 8:1"),
     ]);
@@ -321,12 +321,12 @@ fn operator_20_dagg() {
 #[test]
 fn operator_21_dogn() {
     on_graph(&[
-        ("DOGN 1 3", "= 1"),
+        ("DOGN 1 3", "= 1 -1"),
         ("SOP 1", "L 2 5:2 8:1"),
         ("SIP 1", "L 3 5:2 7:3 8:1"),
     ]);
     on_graph(&[
-        ("DOGN 1 2 9", "= 1"),
+        ("DOGN 1 2 9", "= 1 -1"),
         ("SOP 1 9", "L 0"),
         ("SOP 1", "L 3 5:2 6:3 8:1"),
     ]);
@@ -335,18 +335,18 @@ fn operator_21_dogn() {
 #[test]
 fn operator_22_dign() {
     on_graph(&[
-        ("DIGN 1 3", "= 1"),
+        ("DIGN 1 3", "= 1 -1"),
         ("SIP 1", "L 2 5:2 8:1"),
         ("SOP 1", "L 3 5:2 6:3 8:1"),
     ]);
-    on_graph(&[("DIGN 2 1 9", "= 2"), ("SOP 1 9", "L 0")]);
+    on_graph(&[("DIGN 2 1 9", "= 2 -1"), ("SOP 1 9", "L 0")]);
 }
 
 #[test]
 fn operator_23_dagn() {
-    on_graph(&[("DAGN 1 3", "= 1"), ("SAP 1", "L 2 5:2 8:1")]);
+    on_graph(&[("DAGN 1 3", "= 1 -2"), ("SAP 1", "L 2 5:2 8:1")]);
     on_graph(&[
-        ("DAGN 2 1 9", "= 2"),
+        ("DAGN 2 1 9", "= 2 -1"),
         ("SAP 1 9", "L 0"),
         ("SAP 1", "L 4 5:2 6:3 7:3 8:1"),
     ]);
@@ -354,15 +354,15 @@ fn operator_23_dagn() {
 
 #[test]
 fn operator_24_don() {
-    on_star(&[("DON 1", "= 1"), ("SUN", "L 4 0:1 0:4 0:5 0:6")]);
+    on_star(&[("DON 1", "= 1 -4"), ("SUN", "L 4 0:1 0:4 0:5 0:6")]);
     on_graph(&[
-        ("DON 2", "= 2"),
+        ("DON 2", "= 2 -8"),
         ("SUN", "L 2 0:2 0:3"),
         ("SUN 9", "L 1 0:2"),
         ("SAP 3", "L 0"),
     ]);
     on_graph(&[
-        ("DON 1 9", "= 1"),
+        ("DON 1 9", "= 1 -2"),
         ("SUN 9", "L 1 0:1"),
         ("SAP 1 9", "L 0"),
         ("SUN", "L 3 0:1 0:2 0:3"),
@@ -371,9 +371,9 @@ fn operator_24_don() {
 
 #[test]
 fn operator_25_din() {
-    on_star(&[("DIN 1", "= 1"), ("SUN", "L 4 0:1 0:2 0:3 0:6")]);
+    on_star(&[("DIN 1", "= 1 -4"), ("SUN", "L 4 0:1 0:2 0:3 0:6")]);
     on_graph(&[
-        ("DIN 2 9", "= 2"),
+        ("DIN 2 9", "= 2 -2"),
         ("SUN 9", "L 1 0:2"),
         ("SOP 1", "L 3 5:2 6:3 8:1"),
     ]);
@@ -381,9 +381,9 @@ fn operator_25_din() {
 
 #[test]
 fn operator_26_dan() {
-    on_star(&[("DAN 1", "= 1"), ("SUN", "L 2 0:1 0:6")]);
+    on_star(&[("DAN 1", "= 1 -8"), ("SUN", "L 2 0:1 0:6")]);
     on_graph(&[
-        ("DAN 2 9", "= 2"),
+        ("DAN 2 9", "= 2 -2"),
         ("SUN 9", "L 1 0:2"),
         ("SUN", "L 3 0:1 0:2 0:3"),
     ]);
@@ -391,21 +391,21 @@ fn operator_26_dan() {
 
 #[test]
 fn operator_27_dong() {
-    on_star(&[("DONG 1 5", "= 1"), ("SUN", "L 5 0:1 0:3 0:4 0:5 0:6")]);
-    on_graph(&[("DONG 1 5 9", "= 1"), ("SUN 9", "L 1 0:1")]);
-    on_graph(&[("DONG 1 6 9", "= 1"), ("SUN 9", "L 2 0:1 0:2")]);
+    on_star(&[("DONG 1 5", "= 1 -2"), ("SUN", "L 5 0:1 0:3 0:4 0:5 0:6")]);
+    on_graph(&[("DONG 1 5 9", "= 1 -2"), ("SUN 9", "L 1 0:1")]);
+    on_graph(&[("DONG 1 6 9", "= 1 -0"), ("SUN 9", "L 2 0:1 0:2")]);
 }
 
 #[test]
 fn operator_28_ding() {
-    on_star(&[("DING 1 5", "= 1"), ("SUN", "L 5 0:1 0:2 0:3 0:5 0:6")]);
-    on_graph(&[("DING 2 5 9", "= 2"), ("SUN 9", "L 1 0:2")]);
+    on_star(&[("DING 1 5", "= 1 -2"), ("SUN", "L 5 0:1 0:2 0:3 0:5 0:6")]);
+    on_graph(&[("DING 2 5 9", "= 2 -2"), ("SUN 9", "L 1 0:2")]);
 }
 
 #[test]
 fn operator_29_dang() {
-    on_star(&[("DANG 1 5", "= 1"), ("SUN", "L 4 0:1 0:3 0:5 0:6")]);
-    on_graph(&[("DANG 2 5 9", "= 2"), ("SUN 9", "L 1 0:2")]);
+    on_star(&[("DANG 1 5", "= 1 -4"), ("SUN", "L 4 0:1 0:3 0:5 0:6")]);
+    on_graph(&[("DANG 2 5 9", "= 2 -2"), ("SUN 9", "L 1 0:2")]);
 }
 
 #[test]
@@ -482,11 +482,11 @@ fn operators_42_to_44_song_sing_sang() {
 #[test]
 fn operator_45_cun() {
     on_graph(&[
-        ("CUN 4 9", "= 4"),
+        ("CUN 4 9", "= 4 +2"),
         ("SUN 9", "L 3 0:1 0:2 0:4"),
         ("SUN", "L 4 0:1 0:2 0:3 0:4"),
         ("BUN 4 60", "= 4"),
-        ("CUN 4", "= 4"),
+        ("CUN 4", "= 4 +0"),
         ("VUN 4", "V 60"),
         ("VUN 4 9", "V 0"),
     ]);
@@ -519,16 +519,16 @@ fn operator_48_xun() {
 #[test]
 fn operator_49_dun() {
     on_graph(&[
-        ("DUN 1", "= 1"),
+        ("DUN 1", "= 1 -8"),
         ("SUN", "L 2 0:2 0:3"),
         ("SUN 9", "L 1 0:2"),
         ("SAP 2", "L 0"),
         ("SAP 3", "L 0"),
     ]);
     on_graph(&[
-        ("DUN 3 9", "= 3"),
+        ("DUN 3 9", "= 3 -0"),
         ("SUN", "L 3 0:1 0:2 0:3"),
-        ("DUN 1 9", "= 1"),
+        ("DUN 1 9", "= 1 -2"),
         ("SUN 9", "L 1 0:2"),
         ("SAP 2 9", "L 0"),
         ("SAP 2", "L 1 5:1"),
@@ -547,10 +547,10 @@ fn operator_50_sun() {
 #[test]
 fn operator_51_cus() {
     on_graph(&[
-        ("CUS 8", "= 8"),
+        ("CUS 8", "= 8 +1"),
         ("SUN 8", "L 0"),
         ("BUS 9 60", "= 9"),
-        ("CUS 9", "= 9"),
+        ("CUS 9", "= 9 +0"),
         ("VUS 9", "V 60"),
         ("SUN 9", "L 2 0:1 0:2"),
     ]);
@@ -578,12 +578,12 @@ fn operator_54_xus() {
 #[test]
 fn operator_55_dus() {
     on_graph(&[
-        ("DUS 9", "= 9"),
+        ("DUS 9", "= 9 -4"),
         ("XUS 9", "NIL"),
         ("SUN 9", "R 5"),
         ("SUN", "L 3 0:1 0:2 0:3"),
         ("SAP 1", "L 4 5:2 6:3 7:3 8:1"),
-        ("DUS 8", "= 8"),
+        ("DUS 8", "= 8 -0"),
     ]);
 }
 
@@ -594,8 +594,8 @@ fn operators_56_and_57_sus() {
         ("SUS 1", "L 2 0:0 0:9"),
         ("SUS 3", "L 1 0:0"),
         ("SUS 4", "R 6"),
-        ("CUS 65535", "= 65535"),
-        ("CUS 1", "= 1"),
+        ("CUS 65535", "= 65535 +1"),
+        ("CUS 1", "= 1 +1"),
         ("SUS", "L 4 0:0 0:1 0:9 0:65535"),
     ]);
 }

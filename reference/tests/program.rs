@@ -27,7 +27,7 @@ fn check(options: &[&str], input: &str, expected: &str) {
 
 #[test]
 fn a_script_runs() {
-    check(&[], "CUN 1\nSUN\nx\n", "= 1\nL 1 0:1\nR 11\n");
+    check(&[], "CUN 1\nSUN\nx\n", "= 1 +1\nL 1 0:1\nR 11\n");
     check(&[], "", "");
 }
 
@@ -43,11 +43,11 @@ fn a_script_that_is_too_long_prints_one_line() {
 #[test]
 fn capacity_and_list_length() {
     check(&["--capacity", "1"], "CUN 1\n", "R 10\n");
-    check(&["--capacity", "100000"], "CUN 1\n", "= 1\n");
+    check(&["--capacity", "100000"], "CUN 1\n", "= 1 +1\n");
     check(
         &["--list-length", "0"],
         "SUN\nCUN 1\nSUN\n",
-        "L 0\n= 1\nR 9\n",
+        "L 0\n= 1 +1\nR 9\n",
     );
 }
 
@@ -55,19 +55,19 @@ fn capacity_and_list_length() {
 fn raw_calls() {
     let input = "45 1 0 0 0 U 0\n0 1 1 1 1 U 1\n4294967295 0 0 0 0 0 0\n46 1 0 0 4294967295 U 0\n\
                  47 1 9 9 9 U 0\n50 0 0 0 0 U 0\n50 0 0 0 0 U 1\n50 0 0 0 0 0 1\n48 2 0 0 0 U 0\n";
-    let expected = "= 1\nR 2\nR 2\n= 1\nV 4294967295\nR 9\nL 1 0:1\nR 3\nNIL\n";
+    let expected = "= 1 +1\nR 2\nR 2\n= 1\nV 4294967295\nR 9\nL 1 0:1\nR 3\nNIL\n";
     check(&["--raw"], input, expected);
 }
 
 #[test]
 fn the_final_state() {
-    let expected = "= 9\n= 1\n= 1\n# 0 0 0 0 0\n# 0 1 0 0 0\n# 9 0 0 0 0\n# 9 1 0 0 7\n";
+    let expected = "= 9 +1\n= 1 +2\n= 1\n# 0 0 0 0 0\n# 0 1 0 0 0\n# 9 0 0 0 0\n# 9 1 0 0 7\n";
     check(&["--tuples"], "CUS 9\nCUN 1 9\nBUN 1 7 9", expected);
     let raw = "45 3 0 0 0 U 0\n";
     check(
         &["--raw", "--tuples"],
         raw,
-        "= 3\n# 0 0 0 0 0\n# 0 3 0 0 0\n",
+        "= 3 +1\n# 0 0 0 0 0\n# 0 3 0 0 0\n",
     );
 }
 
@@ -107,7 +107,7 @@ fn bad_options_get_the_usage() {
 fn bad_raw_lines_and_words_end_the_run() {
     let output = run(&["--raw"], b"45 1 0 0 0 U 0\nCUN 1\n");
     assert_eq!(output.status.code(), Some(2));
-    assert_eq!(output.stdout, b"= 1\n");
+    assert_eq!(output.stdout, b"= 1 +1\n");
     let output = run(&["--check-buffer"], b"1 1 0 1 0 0 0 0 0 4294967296");
     assert_eq!(output.status.code(), Some(2));
 }

@@ -60,8 +60,8 @@ fn the_input_of_slips_is_the_table_of_document_01() {
                  BOP 1 5 2 60\nVOP 1 5 2\nVOP 1 5 2 9\nDUN 1\nSUN\nXUN 1 9\nDUS U\nCUN 0\n";
     let folder = inputs::folder(&top(), "slips");
     assert_eq!(read(&folder.join("stdin")), table.as_bytes());
-    let answers = "= 1\n= 2\n= 9\nL 0\nL 2 0:1 0:2\n= 1\nR 7\n= 1\n\
-                   = 1\nV 60\nR 7\n= 1\nL 1 0:2\nNIL\nR 4\nR 3\n";
+    let answers = "= 1 +1\n= 2 +1\n= 9 +1\nL 0\nL 2 0:1 0:2\n= 1 +1\nR 7\n= 1 +1\n\
+                   = 1\nV 60\nR 7\n= 1 -3\nL 1 0:2\nNIL\nR 4\nR 3\n";
     assert_eq!(read(&folder.join("stdout")), answers.as_bytes());
 }
 

@@ -17,7 +17,7 @@ fn answers_of(calls: &[Call], answers: &[u32], lists: &[u32]) -> Vec<Answer> {
     for (call, words) in calls.iter().zip(answers.chunks(WORDS_IN_AN_ANSWER)) {
         let (list, others) = rest.split_at(call.list_length);
         rest = others;
-        all.push(answer_of([words[0], words[1]], list));
+        all.push(answer_of([words[0], words[1], words[2]], list));
     }
     all
 }
@@ -57,7 +57,8 @@ fn buffers_are_judged_alike() {
         let mut words = buffers::draw(&mut Draws::new(11, 7, place));
         let before = words.clone();
         let mut lists = vec![UNWRITTEN; call.list_length];
-        let answer = (PROVED.run)(&mut words, &packed::call(&call), &mut [0; 2], &mut lists);
+        let mut answers = [0; WORDS_IN_AN_ANSWER];
+        let answer = (PROVED.run)(&mut words, &packed::call(&call), &mut answers, &mut lists);
         let expected = u32::from(!buffer::is_store(&words));
         assert_eq!(answer, expected, "{words:?}");
         assert_eq!(words, before);

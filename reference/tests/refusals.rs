@@ -38,7 +38,7 @@ fn refusal_3_for_each_name_that_is_read() {
         "45 2 0 0 0 9 9",
         "1 1 5 2 0 9 9",
     ] {
-        assert!(matches!(step(&mut machine, line), Answer::Name(_)));
+        assert!(matches!(step(&mut machine, line), Answer::Added(..)));
     }
     use operators::Argument;
     for operator in 1..=57 {
@@ -61,7 +61,7 @@ fn refusal_3_for_each_name_that_is_read() {
 
 #[test]
 fn refusal_3_is_not_for_a_value_of_zero() {
-    check(&[("CUN 1", "= 1"), ("BUN 1 0", "= 1"), ("BUS U 0", "= 0")]);
+    check(&[("CUN 1", "= 1 +1"), ("BUN 1 0", "= 1"), ("BUS U 0", "= 0")]);
 }
 
 #[test]
@@ -98,7 +98,7 @@ fn refusal_3_comes_before_5_6_7_8() {
 #[test]
 fn refusal_3_comes_before_9_and_10() {
     let mut machine = Machine::new(2);
-    assert_eq!(step(&mut machine, "45 1 0 0 0 U 0"), Answer::Name(1));
+    assert_eq!(step(&mut machine, "45 1 0 0 0 U 0"), Answer::Added(1, 1));
     assert_eq!(step(&mut machine, "50 0 0 0 0 0 0"), Answer::Refusal(3));
     assert_eq!(step(&mut machine, "57 0 0 0 0 U 0"), Answer::Refusal(3));
     assert_eq!(step(&mut machine, "45 0 0 0 0 U 0"), Answer::Refusal(3));
@@ -110,10 +110,10 @@ fn refusal_4_is_for_dus_on_universe_alone() {
     check(&[
         ("DUS U", "R 4"),
         ("XUS U", "T"),
-        ("CUS U", "= 0"),
+        ("CUS U", "= 0 +0"),
         ("BUS U 7", "= 0"),
         ("VUS U", "V 7"),
-        ("DUS 9", "= 9"),
+        ("DUS 9", "= 9 -0"),
     ]);
 }
 
@@ -121,7 +121,7 @@ fn refusal_4_is_for_dus_on_universe_alone() {
 fn refusal_5_is_for_all_that_need_the_space() {
     let mut machine = Machine::new(100);
     for line in ["45 1 0 0 0 U 9", "45 2 0 0 0 U 9", "1 1 5 2 0 U 9"] {
-        assert!(matches!(step(&mut machine, line), Answer::Name(_)));
+        assert!(matches!(step(&mut machine, line), Answer::Added(..)));
     }
     for operator in 1..=57 {
         let answer = step(&mut machine.clone(), &format!("{operator} 1 5 2 0 7 99"));
@@ -150,7 +150,7 @@ fn refusal_5_comes_before_6_7_8_9_10() {
 fn refusal_6_is_for_1_to_44_and_46_47_57() {
     let mut machine = Machine::new(100);
     for line in ["51 0 0 0 0 9 9", "45 1 0 0 0 U 9", "45 2 0 0 0 9 9"] {
-        assert!(matches!(step(&mut machine, line), Answer::Name(_)));
+        assert!(matches!(step(&mut machine, line), Answer::Added(..)));
     }
     for operator in 1..=57 {
         // Node 1 is in UNIVERSE but not in space 9; 57 looks in UNIVERSE.
@@ -186,7 +186,7 @@ fn refusal_6_comes_before_7_8_9_10() {
 fn refusal_7_is_for_all_that_read_m() {
     let mut machine = Machine::new(100);
     for line in ["51 0 0 0 0 9 9", "45 1 0 0 0 9 9", "45 2 0 0 0 U 9"] {
-        assert!(matches!(step(&mut machine, line), Answer::Name(_)));
+        assert!(matches!(step(&mut machine, line), Answer::Added(..)));
     }
     for operator in 1..=57 {
         // Node 2 is in UNIVERSE but not in space 9.
@@ -202,7 +202,7 @@ fn refusal_7_comes_before_8_and_10() {
         2,
         0,
         &[
-            ("CUN 1", "= 1"),
+            ("CUN 1", "= 1 +1"),
             ("VOP 1 5 2", "R 7"),
             ("BAP 1 5 2 60", "R 7"),
             ("COP 1 5 2", "R 7"),
@@ -215,7 +215,7 @@ fn refusal_7_comes_before_8_and_10() {
 fn refusal_8_is_for_4_to_8() {
     let mut machine = Machine::new(100);
     for line in ["45 1 0 0 0 U 9", "45 2 0 0 0 U 9"] {
-        assert!(matches!(step(&mut machine, line), Answer::Name(_)));
+        assert!(matches!(step(&mut machine, line), Answer::Added(..)));
     }
     for operator in 1..=57 {
         let answer = step(&mut machine.clone(), &format!("{operator} 1 5 2 0 U 99"));
@@ -260,17 +260,17 @@ fn refusal_8_looks_in_the_space() {
 fn refusal_9_counts_what_is_listed() {
     // Two edges 5 from 1: two pairs, one edge name, two nodes.
     let lines = [
-        ("CUN 1", "= 1"),
-        ("CUN 2", "= 2"),
-        ("COP 1 5 1", "= 1"),
-        ("COP 1 5 2", "= 1"),
+        ("CUN 1", "= 1 +1"),
+        ("CUN 2", "= 2 +1"),
+        ("COP 1 5 1", "= 1 +1"),
+        ("COP 1 5 2", "= 1 +1"),
         ("SOP 1", "R 9"),
         ("SOG 1", "L 1 5:0"),
         ("SON 1", "R 9"),
         ("SAGN 1 1", "L 1 5:0"),
         ("SUN", "R 9"),
         ("SUS", "L 1 0:0"),
-        ("CUS 9", "= 9"),
+        ("CUS 9", "= 9 +1"),
         ("SUS", "R 9"),
         ("SUS 1", "L 1 0:0"),
         ("SUN 9", "L 0"),
@@ -284,10 +284,10 @@ fn refusal_9_is_not_for_operators_without_a_list() {
         2048,
         0,
         &[
-            ("CUN 1", "= 1"),
+            ("CUN 1", "= 1 +1"),
             ("VUN 1", "V 0"),
             ("XUN 1", "T"),
-            ("DUN 1", "= 1"),
+            ("DUN 1", "= 1 -1"),
         ],
     );
 }
@@ -298,19 +298,19 @@ fn refusal_10_is_for_creates_that_add() {
         3,
         0,
         &[
-            ("CUN 1", "= 1"),
-            ("COP 1 5 1", "= 1"),
+            ("CUN 1", "= 1 +1"),
+            ("COP 1 5 1", "= 1 +1"),
             ("CUN 2", "R 10"),
             ("CUS 9", "R 10"),
             ("COP 1 6 1", "R 10"),
             ("CIP 1 6 1", "R 10"),
             ("CAP 1 6 1", "R 10"),
-            ("CUN 1", "= 1"),
-            ("CUS U", "= 0"),
-            ("CAP 1 5 1", "= 1"),
+            ("CUN 1", "= 1 +0"),
+            ("CUS U", "= 0 +0"),
+            ("CAP 1 5 1", "= 1 +0"),
             ("BUN 1 5", "= 1"),
-            ("DOP 1 5 1", "= 1"),
-            ("CUS 9", "= 9"),
+            ("DOP 1 5 1", "= 1 -1"),
+            ("CUS 9", "= 9 +1"),
         ],
     );
 }

@@ -51,7 +51,7 @@ fn leading_zeros_are_unreadable() {
         b"SUN 09",
         b"BUS U 0000000001",
     ]);
-    check(&[("CUN 0", "R 3"), ("CUN 1", "= 1"), ("BUN 1 0", "= 1")]);
+    check(&[("CUN 0", "R 3"), ("CUN 1", "= 1 +1"), ("BUN 1 0", "= 1")]);
 }
 
 #[test]
@@ -178,10 +178,11 @@ fn each_operator_takes_its_arguments() {
         "COP", "CIP", "CAP", "XOP", "XIP", "XAP", "DOP", "DIP", "DAP",
     ];
     for letters in with_four {
-        let answer = if letters.starts_with('X') {
-            "NIL"
-        } else {
-            "= 1"
+        let answer = match letters.as_bytes() {
+            [b'X', ..] => "NIL",
+            [b'D', ..] => "= 1 -0",
+            b"CAP" => "= 1 +2",
+            _ => "= 1 +1",
         };
         let short = format!("{letters} 1 5 2");
         let long = format!("{letters} 1 5 2 U");
@@ -223,10 +224,10 @@ fn numbers_past_their_range_are_unreadable() {
         b"BUN 1 0000000000000000000000000000000000000000",
     ]);
     check(&[
-        ("CUN 65535", "= 65535"),
+        ("CUN 65535", "= 65535 +1"),
         ("BUN 65535 4294967295", "= 65535"),
         ("VUN 65535", "V 4294967295"),
-        ("CUS 65535", "= 65535"),
+        ("CUS 65535", "= 65535 +1"),
     ]);
 }
 
@@ -246,10 +247,10 @@ fn u_stands_only_for_a_space() {
         b"CUN 1 UNIVERSE",
     ]);
     check(&[
-        ("CUN 1 U", "= 1"),
+        ("CUN 1 U", "= 1 +1"),
         ("SUN U", "L 1 0:1"),
         ("XUN 1 U", "T"),
-        ("CUS U", "= 0"),
+        ("CUS U", "= 0 +0"),
         ("BUS U 7", "= 0"),
         ("VUS U", "V 7"),
         ("XUS U", "T"),
@@ -323,7 +324,7 @@ fn nothing_is_one_byte_and_one_word() {
 fn nothing_is_read_where_a_space_stands() {
     check(&[
         ("SUN -", "L 0"),
-        ("CUN 1 -", "= 1"),
+        ("CUN 1 -", "= 1 +0"),
         ("XUN 1 -", "NIL"),
         ("VUN 1 -", "R 12"),
         ("CUS -", "R 12"),
@@ -332,7 +333,7 @@ fn nothing_is_read_where_a_space_stands() {
         ("XUS -", "R 12"),
         ("DUS -", "R 12"),
         // Left out, it is still UNIVERSE.
-        ("CUN 1", "= 1"),
+        ("CUN 1", "= 1 +1"),
         ("XUN 1", "T"),
     ]);
 }
@@ -342,20 +343,20 @@ fn empty_input_and_empty_lines() {
     assert_eq!(printed(b""), "");
     assert_eq!(printed(b"\n"), "R 11\n");
     assert_eq!(printed(b"\n\n"), "R 11\nR 11\n");
-    assert_eq!(printed(b"CUN 1\n\nSUN\n"), "= 1\nR 11\nL 1 0:1\n");
+    assert_eq!(printed(b"CUN 1\n\nSUN\n"), "= 1 +1\nR 11\nL 1 0:1\n");
 }
 
 #[test]
 fn the_last_line_may_lack_its_line_feed() {
-    assert_eq!(printed(b"CUN 1"), "= 1\n");
-    assert_eq!(printed(b"CUN 1\n"), "= 1\n");
-    assert_eq!(printed(b"CUN 1\nSUN"), "= 1\nL 1 0:1\n");
+    assert_eq!(printed(b"CUN 1"), "= 1 +1\n");
+    assert_eq!(printed(b"CUN 1\n"), "= 1 +1\n");
+    assert_eq!(printed(b"CUN 1\nSUN"), "= 1 +1\nL 1 0:1\n");
 }
 
 #[test]
 fn an_unreadable_line_changes_nothing() {
     check(&[
-        ("CUN 1", "= 1"),
+        ("CUN 1", "= 1 +1"),
         ("DUN 1 9 9", "R 11"),
         ("DUN 1 ", "R 11"),
         ("SUN", "L 1 0:1"),
@@ -398,9 +399,9 @@ fn the_store_of_slips_has_2048_records() {
     script.push_str("SUN\nDUN 7\nCUN 2048\nCUN 2049\n");
     let output = printed(script.as_bytes());
     let answers: Vec<&str> = output.lines().collect();
-    assert_eq!(answers[2046], "= 2047");
+    assert_eq!(answers[2046], "= 2047 +1");
     assert_eq!(answers[2047], "R 10");
     assert!(answers[2048].starts_with("L 2047 0:1 0:2 "));
     assert!(answers[2048].ends_with(" 0:2047"));
-    assert_eq!(answers[2049..], ["= 7", "= 2048", "R 10"]);
+    assert_eq!(answers[2049..], ["= 7 -1", "= 2048 +1", "R 10"]);
 }

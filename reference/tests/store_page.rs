@@ -6,7 +6,7 @@ use common::page;
 use gaffdamson_reference::library::{self, Library};
 use gaffdamson_reference::machine::{Key, Machine, Value};
 use gaffdamson_reference::operators::{self, Argument};
-use gaffdamson_reference::{buffer, chained, script};
+use gaffdamson_reference::{buffer, chained, packed, script};
 
 /// What every word of the drawn buffer held before it was prepared.
 const BEFORE: u32 = 3;
@@ -84,7 +84,8 @@ fn make_example(library: &Library) {
     assert_eq!((library.prepare)(&mut words), Ok(expected[0]));
     for line in page::block(&page, "calls") {
         let call = script::read_call(line.as_bytes(), 0).expect("a call");
-        (library.call)(&mut words, &call, &mut []);
+        let fields = packed::fields(&call);
+        library.call.make(&mut words, &fields, &mut []);
     }
     assert_eq!(words, expected);
 }

@@ -19,16 +19,16 @@ const LOOP: [&str; 8] = [
 #[test]
 fn a_loop_takes_the_node_itself_with_the_others() {
     let cases = [
-        ("DON 1", "L 1 0:3"),
-        ("DIN 1", "L 2 0:2 0:4"),
-        ("DAN 1", "L 0"),
-        ("DONG 1 5", "L 2 0:3 0:4"),
-        ("DING 1 5", "L 2 0:2 0:4"),
-        ("DANG 1 5", "L 1 0:4"),
-        ("DONG 1 6", "L 3 0:1 0:2 0:3"),
+        ("DON 1", "= 1 -7", "L 1 0:3"),
+        ("DIN 1", "= 1 -6", "L 2 0:2 0:4"),
+        ("DAN 1", "= 1 -8", "L 0"),
+        ("DONG 1 5", "= 1 -6", "L 2 0:3 0:4"),
+        ("DING 1 5", "= 1 -6", "L 2 0:2 0:4"),
+        ("DANG 1 5", "= 1 -7", "L 1 0:4"),
+        ("DONG 1 6", "= 1 -2", "L 3 0:1 0:2 0:3"),
     ];
-    for (line, left) in cases {
-        check_after(&LOOP, &[(line, "= 1"), ("SUN", left)]);
+    for (line, answer, left) in cases {
+        check_after(&LOOP, &[(line, answer), ("SUN", left)]);
     }
 }
 
@@ -44,18 +44,18 @@ fn a_loop_in_a_numbered_space_takes_the_node_there_only() {
         "COP 3 5 1 9",
     ];
     let cases = [
-        ("DON 1 9", "L 1 0:3"),
-        ("DIN 1 9", "L 1 0:2"),
-        ("DAN 1 9", "L 0"),
-        ("DONG 1 5 9", "L 1 0:3"),
-        ("DING 1 5 9", "L 1 0:2"),
-        ("DANG 1 5 9", "L 0"),
+        ("DON 1 9", "= 1 -5", "L 1 0:3"),
+        ("DIN 1 9", "= 1 -5", "L 1 0:2"),
+        ("DAN 1 9", "= 1 -6", "L 0"),
+        ("DONG 1 5 9", "= 1 -5", "L 1 0:3"),
+        ("DING 1 5 9", "= 1 -5", "L 1 0:2"),
+        ("DANG 1 5 9", "= 1 -6", "L 0"),
     ];
-    for (line, left) in cases {
+    for (line, answer, left) in cases {
         check_after(
             &before,
             &[
-                (line, "= 1"),
+                (line, answer),
                 ("SUN 9", left),
                 ("SUN", "L 3 0:1 0:2 0:3"),
                 ("SAP 1", "L 3 5:1 5:2 5:3"),
@@ -78,7 +78,7 @@ fn ding_looks_for_edges_in_its_space() {
     check_after(
         &before,
         &[
-            ("DING 1 5 9", "= 1"),
+            ("DING 1 5 9", "= 1 -2"),
             ("SUN 9", "L 2 0:1 0:3"),
             ("SUN", "L 3 0:1 0:2 0:3"),
             ("SING 1 5", "L 2 0:2 0:3"),
@@ -99,7 +99,7 @@ fn ding_on_universe_takes_nodes_and_edges_everywhere() {
     check_after(
         &before,
         &[
-            ("DING 1 5", "= 1"),
+            ("DING 1 5", "= 1 -5"),
             ("SUN 9", "L 2 0:1 0:3"),
             ("SAP 3 9", "L 0"),
         ],
@@ -111,7 +111,7 @@ fn dan_collects_all_its_nodes_before_it_removes_any() {
     // Taking the outpointing nodes first would drop 1 and lose its inpointing
     // nodes.
     let before = ["CUN 1", "CUN 2", "COP 1 5 1", "COP 2 6 1"];
-    check_after(&before, &[("DAN 1", "= 1"), ("SUN", "L 0")]);
+    check_after(&before, &[("DAN 1", "= 1 -4"), ("SUN", "L 0")]);
 }
 
 #[test]
@@ -126,7 +126,7 @@ fn a_node_in_universe_need_not_be_in_a_space() {
             ("SOP 1 9", "R 6"),
             ("COP 2 5 1 9", "R 7"),
             ("XOP 2 5 1 9", "R 7"),
-            ("DUN 1 9", "= 1"),
+            ("DUN 1 9", "= 1 -0"),
             ("XUN 1", "T"),
             ("SUS 1", "L 1 0:0"),
             ("SUS 2", "L 2 0:0 0:9"),
@@ -150,7 +150,7 @@ fn a_space_made_again_is_empty_and_nil() {
         &[
             ("VUS 9", "V 0"),
             ("SUN 9", "L 0"),
-            ("CUN 1 9", "= 1"),
+            ("CUN 1 9", "= 1 +1"),
             ("VUN 1 9", "V 0"),
             ("SAP 1 9", "L 0"),
         ],
@@ -179,11 +179,11 @@ fn a_create_in_a_space_does_not_copy_the_value_in_universe() {
         &before,
         &[
             ("VUN 1 9", "V 0"),
-            ("COP 1 5 1 9", "= 1"),
+            ("COP 1 5 1 9", "= 1 +1"),
             ("VOP 1 5 1 9", "V 0"),
             ("VOP 1 5 1", "V 60"),
             ("BOP 1 5 1 61 9", "= 1"),
-            ("COP 1 5 1 9", "= 1"),
+            ("COP 1 5 1 9", "= 1 +0"),
             ("VOP 1 5 1 9", "V 61"),
             ("VOP 1 5 1", "V 60"),
         ],
@@ -205,22 +205,30 @@ fn an_edge_made_again_is_nil() {
 #[test]
 fn cap_one_record_short_adds_nothing() {
     // 1 + 1 + 4 tuples are present; CAP in the space would add four.
-    let nodes = [("CUS 9", "= 9"), ("CUN 1 9", "= 1"), ("CUN 2 9", "= 2")];
+    let nodes = [
+        ("CUS 9", "= 9 +1"),
+        ("CUN 1 9", "= 1 +2"),
+        ("CUN 2 9", "= 2 +2"),
+    ];
     let mut short = nodes.to_vec();
     short.push(("CAP 1 5 2 9", "R 10"));
     assert_eq!(check_with(9, 2048, &short).tuples().count(), 6);
     let mut enough = nodes.to_vec();
-    enough.push(("CAP 1 5 2 9", "= 1"));
+    enough.push(("CAP 1 5 2 9", "= 1 +4"));
     assert_eq!(check_with(10, 2048, &enough).tuples().count(), 10);
 }
 
 #[test]
 fn cap_of_a_loop_in_a_space_adds_two() {
-    let lines = [("CUS 9", "= 9"), ("CUN 1 9", "= 1"), ("CAP 1 5 1 9", "= 1")];
+    let lines = [
+        ("CUS 9", "= 9 +1"),
+        ("CUN 1 9", "= 1 +2"),
+        ("CAP 1 5 1 9", "= 1 +2"),
+    ];
     assert_eq!(check_with(6, 2048, &lines).tuples().count(), 6);
     let refused = [
-        ("CUS 9", "= 9"),
-        ("CUN 1 9", "= 1"),
+        ("CUS 9", "= 9 +1"),
+        ("CUN 1 9", "= 1 +2"),
         ("CAP 1 5 1 9", "R 10"),
     ];
     assert_eq!(check_with(5, 2048, &refused).tuples().count(), 4);
@@ -229,7 +237,11 @@ fn cap_of_a_loop_in_a_space_adds_two() {
 #[test]
 fn a_create_needs_records_only_for_what_is_missing() {
     // Node 1 is in UNIVERSE already: one record is enough for space 9.
-    let lines = [("CUS 9", "= 9"), ("CUN 1", "= 1"), ("CUN 1 9", "= 1")];
+    let lines = [
+        ("CUS 9", "= 9 +1"),
+        ("CUN 1", "= 1 +1"),
+        ("CUN 1 9", "= 1 +1"),
+    ];
     check_with(4, 2048, &lines);
 }
 
@@ -240,11 +252,11 @@ fn names_of_different_sorts_have_nothing_in_common() {
         &before,
         &[
             ("SUN 5", "L 0"),
-            ("DUS 5", "= 5"),
+            ("DUS 5", "= 5 -1"),
             ("XUN 5", "T"),
             ("XOP 5 5 5", "T"),
-            ("CUN 5", "= 5"),
-            ("DOP 5 5 5", "= 5"),
+            ("CUN 5", "= 5 +0"),
+            ("DOP 5 5 5", "= 5 -1"),
             ("XUN 5", "T"),
             ("XUS 5", "NIL"),
         ],
@@ -254,7 +266,7 @@ fn names_of_different_sorts_have_nothing_in_common() {
 #[test]
 fn dun_of_a_node_keeps_edges_with_that_edge_name() {
     let before = ["CUN 1", "CUN 2", "COP 2 1 2"];
-    check_after(&before, &[("DUN 1", "= 1"), ("SAP 2", "L 1 1:2")]);
+    check_after(&before, &[("DUN 1", "= 1 -1"), ("SAP 2", "L 1 1:2")]);
 }
 
 #[test]

@@ -33,7 +33,7 @@ fn on_yarn(operator: u32, n: u16, g: u16, m: u16, space: Space) -> Call {
     }
 }
 
-fn building() -> [(&'static str, Call); 10] {
+fn building() -> [(&'static str, Call); 12] {
     let length = Call {
         v: 60,
         ..on_yarn(operator::BOP, 1, 7, 2, FIRST)
@@ -70,6 +70,8 @@ fn building() -> [(&'static str, Call); 10] {
             "make loop 4 in selection 3, which is absent",
             on_loop(operator::CUN, 4, THIRD),
         ),
+        ("make loop 4", on_loop(operator::CUN, 4, Space::Universe)),
+        ("remove loop 4", on_loop(operator::DUN, 4, Space::Universe)),
     ]
 }
 
@@ -89,6 +91,9 @@ fn described(reply: Result<Reply, Refusal>) -> String {
     match reply {
         Err(refusal) => refusal.to_string(),
         Ok(Reply::Name(name)) => format!("name {name}"),
+        Ok(Reply::Added { name, count }) => format!("name {name}, {count} added"),
+        Ok(Reply::Removed { name, count }) => format!("name {name}, {count} removed"),
+        Ok(Reply::Value(0)) => "no value".to_string(),
         Ok(Reply::Value(value)) => format!("value {value}"),
         Ok(Reply::YesNo(is_so)) => if is_so { "yes" } else { "no" }.to_string(),
         Ok(Reply::List(pairs)) => format!("list of {}", pairs.len()),

@@ -3,8 +3,7 @@
 use std::error::Error;
 use std::fmt;
 
-/// How many words an answer takes in a list of [`run`](crate::run).
-pub const WORDS_IN_AN_ANSWER: usize = 2;
+use crate::words::{AnswerWords, WORDS_IN_AN_ANSWER};
 
 const REFUSAL: u32 = 0;
 const NAME: u32 = 1;
@@ -12,14 +11,32 @@ const VALUE: u32 = 2;
 const YES_NO: u32 = 3;
 const LIST: u32 = 4;
 const CAPACITY: u32 = 5;
+const ADDED: u32 = 6;
+const REMOVED: u32 = 7;
 
 /// The answer to a call.
 #[derive(Clone, Copy, PartialEq, Eq, Hash, Debug)]
 pub enum Answer {
     /// The call was stopped and has changed nothing.
     Refusal(Refusal),
-    /// The name of a node or a space; UNIVERSE is 0.
+    /// Of a B operator: the name of a node or a space; UNIVERSE is 0.
     Name(u16),
+    /// Of a C operator: the name, and how many tuples were added, in all
+    /// spaces together.
+    Added {
+        /// The name of a node or a space; UNIVERSE is 0.
+        name: u16,
+        /// How many tuples; 0 where nothing changed.
+        count: u32,
+    },
+    /// Of a D operator: the name, and how many tuples were removed, in all
+    /// spaces together.
+    Removed {
+        /// The name of a node or a space.
+        name: u16,
+        /// How many tuples; 0 where nothing changed.
+        count: u32,
+    },
     /// A value; 0 is NIL.
     Value(u32),
     /// Whether what was asked for is there.
@@ -29,43 +46,48 @@ pub enum Answer {
 }
 
 impl Answer {
-    /// The answer that the kind and the number of [`run`](crate::run) give;
-    /// none if they are no answer to a call.
-    pub fn from_words([kind, number]: [u32; WORDS_IN_AN_ANSWER]) -> Option<Answer> {
-        let answer = match (kind, number) {
-            (REFUSAL, number) => Answer::Refusal(Refusal(number)),
-            (NAME, name) => Answer::Name(u16::try_from(name).ok()?),
-            (VALUE, value) => Answer::Value(value),
-            (YES_NO, 0) => Answer::YesNo(false),
-            (YES_NO, 1) => Answer::YesNo(true),
-            (LIST, count) => Answer::List(usize::try_from(count).ok()?),
+    /// The answer that the three words of [`run`](crate::run) give; none if they
+    /// are no answer to a call.
+    pub fn from_words([kind, first, second]: [u32; WORDS_IN_AN_ANSWER]) -> Option<Answer> {
+        let name = || u16::try_from(first).ok();
+        let answer = match (kind, first, second) {
+            (REFUSAL, number, 0) => Answer::Refusal(Refusal(number)),
+            (NAME, _, 0) => Answer::Name(name()?),
+            (ADDED, _, count) => Answer::Added {
+                name: name()?,
+                count,
+            },
+            (REMOVED, _, count) => Answer::Removed {
+                name: name()?,
+                count,
+            },
+            (VALUE, 0, 0) => Answer::Value(0),
+            (VALUE, 1.., 1) => Answer::Value(first),
+            (YES_NO, 0, 0) => Answer::YesNo(false),
+            (YES_NO, 1, 0) => Answer::YesNo(true),
+            (LIST, count, 0) => Answer::List(usize::try_from(count).ok()?),
             _ => return None,
         };
         Some(answer)
     }
 
     /// The answer to a call, as the C function gives it.
-    pub(crate) fn of_call(packed: u64) -> Answer {
-        Answer::from_words(parts(packed)).unwrap_or_else(|| broken(packed))
+    pub(crate) fn of_call(words: AnswerWords) -> Answer {
+        Answer::from_words(words.into()).unwrap_or_else(|| broken(words))
     }
 }
 
 /// The answer to preparing, as the C function gives it.
-pub(crate) fn of_preparing(packed: u64) -> Result<u32, Refusal> {
-    match parts(packed) {
-        [CAPACITY, capacity] => Ok(capacity),
-        [REFUSAL, number] => Err(Refusal(number)),
-        _ => broken(packed),
+pub(crate) fn of_preparing(words: AnswerWords) -> Result<u32, Refusal> {
+    match <[u32; WORDS_IN_AN_ANSWER]>::from(words) {
+        [CAPACITY, capacity, 0] => Ok(capacity),
+        [REFUSAL, number, 0] => Err(Refusal(number)),
+        _ => broken(words),
     }
 }
 
-/// The kind and the number of an answer.
-fn parts(packed: u64) -> [u32; WORDS_IN_AN_ANSWER] {
-    [(packed >> 32) as u32, packed as u32]
-}
-
-fn broken(packed: u64) -> ! {
-    panic!("the library gave {packed:#x}, which is no answer: is it the right one?")
+fn broken(words: AnswerWords) -> ! {
+    panic!("the library gave {words:?}, which is no answer: is it the right one?")
 }
 
 /// The condition that stopped a call.
@@ -77,7 +99,7 @@ impl Refusal {
     pub const NOT_A_STORE: Refusal = Refusal(1);
     /// The operator is not 1 to 57.
     pub const NO_OPERATOR: Refusal = Refusal(2);
-    /// A name that is read is 0.
+    /// A name that is read is 0, or in words a number above 65,535.
     pub const NAME_ZERO: Refusal = Refusal(3);
     /// DUS on UNIVERSE.
     pub const DESTROYS_UNIVERSE: Refusal = Refusal(4);
@@ -155,26 +177,53 @@ mod tests {
 
     #[test]
     fn words_that_are_no_answer_give_none() {
-        for words in [[1, 65_536], [3, 2], [5, 1], [6, 0], [u32::MAX, 0]] {
-            assert_eq!(Answer::from_words(words), None);
+        for words in [
+            [0, 9, 1],
+            [1, 65_536, 0],
+            [1, 7, 1],
+            [2, 60, 0],
+            [2, 60, 2],
+            [2, 0, 1],
+            [3, 2, 0],
+            [3, 1, 1],
+            [4, 1, 1],
+            [5, 1, 0],
+            [6, 65_536, 0],
+            [7, 65_536, 0],
+            [8, 0, 0],
+            [u32::MAX, 0, 0],
+        ] {
+            assert_eq!(Answer::from_words(words), None, "{words:?}");
+        }
+    }
+
+    fn words([kind, first, second]: [u32; 3]) -> AnswerWords {
+        AnswerWords {
+            kind,
+            first,
+            second,
         }
     }
 
     #[test]
     fn answers_are_taken_apart() {
         let answers = [
-            (9, Answer::Refusal(Refusal::LIST_TOO_SHORT)),
-            (1 << 32 | 65_535, Answer::Name(65_535)),
-            (2 << 32 | 0xffff_ffff, Answer::Value(u32::MAX)),
-            (3 << 32, Answer::YesNo(false)),
-            (3 << 32 | 1, Answer::YesNo(true)),
-            (4 << 32 | 2_048, Answer::List(2_048)),
+            ([0, 9, 0], Answer::Refusal(Refusal::LIST_TOO_SHORT)),
+            ([1, 65_535, 0], Answer::Name(65_535)),
+            ([2, u32::MAX, 1], Answer::Value(u32::MAX)),
+            ([2, 0, 0], Answer::Value(0)),
+            ([3, 0, 0], Answer::YesNo(false)),
+            ([3, 1, 0], Answer::YesNo(true)),
+            ([4, 2_048, 0], Answer::List(2_048)),
+            ([6, 1, 4], Answer::Added { name: 1, count: 4 }),
+            ([6, 0, 0], Answer::Added { name: 0, count: 0 }),
+            ([7, 9, 40], Answer::Removed { name: 9, count: 40 }),
         ];
-        for (packed, answer) in answers {
-            assert_eq!(Answer::of_call(packed), answer);
+        for (given, answer) in answers {
+            assert_eq!(Answer::of_call(words(given)), answer);
         }
-        assert_eq!(of_preparing(5 << 32 | 2_048), Ok(2_048));
-        assert_eq!(of_preparing(1), Err(Refusal::NOT_A_STORE));
+        assert_eq!(of_preparing(words([5, 2_048, 0])), Ok(2_048));
+        assert_eq!(of_preparing(words([0, 1, 0])), Err(Refusal::NOT_A_STORE));
     }
 
     #[test]

@@ -4,51 +4,36 @@
 //! SAFETY of every call here: each pointer and length are those of a slice that
 //! is borrowed until the call is over, mutably where it is written, so they are
 //! valid, aligned, not null even where the length is 0, and do not overlap. The
-//! functions ask for nothing else, stay within the slices, keep no pointer and
-//! do not unwind.
+//! structs have the layout of C and go by value; any words in them are a call.
+//! The functions ask for nothing else, stay within the slices, keep no pointer
+//! and do not unwind.
 
-use crate::{Call, Pair, Space};
-
-/// The forms of a call's space.
-const UNIVERSE: u32 = 0;
-const NUMBERED: u32 = 1;
-const NOTHING: u32 = 2;
+use crate::words::{AnswerWords, CallWords};
+use crate::Pair;
 
 mod library {
-    use crate::Pair;
+    use super::{AnswerWords, CallWords, Pair};
 
     extern "C" {
-        pub fn gaffdamson_prepare(store: *mut u32, store_length: usize) -> u64;
+        pub fn gaffdamson_prepare(store: *mut u32, store_length: usize) -> AnswerWords;
 
         pub fn gaffdamson_is_store(store: *const u32, store_length: usize) -> u32;
 
         pub fn gaffdamson_call(
             store: *mut u32,
             store_length: usize,
-            operator: u32,
-            n: u16,
-            g: u16,
-            m: u16,
-            v: u32,
-            form: u32,
-            s: u16,
+            call: CallWords,
             list: *mut u32,
             list_length: usize,
-        ) -> u64;
+        ) -> AnswerWords;
 
         pub fn gaffdamson_call_pairs(
             store: *mut u32,
             store_length: usize,
-            operator: u32,
-            n: u16,
-            g: u16,
-            m: u16,
-            v: u32,
-            form: u32,
-            s: u16,
+            call: CallWords,
             list: *mut Pair,
             list_length: usize,
-        ) -> u64;
+        ) -> AnswerWords;
 
         pub fn gaffdamson_run(
             store: *mut u32,
@@ -63,16 +48,7 @@ mod library {
     }
 }
 
-/// The form of a space, and its number.
-pub fn form_and_number(space: Space) -> (u32, u16) {
-    match space {
-        Space::Universe => (UNIVERSE, 0),
-        Space::Numbered(s) => (NUMBERED, s.0),
-        Space::Nothing => (NOTHING, 0),
-    }
-}
-
-pub fn prepare(store: &mut [u32]) -> u64 {
+pub fn prepare(store: &mut [u32]) -> AnswerWords {
     // SAFETY: see the top of the module.
     unsafe { library::gaffdamson_prepare(store.as_mut_ptr(), store.len()) }
 }
@@ -82,33 +58,26 @@ pub fn is_store(store: &[u32]) -> u32 {
     unsafe { library::gaffdamson_is_store(store.as_ptr(), store.len()) }
 }
 
-pub fn call(store: &mut [u32], call: &Call, list: &mut [u32]) -> u64 {
-    one_call(library::gaffdamson_call, store, call, list)
-}
-
-pub fn call_pairs(store: &mut [u32], call: &Call, list: &mut [Pair]) -> u64 {
-    one_call(library::gaffdamson_call_pairs, store, call, list)
-}
-
-/// A C function that makes one call, with a list of `T`.
-type OneCall<T> =
-    unsafe extern "C" fn(*mut u32, usize, u32, u16, u16, u16, u32, u32, u16, *mut T, usize) -> u64;
-
-fn one_call<T>(function: OneCall<T>, store: &mut [u32], call: &Call, list: &mut [T]) -> u64 {
-    let (form, s) = form_and_number(call.space);
-    // SAFETY: see the top of the module. The function is one of the two above,
-    // and `T` is what it writes: a word, or a pair with the layout of C.
+pub fn call(store: &mut [u32], call: CallWords, list: &mut [u32]) -> AnswerWords {
+    // SAFETY: see the top of the module.
     unsafe {
-        function(
+        library::gaffdamson_call(
             store.as_mut_ptr(),
             store.len(),
-            call.operator,
-            call.n.0,
-            call.g.0,
-            call.m.0,
-            call.v,
-            form,
-            s,
+            call,
+            list.as_mut_ptr(),
+            list.len(),
+        )
+    }
+}
+
+pub fn call_pairs(store: &mut [u32], call: CallWords, list: &mut [Pair]) -> AnswerWords {
+    // SAFETY: see the top of the module; a pair has the layout of C.
+    unsafe {
+        library::gaffdamson_call_pairs(
+            store.as_mut_ptr(),
+            store.len(),
+            call,
             list.as_mut_ptr(),
             list.len(),
         )

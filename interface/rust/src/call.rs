@@ -1,6 +1,6 @@
 //! A call and its fields.
 
-use crate::c;
+use crate::words::{CallWords, WORDS_IN_A_CALL};
 
 /// The name of a node, 1 to 65,535.
 #[derive(Clone, Copy, PartialEq, Eq, PartialOrd, Ord, Hash, Debug)]
@@ -22,14 +22,12 @@ pub enum Space {
     /// The space of this name.
     Numbered(SpaceName),
     /// No selection, `-` in a script: the graph is not looked at, and no word
-    /// is changed. C, B and D operators answer the first node, X operators say
-    /// no, S operators answer an empty list; V operators and CUS to DUS are
-    /// refused, 12. Both SUS do not read the space.
+    /// is changed. C, B and D operators answer the first node, and 0 tuples
+    /// added or removed; X operators say no, S operators answer an empty list;
+    /// V operators and CUS to DUS are refused, 12. Both SUS do not read the
+    /// space.
     Nothing,
 }
-
-/// How many words a call takes in a list for [`run`](crate::run).
-pub const WORDS_IN_A_CALL: usize = 6;
 
 /// A call. Fields that its operator does not read have no effect.
 ///
@@ -74,14 +72,16 @@ impl Call {
 
     /// The call as [`run`](crate::run) takes it, with a list of so many places.
     pub fn words(&self, list_length: u32) -> [u32; WORDS_IN_A_CALL] {
-        let (form, s) = c::form_and_number(self.space);
-        let both = |low: u16, high: u16| u32::from(high) << 16 | u32::from(low);
+        let words = CallWords::from(self);
         [
-            self.operator,
-            both(self.n.0, self.g.0),
-            both(self.m.0, s),
-            self.v,
-            form,
+            words.operator,
+            words.n,
+            words.g,
+            words.m,
+            words.value_form,
+            words.v,
+            words.space_form,
+            words.s,
             list_length,
         ]
     }
@@ -101,13 +101,13 @@ mod tests {
             v: u32::MAX,
             space: Space::Numbered(SpaceName(65_535)),
         };
-        let words = [4, 0x2_0001, 0xffff_0003, u32::MAX, 1, 9];
+        let words = [4, 1, 2, 3, 1, u32::MAX, 1, 65_535, 9];
         assert_eq!(call.words(9), words);
-        assert_eq!(Call::new(56).words(0), [56, 0, 0, 0, 0, 0]);
+        assert_eq!(Call::new(56).words(0), [56, 0, 0, 0, 0, 0, 0, 0, 0]);
         let nothing = Call {
             space: Space::Nothing,
             ..Call::new(50)
         };
-        assert_eq!(nothing.words(3), [50, 0, 0, 0, 2, 3]);
+        assert_eq!(nothing.words(3), [50, 0, 0, 0, 0, 0, 2, 0, 3]);
     }
 }

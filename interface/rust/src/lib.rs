@@ -31,12 +31,14 @@ mod c;
 mod call;
 pub mod operator;
 mod store;
+mod words;
 
 use std::ops::RangeInclusive;
 
-pub use answer::{Answer, Pair, Refusal, WORDS_IN_AN_ANSWER};
-pub use call::{Call, Edge, Node, Space, SpaceName, WORDS_IN_A_CALL};
+pub use answer::{Answer, Pair, Refusal};
+pub use call::{Call, Edge, Node, Space, SpaceName};
 pub use store::{Reply, Store};
+pub use words::{AnswerWords, CallWords, WORDS_IN_AN_ANSWER, WORDS_IN_A_CALL};
 
 /// How many words a store has. It has room for (length − 4) / 6 tuples, rounded
 /// down, UNIVERSE among them.
@@ -69,7 +71,7 @@ pub fn is_store(store: &[u32]) -> bool {
 /// A list stands in the first places of `list`, packed as `edge × 65,536 +
 /// node` ([`Pair`] converts from that); the rest of it stays.
 pub fn call(store: &mut [u32], call: &Call, list: &mut [u32]) -> Answer {
-    Answer::of_call(c::call(store, call, list))
+    Answer::of_call(c::call(store, call.into(), list))
 }
 
 /// Makes one call as [`call`] does, with a list of pairs.
@@ -86,7 +88,31 @@ pub fn call(store: &mut [u32], call: &Call, list: &mut [u32]) -> Answer {
 /// # Ok::<(), gaffdamson::Refusal>(())
 /// ```
 pub fn call_pairs(store: &mut [u32], call: &Call, list: &mut [Pair]) -> Answer {
-    Answer::of_call(c::call_pairs(store, call, list))
+    Answer::of_call(c::call_pairs(store, call.into(), list))
+}
+
+/// Makes one call as [`call`] does, from words to words.
+///
+/// ```
+/// use gaffdamson::{call_words, operator, prepare, Answer, CallWords};
+///
+/// let mut store = [0; 16];
+/// prepare(&mut store)?;
+/// let create = |n| CallWords { operator: operator::CUN, n, ..CallWords::default() };
+/// let answer = call_words(&mut store, create(5), &mut []);
+/// assert_eq!(Answer::from_words(answer.into()), Some(Answer::Added { name: 5, count: 1 }));
+/// // 65,541 is no name, and not cut to 5: refusal 3.
+/// let answer = call_words(&mut store, create(65_536 + 5), &mut []);
+/// assert_eq!((answer.kind, answer.first, answer.second), (0, 3, 0));
+/// # Ok::<(), gaffdamson::Refusal>(())
+/// ```
+pub fn call_words(store: &mut [u32], call: CallWords, list: &mut [u32]) -> AnswerWords {
+    c::call(store, call, list)
+}
+
+/// Makes one call as [`call_pairs`] does, from words to words.
+pub fn call_words_pairs(store: &mut [u32], call: CallWords, list: &mut [Pair]) -> AnswerWords {
+    c::call_pairs(store, call, list)
 }
 
 /// Makes a whole list of calls, one after the other; the buffer is checked
@@ -106,10 +132,11 @@ pub fn call_pairs(store: &mut [u32], call: &Call, list: &mut [Pair]) -> Answer {
 /// let create = Call { n: Node(5), ..Call::new(operator::CUN) };
 /// let nodes = Call::new(operator::SUN);
 /// let calls = [create.words(0), nodes.words(3)];
-/// let mut answers = [[0; 2]; 2];
+/// let mut answers = [[0; 3]; 2];
 /// let mut lists = [0; 3];
 /// run(&mut store, calls.as_flattened(), answers.as_flattened_mut(), &mut lists)?;
-/// assert_eq!(answers.map(Answer::from_words), [Some(Answer::Name(5)), Some(Answer::List(1))]);
+/// let expected = [Answer::Added { name: 5, count: 1 }, Answer::List(1)];
+/// assert_eq!(answers.map(Answer::from_words), expected.map(Some));
 /// assert_eq!(lists, [5, 0, 0]);
 /// # Ok::<(), gaffdamson::Refusal>(())
 /// ```
@@ -150,8 +177,8 @@ mod tests {
             let mut answers = vec![0; answers];
             run(&mut store, &calls, &mut answers, &mut vec![0; lists])
         };
-        assert_eq!(run_with(1, 1), Err(Refusal::LIST_TOO_SHORT));
-        assert_eq!(run_with(2, 0), Err(Refusal::LIST_TOO_SHORT));
-        assert_eq!(run_with(2, 1), Ok(()));
+        assert_eq!(run_with(2, 1), Err(Refusal::LIST_TOO_SHORT));
+        assert_eq!(run_with(3, 0), Err(Refusal::LIST_TOO_SHORT));
+        assert_eq!(run_with(3, 1), Ok(()));
     }
 }

@@ -9,8 +9,24 @@ pub struct Store(Vec<u32>);
 /// What a call that is not refused gives, with the entries of its list.
 #[derive(Clone, PartialEq, Eq, Debug)]
 pub enum Reply {
-    /// The name of a node or a space; UNIVERSE is 0.
+    /// Of a B operator: the name of a node or a space; UNIVERSE is 0.
     Name(u16),
+    /// Of a C operator: the name, and how many tuples were added, in all
+    /// spaces together.
+    Added {
+        /// The name of a node or a space; UNIVERSE is 0.
+        name: u16,
+        /// How many tuples; 0 where nothing changed.
+        count: u32,
+    },
+    /// Of a D operator: the name, and how many tuples were removed, in all
+    /// spaces together.
+    Removed {
+        /// The name of a node or a space.
+        name: u16,
+        /// How many tuples; 0 where nothing changed.
+        count: u32,
+    },
     /// A value; 0 is NIL.
     Value(u32),
     /// Whether what was asked for is there.
@@ -51,6 +67,8 @@ impl Store {
         match call(&mut self.0, what, &mut list) {
             Answer::Refusal(refusal) => Err(refusal),
             Answer::Name(name) => Ok(Reply::Name(name)),
+            Answer::Added { name, count } => Ok(Reply::Added { name, count }),
+            Answer::Removed { name, count } => Ok(Reply::Removed { name, count }),
             Answer::Value(value) => Ok(Reply::Value(value)),
             Answer::YesNo(is_so) => Ok(Reply::YesNo(is_so)),
             Answer::List(count) => {
@@ -65,6 +83,14 @@ impl Store {
 mod tests {
     use super::*;
     use crate::{operator, Edge, Node, Space, SpaceName};
+
+    fn added(name: u16, count: u32) -> Result<Reply, Refusal> {
+        Ok(Reply::Added { name, count })
+    }
+
+    fn removed(name: u16, count: u32) -> Result<Reply, Refusal> {
+        Ok(Reply::Removed { name, count })
+    }
 
     #[test]
     fn a_store_has_room_for_1_to_2048_tuples() {
@@ -90,8 +116,10 @@ mod tests {
             v: 60,
             ..node
         };
-        assert_eq!(store.call(&node), Ok(Reply::Name(1)));
-        assert_eq!(store.call(&edge(operator::COP)), Ok(Reply::Name(1)));
+        assert_eq!(store.call(&node), added(1, 1));
+        assert_eq!(store.call(&node), added(1, 0));
+        assert_eq!(store.call(&edge(operator::COP)), added(1, 1));
+        assert_eq!(store.call(&edge(operator::VOP)), Ok(Reply::Value(0)));
         assert_eq!(store.call(&edge(operator::BOP)), Ok(Reply::Name(1)));
         assert_eq!(store.call(&edge(operator::VOP)), Ok(Reply::Value(60)));
         assert_eq!(store.call(&edge(operator::XIP)), Ok(Reply::YesNo(true)));
@@ -102,6 +130,31 @@ mod tests {
             ..node
         };
         assert_eq!(store.call(&elsewhere), Err(Refusal::NO_SPACE));
+        let remove = Call {
+            operator: operator::DUN,
+            ..node
+        };
+        assert_eq!(store.call(&remove), removed(1, 2));
+        assert_eq!(store.call(&remove), removed(1, 0));
+    }
+
+    #[test]
+    fn tuples_of_all_spaces_are_counted() {
+        let mut store = Store::new(8).expect("a length of stores");
+        let on_9 = |operator| Call {
+            n: Node(1),
+            space: Space::Numbered(SpaceName(9)),
+            ..Call::new(operator)
+        };
+        assert_eq!(store.call(&on_9(operator::CUS)), added(9, 1));
+        assert_eq!(store.call(&on_9(operator::CUN)), added(1, 2));
+        let everywhere = Call {
+            space: Space::Universe,
+            ..on_9(operator::DUN)
+        };
+        assert_eq!(store.call(&everywhere), removed(1, 2));
+        assert_eq!(store.call(&on_9(operator::DUS)), removed(9, 1));
+        assert_eq!(store.call(&Call::new(operator::CUS)), added(0, 0));
     }
 
     #[test]
@@ -116,9 +169,9 @@ mod tests {
             ..Call::new(operator)
         };
         let name = Ok(Reply::Name(1));
-        assert_eq!(store.call(&on_nothing(operator::CUN)), name);
+        assert_eq!(store.call(&on_nothing(operator::CUN)), added(1, 0));
         assert_eq!(store.call(&on_nothing(operator::BOP)), name);
-        assert_eq!(store.call(&on_nothing(operator::DUN)), name);
+        assert_eq!(store.call(&on_nothing(operator::DUN)), removed(1, 0));
         assert_eq!(
             store.call(&on_nothing(operator::XOP)),
             Ok(Reply::YesNo(false))
@@ -141,7 +194,7 @@ mod tests {
             n: Node(1),
             ..Call::new(operator::CUN)
         };
-        assert_eq!(store.call(&create), Ok(Reply::Name(1)));
+        assert_eq!(store.call(&create), added(1, 1));
         let mut words = store.words().to_vec();
         assert_eq!(Store::from_words(words.clone()), Ok(store));
         words[3] += 1;

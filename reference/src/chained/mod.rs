@@ -33,6 +33,10 @@ const FEW_RECORDS: usize = 128;
 pub enum Answer {
     Refusal(u32),
     Name(u16),
+    /// A name, and how many tuples were added.
+    Added(u16, usize),
+    /// A name, and how many tuples were removed.
+    Removed(u16, usize),
     Value(u32),
     YesNo(bool),
     /// How many pairs are listed.
@@ -51,12 +55,12 @@ struct Fields {
 }
 
 impl Fields {
-    fn first_argument(&self) -> Answer {
-        Answer::Name(self.n as u16)
-    }
-
-    fn space_name(&self) -> Answer {
-        Answer::Name(self.s as u16)
+    /// The name that C, B and D answer.
+    fn first_argument(&self) -> u16 {
+        match self.operator {
+            51..=55 => self.s as u16,
+            _ => self.n as u16,
+        }
     }
 }
 
@@ -106,7 +110,9 @@ fn on_nothing(call: &Fields) -> Answer {
     match call.operator {
         9..=11 | 48 => Answer::YesNo(false),
         30..=44 | 50 => Answer::List(0),
-        _ => call.first_argument(),
+        1..=3 | 45 => Answer::Added(call.first_argument(), 0),
+        12..=29 | 49 => Answer::Removed(call.first_argument(), 0),
+        _ => Answer::Name(call.first_argument()),
     }
 }
 
@@ -119,7 +125,7 @@ pub fn run(buffer: &mut [u32], calls: &[u32], answers: &mut [u32], lists: &mut [
     }
     let (calls, _) = calls.as_chunks::<WORDS_IN_A_CALL>();
     let (answers, _) = answers.as_chunks_mut::<WORDS_IN_AN_ANSWER>();
-    let room: u64 = calls.iter().map(|call| u64::from(call[5])).sum();
+    let room: u64 = calls.iter().map(|call| u64::from(call[8])).sum();
     if answers.len() < calls.len() || (lists.len() as u64) < room {
         return 9;
     }
@@ -299,21 +305,33 @@ fn step(store: &mut Store, call: &Fields, list: &mut [u32]) -> Answer {
         4..=6 => pairs::bind(store, call),
         7..=8 => pairs::value(store, call),
         9..=11 => pairs::exists(store, call),
-        12..=14 => pairs::destroy(store, call),
-        15..=20 => removal::edges(store, call),
-        21..=23 => removal::edges_between(store, call),
-        24..=29 => removal::nodes_of_pairs(store, call),
+        12..=14 => counted(store, call, pairs::destroy),
+        15..=20 => counted(store, call, removal::edges),
+        21..=23 => counted(store, call, removal::edges_between),
+        24..=29 => counted(store, call, removal::nodes_of_pairs),
         30..=35 | 39..=44 => listing::pairs(store, call, list),
         36..=38 => listing::edges_between(store, call, list),
         45 => units::create_node(store, call),
         46..=48 => units::node(store, call),
-        49 => removal::node(store, call),
+        49 => counted(store, call, removal::node),
         50 => listing::nodes(store, call, list),
         51 => units::create_space(store, call),
         52..=54 => units::space(store, call),
-        55 => Ok(removal::space(store, call)),
+        55 => counted(store, call, removal::space),
         56 => listing::spaces(store, list),
         _ => listing::spaces_of_node(store, call, list),
     };
     answered.unwrap_or_else(Answer::Refusal)
+}
+
+/// A removal, with what it has freed: the store counts its used records.
+fn counted(
+    store: &mut Store,
+    call: &Fields,
+    remove: fn(&mut Store, &Fields) -> Result<(), u32>,
+) -> Result<Answer, u32> {
+    let before = store.used();
+    remove(store, call)?;
+    let count = before - store.used();
+    Ok(Answer::Removed(call.first_argument(), count))
 }

@@ -146,7 +146,7 @@ pub fn create(store: &mut Store, call: &Fields) -> Result<Answer, u32> {
             add(store, 0, &edges, &places);
         }
     }
-    Ok(call.first_argument())
+    Ok(Answer::Added(call.first_argument(), to_add))
 }
 
 /// Adds the edges of a space that are missing, the last first.
@@ -170,7 +170,7 @@ pub fn bind(store: &mut Store, call: &Fields) -> Result<Answer, u32> {
     if is_absent {
         Err(8)
     } else {
-        Ok(call.first_argument())
+        Ok(Answer::Name(call.first_argument()))
     }
 }
 
@@ -190,11 +190,11 @@ pub fn exists(store: &Store, call: &Fields) -> Result<Answer, u32> {
 
 /// D 12 to 14. From UNIVERSE the same walk goes on through all spaces; where
 /// UNIVERSE has no such edge, no space has.
-pub fn destroy(store: &mut Store, call: &Fields) -> Result<Answer, u32> {
+pub fn destroy(store: &mut Store, call: &Fields) -> Result<(), u32> {
     let edges = Edges::of(call);
     let places = find(store, store.first(), call, &edges)?;
     let Some(first) = places.present().next() else {
-        return Ok(call.first_argument());
+        return Ok(());
     };
     if call.s == 0 {
         let Edges { low, high, g, .. } = edges;
@@ -214,7 +214,7 @@ pub fn destroy(store: &mut Store, call: &Fields) -> Result<Answer, u32> {
             store.remove(found.place);
         }
     }
-    Ok(call.first_argument())
+    Ok(())
 }
 
 /// The records of n and m in s.

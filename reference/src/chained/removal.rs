@@ -4,12 +4,12 @@
 use super::chain::{Place, Store, M, N, S};
 use super::names::Names;
 use super::pairs::{find_nodes, Nodes};
-use super::{Answer, Fields, Meant};
+use super::{Fields, Meant};
 use crate::operators::Direction;
 
 /// D 15 to 20. An edge to n in s has n in s, so edges to n that come before n
 /// can be freed before n is seen.
-pub fn edges(store: &mut Store, call: &Fields) -> Result<Answer, u32> {
+pub fn edges(store: &mut Store, call: &Fields) -> Result<(), u32> {
     let meant = Meant::of(call);
     let Fields { s, n, .. } = *call;
     let used = store.used();
@@ -28,7 +28,7 @@ pub fn edges(store: &mut Store, call: &Fields) -> Result<Answer, u32> {
     if s == 0 && store.used() < used {
         store.sweep(rest_of_space, |_| true, |r| meant.takes(r));
     }
-    Ok(call.first_argument())
+    Ok(())
 }
 
 /// Conditions 5 and 6, where a walk from the space's start ends at n's place.
@@ -58,7 +58,7 @@ fn has_node(store: &Store, place: Place, call: &Fields) -> bool {
 
 /// D 21 to 23. The edges from n to m stand right after n, those from m to n
 /// right after m.
-pub fn edges_between(store: &mut Store, call: &Fields) -> Result<Answer, u32> {
+pub fn edges_between(store: &mut Store, call: &Fields) -> Result<(), u32> {
     let Nodes { n, m } = find_nodes(store, call)?;
     let direction = super::direction(call.operator);
     let used = store.used();
@@ -81,7 +81,7 @@ pub fn edges_between(store: &mut Store, call: &Fields) -> Result<Answer, u32> {
             },
         );
     }
-    Ok(call.first_argument())
+    Ok(())
 }
 
 /// Frees the edges to a node that stand after the node of a record.
@@ -96,11 +96,11 @@ fn free_edges_after(store: &mut Store, index: u32, to: u32) {
 
 /// D 24 to 29: the nodes are collected in a set, then one sweep removes all of
 /// them.
-pub fn nodes_of_pairs(store: &mut Store, call: &Fields) -> Result<Answer, u32> {
+pub fn nodes_of_pairs(store: &mut Store, call: &Fields) -> Result<(), u32> {
     let meant = Meant::of(call);
     let s = call.s;
     let (start, Some(first)) = meant.first_in(store, s)? else {
-        return Ok(call.first_argument());
+        return Ok(());
     };
     let mut nodes = Names::none();
     meant.each_from(store, first, s, |r| nodes.insert(meant.other(r) as u16));
@@ -109,11 +109,11 @@ pub fn nodes_of_pairs(store: &mut Store, call: &Fields) -> Result<Answer, u32> {
         |r| s == 0 || r[S] == s,
         |r| nodes.has(r[N] as u16) || nodes.has(r[M] as u16),
     );
-    Ok(call.first_argument())
+    Ok(())
 }
 
 /// D 49. Where n is not in s, nothing is freed and the walk ends.
-pub fn node(store: &mut Store, call: &Fields) -> Result<Answer, u32> {
+pub fn node(store: &mut Store, call: &Fields) -> Result<(), u32> {
     let Fields { s, n, .. } = *call;
     let start = store.space(store.first(), s);
     if !start.is_there {
@@ -123,14 +123,14 @@ pub fn node(store: &mut Store, call: &Fields) -> Result<Answer, u32> {
     if has_node(store, place, call) {
         store.sweep(place, |r| s == 0 || r[S] == s, |r| r[N] == n || r[M] == n);
     }
-    Ok(call.first_argument())
+    Ok(())
 }
 
 /// D 55.
-pub fn space(store: &mut Store, call: &Fields) -> Answer {
+pub fn space(store: &mut Store, call: &Fields) -> Result<(), u32> {
     let found = store.space(store.first(), call.s);
     if found.is_there {
         store.remove_space(found.place, call.s);
     }
-    call.space_name()
+    Ok(())
 }

@@ -7,7 +7,7 @@ use std::path::Path;
 use std::process::{Child, Command, Stdio};
 use std::thread;
 
-use crate::script::{self, MOST_BYTES};
+use crate::script::{self, CAPACITY, LIST_LENGTH, MOST_BYTES};
 
 /// The input is handed over in pieces of so many bytes, so that a program
 /// meets reads that give less than it asks for.
@@ -51,13 +51,60 @@ fn transfer(child: &mut Child, input: &[u8]) -> io::Result<Vec<u8>> {
     Ok(output)
 }
 
+/// What `slips` must print for a script, and how many tuples there are then.
+pub struct Expected {
+    pub output: Vec<u8>,
+    tuples: usize,
+}
+
+impl Expected {
+    pub fn of(input: &[u8]) -> Expected {
+        let mut output = Vec::new();
+        let machine = script::run(input, CAPACITY, LIST_LENGTH, &mut output);
+        let machine = machine.expect("a vector takes all bytes");
+        Expected {
+            output,
+            tuples: machine.tuples().count(),
+        }
+    }
+}
+
 /// What is wrong with a run, if anything: the first line that differs from
-/// what `slips` must print, or how the program ended.
-pub fn difference(input: &[u8], expected: &[u8], run: &Run) -> Option<String> {
-    if run.output != expected {
-        return Some(first_difference(input, expected, &run.output));
+/// what `slips` must print, numbers of tuples that don't add up, or how the
+/// program ended.
+pub fn difference(input: &[u8], expected: &Expected, run: &Run) -> Option<String> {
+    if run.output != expected.output {
+        return Some(first_difference(input, &expected.output, &run.output));
+    }
+    let (added, removed) = changes(&run.output);
+    if 1 + added != expected.tuples + removed {
+        let tuples = expected.tuples;
+        return Some(format!(
+            "{added} tuples added and {removed} removed leave {tuples}"
+        ));
     }
     (!run.ended_well).then(|| "all printed, but the program ended badly".to_string())
+}
+
+/// How many tuples the printed answers say were added, and how many were
+/// removed. Request 2: "Over any list of calls from a fresh store, the added
+/// less the removed is the tuples at the end less one."
+pub fn changes(output: &[u8]) -> (usize, usize) {
+    let (mut added, mut removed) = (0, 0);
+    for line in script::lines(output) {
+        let words: Vec<&[u8]> = line.split(|&byte| byte == b' ').collect();
+        match words[..] {
+            [b"=", _, [b'+', digits @ ..]] => added += count_of(digits),
+            [b"=", _, [b'-', digits @ ..]] => removed += count_of(digits),
+            _ => (),
+        }
+    }
+    (added, removed)
+}
+
+fn count_of(digits: &[u8]) -> usize {
+    let text = std::str::from_utf8(digits).unwrap_or_default();
+    text.parse().unwrap_or_default()
 }
 
 fn first_difference(input: &[u8], expected: &[u8], output: &[u8]) -> String {
@@ -101,42 +148,42 @@ mod tests {
             output: output.to_vec(),
             ended_well,
         };
-        difference(SCRIPT, &script::printed(SCRIPT), &run)
+        difference(SCRIPT, &Expected::of(SCRIPT), &run)
     }
 
     #[test]
     fn equal_output_has_no_difference() {
-        assert_eq!(found(b"= 1\nL 1 0:1\nR 11\nNIL\n", true), None);
+        assert_eq!(found(b"= 1 +1\nL 1 0:1\nR 11\nNIL\n", true), None);
     }
 
     #[test]
     fn each_difference_is_found() {
         let cases: [(&[u8], &str); 8] = [
-            (b"", "line 1: `CUN 1` gives nothing, expected `= 1`"),
+            (b"", "line 1: `CUN 1` gives nothing, expected `= 1 +1`"),
             (
-                b"= 1\nL 1 0:1\nR 11\n",
+                b"= 1 +1\nL 1 0:1\nR 11\n",
                 "line 4: `XUN 2` gives nothing, expected `NIL`",
             ),
             (
-                b"= 1\nR 11\nR 11\nNIL\n",
+                b"= 1 +1\nR 11\nR 11\nNIL\n",
                 "line 2: `SUN` gives `R 11`, expected `L 1 0:1`",
             ),
             (
-                b"= 1\nL 1 0:1\nNIL\n",
+                b"= 1 +1\nL 1 0:1\nNIL\n",
                 "line 3: `` gives `NIL`, expected `R 11`",
             ),
             (
-                b"= 1\nL 1 0:1 \nR 11\nNIL\n",
+                b"= 1 +1\nL 1 0:1 \nR 11\nNIL\n",
                 "line 2: `SUN` gives `L 1 0:1 `, expected `L 1 0:1`",
             ),
-            (b"= 1\nL 1 0:1\nR 11\nNIL", "the last line feed differs"),
+            (b"= 1 +1\nL 1 0:1\nR 11\nNIL", "the last line feed differs"),
             (
-                b"= 1\nL 1 0:1\nR 11\nNIL\n\n",
+                b"= 1 +1\nL 1 0:1\nR 11\nNIL\n\n",
                 "line 5: nothing gives ``, expected nothing",
             ),
             (
-                b"= 1\r\nL 1 0:1\nR 11\nNIL\n",
-                "line 1: `CUN 1` gives `= 1\\r`, expected `= 1`",
+                b"= 1 +1\r\nL 1 0:1\nR 11\nNIL\n",
+                "line 1: `CUN 1` gives `= 1 +1\\r`, expected `= 1 +1`",
             ),
         ];
         for (output, expected) in cases {
@@ -145,8 +192,30 @@ mod tests {
     }
 
     #[test]
+    fn the_numbers_are_added_up() {
+        let output = b"= 9 +1\n= 1 +2\n= 1\nL 1 0:1\nR 10\n= 1 -3\n= 7 -0\n= 2 +14\nV 5\n";
+        assert_eq!(changes(output), (17, 3));
+        assert_eq!(changes(b""), (0, 0));
+    }
+
+    #[test]
+    fn numbers_that_do_not_add_up_are_found() {
+        let expected = Expected {
+            tuples: 3,
+            ..Expected::of(SCRIPT)
+        };
+        let run = Run {
+            output: expected.output.clone(),
+            ended_well: true,
+        };
+        let problem = difference(SCRIPT, &expected, &run);
+        let text = "1 tuples added and 0 removed leave 3";
+        assert_eq!(problem.as_deref(), Some(text));
+    }
+
+    #[test]
     fn a_program_must_end_well() {
-        let problem = found(b"= 1\nL 1 0:1\nR 11\nNIL\n", false);
+        let problem = found(b"= 1 +1\nL 1 0:1\nR 11\nNIL\n", false);
         assert!(problem.is_some_and(|problem| problem.contains("ended badly")));
     }
 
@@ -157,7 +226,7 @@ mod tests {
             output: b"L 0\n".to_vec(),
             ended_well: true,
         };
-        let problem = difference(&input, b"R 11\n", &run);
+        let problem = difference(&input, &Expected::of(&input), &run);
         let expected = "line 1: 80000 bytes gives `L 0`, expected `R 11`";
         assert_eq!(problem.as_deref(), Some(expected));
     }

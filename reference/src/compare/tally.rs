@@ -15,8 +15,9 @@ pub struct Tally {
     too_long: usize,
     mostly_answered: usize,
     lines: usize,
-    /// For each kind of answer (`=`, `V`, `T`, `NIL`, `L`, `R` with a number):
-    /// how many lines have it, and how many scripts.
+    /// For each kind of answer (`=`, `= +`, `= +0`, `= -`, `= -0`, `V`, `T`,
+    /// `NIL`, `L`, `R` with a number): how many lines have it, and how many
+    /// scripts.
     answers: BTreeMap<String, [usize; 2]>,
     /// For each operator, how many of its calls are answered.
     operators: BTreeMap<u32, usize>,
@@ -94,12 +95,16 @@ fn is_answer(answer: &[u8]) -> bool {
     !answer.starts_with(b"R ")
 }
 
-/// The first word of an answer; of a refusal, all of it.
+/// The first word of an answer; of a refusal, all of it; of a name, with the
+/// sign of the number beside it, and the number if it is 0.
 fn kind(answer: &[u8]) -> String {
     let answer = String::from_utf8_lossy(answer);
-    match answer.split_once(' ') {
-        Some((word, _)) if word != "R" => word.to_string(),
-        _ => answer.into_owned(),
+    let words: Vec<&str> = answer.split(' ').collect();
+    match words[..] {
+        ["=", _, number @ ("+0" | "-0")] => format!("= {number}"),
+        ["=", _, number] => format!("= {}", &number[..1]),
+        ["R", ..] => answer.into_owned(),
+        _ => words[0].to_string(),
     }
 }
 

@@ -111,7 +111,9 @@ mod tests {
         for (answer, operator) in answers(FIRST, 55).iter().zip(1..) {
             let expected = match (operator, kind(operator)) {
                 (51..=55, _) | (_, Some(Kind::Value)) => "R 12",
-                (45, _) => "= 4",
+                (45, _) => "= 4 +0",
+                (_, Some(Kind::Create)) => "= 1 +0",
+                (_, Some(Kind::Destroy)) => "= 1 -0",
                 (_, Some(Kind::Exists)) => "NIL",
                 (_, Some(Kind::SetOf)) => "L 0",
                 _ => "= 1",
@@ -123,7 +125,7 @@ mod tests {
     #[test]
     fn each_group_has_its_answers() {
         let absent = [
-            "= 7", "R 6", "= 7", "NIL", "R 6", "= 7", "L 0", "R 12", "NIL",
+            "= 7 +0", "R 6", "= 7", "NIL", "R 6", "= 7 -0", "L 0", "R 12", "NIL",
         ];
         assert_eq!(answers(SECOND, ABSENT.len()), absent);
         let zero = answers(SECOND + ABSENT.len(), ZERO.len());

@@ -97,10 +97,10 @@ const FULL_TOGETHER: &[(&str, &[&str])] = &[
     ("R 6", &["COP 4 5 1", "CIP 3 5 1 9"]),
     ("R 7", &["COP 1 5 4", "CAP 1 5 3 9"]),
     ("R 8", &["BOP 2 5 1 7", "VIP 1 5 2 9"]),
-    ("= 1", &["CUN 1", "CUN 1 9", "COP 1 5 2", "COP 1 5 2 9"]),
-    ("= 2", &["CIP 2 5 1 9"]),
-    ("= 9", &["CUS 9"]),
-    ("= 0", &["CUS U"]),
+    ("= 1 +0", &["CUN 1", "CUN 1 9", "COP 1 5 2", "COP 1 5 2 9"]),
+    ("= 2 +0", &["CIP 2 5 1 9"]),
+    ("= 9 +0", &["CUS 9"]),
+    ("= 0 +0", &["CUS U"]),
 ];
 
 /// The line of an operator with these words.

@@ -7,8 +7,8 @@ use super::{Library, OneCall};
 use crate::buffer::{self, Contents};
 use crate::machine::{Answer, Call, Machine, Space};
 use crate::operators;
-use crate::packed::{self, WORDS_IN_A_CALL};
-use crate::random::{lists, Draws};
+use crate::packed::{self, AnswerWords, Fields, WORDS_IN_A_CALL};
+use crate::random::{lists, words, Draws};
 
 /// The longest list that is lent; no call lists more.
 pub const LONGEST_LIST: usize = 2_100;
@@ -18,6 +18,31 @@ pub fn lendable(call: &Call) -> Call {
     Call {
         list_length: call.list_length.min(LONGEST_LIST),
         ..*call
+    }
+}
+
+/// A call, and the words in which it is asked for.
+#[derive(Clone, Copy, Debug)]
+pub struct Asked {
+    pub call: Call,
+    fields: Fields,
+}
+
+impl Asked {
+    /// A call in any words that give it.
+    pub fn draw(draws: &mut Draws, call: &Call) -> Asked {
+        Asked {
+            call: *call,
+            fields: words::draw(draws, call),
+        }
+    }
+
+    /// The call that words give, with a list of this length.
+    pub fn of_words(fields: Fields, list_length: usize) -> Asked {
+        Asked {
+            call: packed::call_of_fields(&fields, list_length),
+            fields,
+        }
     }
 }
 
@@ -89,29 +114,44 @@ pub fn judging(library: &Library, words: &[u32], model: &Model) -> Checked {
 }
 
 /// Makes a call on a buffer, where it must give this answer and leave this
-/// model.
+/// model. Gives the words of the answer.
 pub fn one_call(
-    (name, make): Way,
+    (name, way): Way,
     words: &mut [u32],
-    call: &Call,
+    Asked { call, fields }: &Asked,
     (expected, after): (&Answer, &Model),
-) -> Checked {
+) -> Result<AnswerWords, String> {
     let before = words.to_vec();
     let untouched = unwritten(call.list_length);
     let mut list = untouched.clone();
-    let given = make(words, call, &mut list);
-    let answer = packed::answer(packed::words_of(given), &list);
-    same(name, "answer", &answer.as_ref(), &Some(expected))?;
+    let given = way.make(words, fields, &mut list);
+    let answer = packed::answer(given, &list);
+    if answer.as_ref() != Some(expected) {
+        return Err(format!(
+            "{name}: answer {given:?}, which is {answer:?}, expected {expected:?}"
+        ));
+    }
     let k = match expected {
         Answer::List(entries) => entries.len(),
         _ => 0,
     };
     same_words(name, "the list past k", &list[k..], &untouched[k..])?;
     if may_change(call, expected) {
-        holds(name, words, &before, after)
+        holds(name, words, &before, after)?;
     } else {
-        same_words(name, "the buffer", words, &before)
+        same_words(name, "the buffer", words, &before)?;
     }
+    Ok(given)
+}
+
+/// Request 2: "Over any list of calls .. the added less the removed is the
+/// tuples at the end less" those at the start, by the words of the answers and
+/// the word of each buffer that counts its tuples.
+pub fn adds_up(name: &str, answers: &[u32], before: &[u32], after: &[u32]) -> Checked {
+    let (added, removed) = packed::changes(answers);
+    let [start, end] = [before, after].map(|words| u64::from(words[3]));
+    let what = "tuples at the start and added, at the end and removed:";
+    same(name, what, &(start + added), &(end + removed))
 }
 
 /// "Operators of V, X and S change no word", nor does a refusal or a call on
@@ -143,7 +183,7 @@ pub fn whole_list(
     draws: &mut Draws,
     words: &[u32],
     model: &Model,
-    calls: &[Call],
+    calls: &[Asked],
 ) -> Checked {
     let run = Run::new(draws, words, model, calls);
     let (answers, lists) = (run.answers.len(), run.lists.len());
@@ -171,20 +211,20 @@ struct Run<'a> {
 }
 
 impl Run<'_> {
-    fn new<'a>(draws: &mut Draws, words: &'a [u32], model: &Model, calls: &[Call]) -> Run<'a> {
+    fn new<'a>(draws: &mut Draws, words: &'a [u32], model: &Model, calls: &[Asked]) -> Run<'a> {
         let mut after = model.clone();
-        let room = calls.iter().map(|call| call.list_length).sum();
+        let room = calls.iter().map(|asked| asked.call.list_length).sum();
         let mut lists = unwritten(room);
         let mut answers = Vec::new();
         let mut rest = &mut lists[..];
-        for call in calls {
+        for Asked { call, .. } in calls {
             let (list, others) = rest.split_at_mut(call.list_length);
             rest = others;
             answers.extend(packed::write(&after.step(call), list));
         }
         let mut packed: Vec<u32> = calls
             .iter()
-            .flat_map(|call| words_of(draws, call))
+            .flat_map(|asked| packed::in_list(&asked.fields, asked.call.list_length))
             .collect();
         // Words past the last whole call are not read.
         packed.extend((0..draws.below(WORDS_IN_A_CALL)).map(|_| 45));
@@ -207,6 +247,7 @@ impl Run<'_> {
         expected.answers[..self.answers.len()].copy_from_slice(&self.answers);
         expected.lists[..self.lists.len()].copy_from_slice(&self.lists);
         let words = self.run(library, 0, &expected)?;
+        adds_up(RUN, &self.answers, self.words, &words)?;
         holds(RUN, &words, self.words, &self.after)
     }
 
@@ -245,21 +286,6 @@ impl Room {
             lists: unwritten(lists),
         }
     }
-}
-
-/// Forms of a space that has a name: all but 0 and 2. Cut to 16 bits, some are
-/// one of these.
-const NUMBERED: [u32; 8] = [1, 1, 3, 4, 65_536, 65_538, 0x8000_0002, u32::MAX];
-
-/// A call in words, with any number beside UNIVERSE and nothing, and any form
-/// of a space that has a name.
-fn words_of(draws: &mut Draws, call: &Call) -> [u32; WORDS_IN_A_CALL] {
-    let mut words = packed::call(call);
-    match call.space {
-        Space::Universe | Space::Nothing => words[2] |= draws.one_of(&[0, 1, 9, 65_535]) << 16,
-        Space::Numbered(_) => words[4] = draws.one_of(&NUMBERED),
-    }
-    words
 }
 
 fn same<T: PartialEq + Debug>(name: &str, what: &str, given: &T, expected: &T) -> Checked {

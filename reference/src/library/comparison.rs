@@ -1,10 +1,10 @@
 //! All cases of a comparison.
 
-use super::beside::{self, lendable, Checked, Model, LONGEST_LIST};
+use super::beside::{self, lendable, Asked, Checked, Model, LONGEST_LIST};
 use super::found::Found;
 use super::Library;
 use crate::machine::{Answer, Call, Edge, Machine, Node, Space, SpaceName};
-use crate::random::{buffers, lists, systematic, Draws};
+use crate::random::{buffers, lists, systematic, words, Draws};
 use crate::{buffer, load};
 
 /// What the draws of a seed are for.
@@ -16,6 +16,7 @@ const OPERATORS: u64 = 25;
 const SYSTEMATIC: u64 = 26;
 const FULL: u64 = 27;
 const NOTHING: u64 = 28;
+const WORDS: u64 = 29;
 
 /// How many small stores are damaged in every place.
 const SYSTEMATIC_STORES: u64 = 100;
@@ -49,6 +50,7 @@ pub fn compare(library: &Library, calls: usize, buffers: usize, seed: u64) -> Fo
     comparison.lengths();
     comparison.operators();
     comparison.nothing();
+    comparison.words();
     comparison.full_store();
     comparison.systematic();
     comparison.lists(calls);
@@ -97,8 +99,8 @@ impl Comparison<'_> {
         beside::preparing(self.library, &mut words)?;
         self.any_buffer(draws, &words)?;
         let model = Model::of(&words);
-        let calls: Vec<Call> = (0..draws.below(3))
-            .map(|_| lendable(&model.any_call(draws)))
+        let calls: Vec<Asked> = (0..draws.below(3))
+            .map(|_| any_asked(draws, &model))
             .collect();
         beside::whole_list(self.library, draws, &words, &model, &calls)?;
         self.any_buffer(draws, &words[..words.len().saturating_sub(1)])?;
@@ -111,8 +113,7 @@ impl Comparison<'_> {
     fn operators(&mut self) {
         let mut draws = self.draws(OPERATORS, 0);
         let words = buffers::after(&mut draws, 100, load::dense(1, 3).take(200));
-        let model = Model::of(&words);
-        let aimed = lendable(&model.any_call(&mut draws));
+        let aimed = lendable(&Model::of(&words).any_call(&mut draws));
         let calls = operators().flat_map(|operator| {
             let numbered = Space::Numbered(SpaceName(1));
             [Space::Universe, numbered, Space::Nothing].map(|space| Call {
@@ -121,7 +122,7 @@ impl Comparison<'_> {
                 ..aimed
             })
         });
-        self.calls_on(&words, &model, calls);
+        self.calls_on(&mut draws, &words, calls);
     }
 
     /// Nothing as the space of each operator, with names that are there, absent
@@ -135,7 +136,23 @@ impl Comparison<'_> {
             buffers::after(&mut draws, 40, load::full_bed().into_iter().take(39)),
         ];
         for words in stores {
-            self.calls_on(&words, &Model::of(&words), calls_on_nothing());
+            self.calls_on(&mut draws, &words, calls_on_nothing());
+        }
+    }
+
+    /// Words that are no names, and value and space forms of any number, with
+    /// every operator.
+    fn words(&mut self) {
+        let mut draws = self.draws(WORDS, 0);
+        let calls = load::dense(1, 3).take(200).chain(all_valued());
+        let words = buffers::after(&mut draws, 100, calls);
+        let model = Model::of(&words);
+        for operator in 0..=58 {
+            for fields in words::unusual(operator) {
+                let asked = Asked::of_words(fields, SHORT_LIST);
+                let checked = self.each_way(&mut draws, &words, &model, &asked);
+                self.found.add(checked, || format!("{asked:?}"));
+            }
         }
     }
 
@@ -152,14 +169,21 @@ impl Comparison<'_> {
         });
         let others = (0..200).map(|_| lendable(&model.any_call(&mut draws)));
         let calls: Vec<Call> = longest.chain(others).collect();
-        self.calls_on(&words, &model, calls);
+        self.calls_on(&mut draws, &words, calls);
     }
 
     /// Calls of which each is made on the same store.
-    fn calls_on(&mut self, words: &[u32], model: &Model, calls: impl IntoIterator<Item = Call>) {
+    fn calls_on(
+        &mut self,
+        draws: &mut Draws,
+        words: &[u32],
+        calls: impl IntoIterator<Item = Call>,
+    ) {
+        let model = Model::of(words);
         for call in calls {
-            let checked = self.one_call(words, model, &call);
-            self.found.add(checked, || format!("{call:?}"));
+            let asked = Asked::draw(draws, &call);
+            let checked = self.one_call(words, &model, &asked);
+            self.found.add(checked, || format!("{asked:?}"));
         }
     }
 
@@ -190,8 +214,12 @@ impl Comparison<'_> {
     /// each function, then all by one.
     fn one_list(&mut self, place: u64, most: usize) {
         let mut draws = self.draws(LISTS, place);
-        let (capacity, mut calls) = draw_list(&mut draws, place);
-        calls.truncate(most);
+        let (capacity, calls) = draw_list(&mut draws, place);
+        let calls: Vec<Asked> = calls
+            .iter()
+            .take(most)
+            .map(|call| Asked::draw(&mut draws, call))
+            .collect();
         self.found.add_list(capacity);
         let name = format!("list {place}, C {capacity}");
         let words = self.fresh_store(&mut draws, capacity, &name);
@@ -213,19 +241,25 @@ impl Comparison<'_> {
         words
     }
 
-    /// Calls one after the other, each by each function on a store of its own.
+    /// Calls one after the other, each by each function on a store of its own;
+    /// at the end the numbers added and removed must be those of its tuples.
     /// Ends where something differs, and says whether nothing does.
-    fn each_call(&mut self, words: &[u32], calls: &[Call], name: &str) -> bool {
-        let mut model = Model::of(words);
-        let mut stores = beside::ways(self.library).map(|way| (way, words.to_vec()));
-        calls.iter().zip(1..).all(|(call, number)| {
-            let expected = model.step(call);
-            let checked = stores.iter_mut().try_for_each(|(way, words)| {
-                beside::one_call(*way, words, call, (&expected, &model))
+    fn each_call(&mut self, fresh: &[u32], calls: &[Asked], name: &str) -> bool {
+        let mut model = Model::of(fresh);
+        let mut stores = beside::ways(self.library).map(|way| (way, fresh.to_vec(), Vec::new()));
+        let last = calls.len();
+        calls.iter().zip(1..).all(|(asked, number)| {
+            let expected = model.step(&asked.call);
+            let checked = stores.iter_mut().try_for_each(|(way, words, answers)| {
+                answers.extend(beside::one_call(*way, words, asked, (&expected, &model))?);
+                if number < last {
+                    return Ok(());
+                }
+                beside::adds_up(way.0, answers, fresh, words)
             });
-            self.found.add_call(call, &expected);
+            self.found.add_call(&asked.call, &expected);
             self.found
-                .add(checked, || format!("{name}, call {number}, {call:?}"))
+                .add(checked, || format!("{name}, call {number}, {asked:?}"))
         })
     }
 
@@ -261,21 +295,54 @@ impl Comparison<'_> {
     fn any_buffer(&self, draws: &mut Draws, words: &[u32]) -> Checked {
         let model = Model::of(words);
         beside::judging(self.library, words, &model)?;
-        let call = lendable(&model.any_call(draws));
-        self.one_call(words, &model, &call)
-            .and_then(|()| beside::whole_list(self.library, draws, words, &model, &[call]))
-            .map_err(|problem| format!("{call:?}: {problem}"))
+        let asked = any_asked(draws, &model);
+        self.each_way(draws, words, &model, &asked)
+            .map_err(|problem| format!("{asked:?}: {problem}"))
     }
 
-    /// A call on a copy of a buffer, by each function.
-    fn one_call(&self, words: &[u32], model: &Model, call: &Call) -> Checked {
+    /// A call on copies of a buffer, by each function, and a run of it.
+    fn each_way(&self, draws: &mut Draws, words: &[u32], model: &Model, asked: &Asked) -> Checked {
+        self.one_call(words, model, asked)?;
+        beside::whole_list(self.library, draws, words, model, &[*asked])
+    }
+
+    /// A call on a copy of a buffer, by each function that makes one.
+    fn one_call(&self, words: &[u32], model: &Model, asked: &Asked) -> Checked {
         let mut after = model.clone();
-        let expected = after.step(call);
+        let expected = after.step(&asked.call);
         beside::ways(self.library).into_iter().try_for_each(|way| {
             let mut words = words.to_vec();
-            beside::one_call(way, &mut words, call, (&expected, &after))
+            beside::one_call(way, &mut words, asked, (&expected, &after))?;
+            Ok(())
         })
     }
+}
+
+/// A call with names that are there, or others, in any words that give it.
+fn any_asked(draws: &mut Draws, model: &Model) -> Asked {
+    let call = lendable(&model.any_call(draws));
+    Asked::draw(draws, &call)
+}
+
+/// Calls that give a value to all that is there with names up to 3, in UNIVERSE
+/// and in space 1.
+fn all_valued() -> Vec<Call> {
+    let mut calls = Vec::new();
+    for space in [Space::Universe, Space::Numbered(SpaceName(1))] {
+        for names in 0..27 {
+            let [n, g, m] = [names / 9, names / 3 % 3, names % 3].map(|name| 1 + name);
+            calls.extend([4, 46, 52].map(|operator| Call {
+                operator,
+                n: Node(n),
+                g: Edge(g),
+                m: Node(m),
+                v: 700 + u32::from(names),
+                space,
+                list_length: 0,
+            }));
+        }
+    }
+    calls
 }
 
 /// Calls of all operators, and of the numbers beside them, on nothing.
@@ -377,14 +444,15 @@ mod tests {
     use super::*;
     use crate::chained::{self, Answer};
     use crate::library::{Judging, OneCall, Preparing, WholeList, HAND_WRITTEN};
-    use crate::packed::WORDS_IN_A_CALL;
+    use crate::packed::{AnswerWords, Fields, WORDS_IN_AN_ANSWER, WORDS_IN_A_CALL};
 
     /// Whether some case fails, of some calls and some buffers.
     fn fails(library: &Library) -> bool {
         let mut comparison = Comparison::new(library, 1);
-        let parts: [fn(&mut Comparison); 4] = [
+        let parts: [fn(&mut Comparison); 5] = [
             |comparison| comparison.operators(),
             |comparison| comparison.nothing(),
+            |comparison| comparison.words(),
             |comparison| comparison.lists(2_000),
             |comparison| comparison.buffers(300),
         ];
@@ -409,6 +477,8 @@ mod tests {
         let text = comparison.found.to_string();
         let expected = "57 operators answered, refusals 2 3 4 5 6 7 8 9 10 12\n";
         assert!(text.contains(expected), "{text}");
+        assert!(comparison.found.added > 2_000, "{text}");
+        assert!(comparison.found.removed > 500, "{text}");
     }
 
     #[test]
@@ -449,11 +519,14 @@ mod tests {
         }
     }
 
+    /// What is wrong in one way, with calls and answers of its own.
+    type WrongCall = fn(&mut [u32], &Call, &mut [u32]) -> Answer;
+
     /// Calls that are wrong in one way each: the store is not checked, nothing
     /// is written, the operator is cut short, the list is one too short, a place
     /// past k or after a refusal is written, a word of a free record changes
     /// with a refusal, a word past record C changes.
-    const WRONG_CALLS: [OneCall; 8] = [
+    const WRONG_CALLS: [WrongCall; 8] = [
         |store, call, list| match chained::is_store(store) {
             true => chained::execute(store, call, list),
             false => Answer::Refusal(5),
@@ -490,7 +563,7 @@ mod tests {
         },
         |store, call, list| {
             let answer = chained::execute(store, call, list);
-            if let (Answer::Name(_), [.., last]) = (answer, store) {
+            if let (Answer::Added(..), [.., last]) = (answer, store) {
                 *last = 0;
             }
             answer
@@ -498,8 +571,8 @@ mod tests {
     ];
 
     /// Each of these calls fails, by words and by pairs.
-    fn each_fails(calls: &[OneCall]) {
-        for (place, &wrong) in calls.iter().enumerate() {
+    fn each_fails(calls: impl IntoIterator<Item = OneCall>) {
+        for (place, wrong) in calls.into_iter().enumerate() {
             let by_words = Library {
                 call: wrong,
                 ..HAND_WRITTEN
@@ -515,14 +588,99 @@ mod tests {
 
     #[test]
     fn each_wrong_call_fails() {
-        each_fails(&WRONG_CALLS);
+        each_fails(WRONG_CALLS.map(OneCall::Read));
+    }
+
+    /// Calls whose number is wrong: it counts one space alone, or what would be
+    /// added to a fresh graph, or it is left out, or given by B too, or stands
+    /// with the other sign; it is 1 too much where there is no selection.
+    const WRONG_NUMBERS: [WrongCall; 7] = [
+        |store, call, list| match (chained::execute(store, call, list), call.space) {
+            (Answer::Removed(name, 2..), Space::Universe) => Answer::Removed(name, 1),
+            (answer, _) => answer,
+        },
+        |store, call, list| match (chained::execute(store, call, list), call.space) {
+            (Answer::Added(name, 2), Space::Numbered(_)) => Answer::Added(name, 1),
+            (answer, _) => answer,
+        },
+        |store, call, list| match (chained::execute(store, call, list), call.operator) {
+            (Answer::Added(name, _), 3) => Answer::Added(name, 2),
+            (answer, _) => answer,
+        },
+        |store, call, list| match chained::execute(store, call, list) {
+            Answer::Added(name, 0) => Answer::Name(name),
+            answer => answer,
+        },
+        |store, call, list| match chained::execute(store, call, list) {
+            Answer::Name(name) => Answer::Added(name, 0),
+            answer => answer,
+        },
+        |store, call, list| match chained::execute(store, call, list) {
+            Answer::Removed(name, count) => Answer::Added(name, count),
+            answer => answer,
+        },
+        |store, call, list| match (chained::execute(store, call, list), call.space) {
+            (Answer::Removed(name, 0), Space::Nothing) => Answer::Removed(name, 1),
+            (answer, _) => answer,
+        },
+    ];
+
+    #[test]
+    fn each_wrong_number_fails() {
+        each_fails(WRONG_NUMBERS.map(OneCall::Read));
+    }
+
+    /// What is wrong in one way, from words to words.
+    type WrongInWords = fn(&mut [u32], &Fields, &mut [u32]) -> AnswerWords;
+
+    fn right(store: &mut [u32], fields: &Fields, list: &mut [u32]) -> AnswerWords {
+        HAND_WRITTEN.call.make(store, fields, list)
+    }
+
+    /// Calls whose words are wrong: a name is cut to 16 bits, or only a name of
+    /// 65,536 is one too many; v is read without a value, or not with the form 2;
+    /// the form 3 of a space is UNIVERSE; a form is cut to 16 bits; a name that
+    /// is not read is refused; a value carries no 1, or NIL one.
+    const WRONG_WORDS: [WrongInWords; 11] = [
+        |store, fields, list| right(store, &with(fields, 1, |n| n % 65_536), list),
+        |store, fields, list| right(store, &with(fields, 2, |g| g % 65_536), list),
+        |store, fields, list| right(store, &with(fields, 3, |m| m.min(65_535)), list),
+        |store, fields, list| right(store, &with(fields, 7, |s| s % 65_536), list),
+        |store, fields, list| right(store, &with(fields, 4, |form| form.max(1)), list),
+        |store, fields, list| right(store, &with(fields, 4, |form| form & !2), list),
+        |store, fields, list| right(store, &with(fields, 6, |form| form % 3), list),
+        |store, fields, list| right(store, &with(fields, 6, |form| form % 65_536), list),
+        |store, fields, list| match fields[3] {
+            65_536.. => [0, 3, 0],
+            _ => right(store, fields, list),
+        },
+        |store, fields, list| match right(store, fields, list) {
+            [2, value, _] => [2, value, 0],
+            words => words,
+        },
+        |store, fields, list| match right(store, fields, list) {
+            [2, value, _] => [2, value, 1],
+            words => words,
+        },
+    ];
+
+    /// The fields with another word in a place.
+    fn with(fields: &Fields, place: usize, other: fn(u32) -> u32) -> Fields {
+        let mut fields = *fields;
+        fields[place] = other(fields[place]);
+        fields
+    }
+
+    #[test]
+    fn each_wrong_word_fails() {
+        each_fails(WRONG_WORDS.map(OneCall::InWords));
     }
 
     /// Calls that are wrong where the space is nothing: it is taken for
     /// UNIVERSE, or for a space that is absent; BUN tests its node, as in an
     /// empty space; a C, B or D operator changes a word; a place of the list is
     /// written; VUN says NIL; CUS is answered; 12 comes before 3.
-    const WRONG_ON_NOTHING: [OneCall; 8] = [
+    const WRONG_ON_NOTHING: [WrongCall; 8] = [
         |store, call, list| on(Space::Universe, store, call, list),
         |store, call, list| on(Space::Numbered(SpaceName(65_000)), store, call, list),
         |store, call, list| match (call.space, call.operator) {
@@ -531,7 +689,7 @@ mod tests {
         },
         |store, call, list| {
             let answer = chained::execute(store, call, list);
-            if let (Space::Nothing, Answer::Name(_), [.., last]) = (call.space, answer, store) {
+            if let (Space::Nothing, Answer::Added(..), [.., last]) = (call.space, answer, store) {
                 *last ^= 1;
             }
             answer
@@ -570,18 +728,29 @@ mod tests {
 
     #[test]
     fn each_wrong_call_on_nothing_fails() {
-        each_fails(&WRONG_ON_NOTHING);
+        each_fails(WRONG_ON_NOTHING.map(OneCall::Read));
     }
 
-    /// Runs that take the form 2 for a number, and 3 for nothing.
+    /// Runs that take the form 2 of a space for a number, and 3 for nothing;
+    /// that take the form 2 of a value for NIL; that cut a name to 16 bits.
     #[test]
     fn each_wrong_form_fails() {
-        let wrong: [WholeList; 2] = [
+        let wrong: [WholeList; 4] = [
             |store, calls, answers, lists| {
-                chained::run(store, &with_form(calls, 2, 3), answers, lists)
+                let calls = with_words(calls, 6, |form| if form == 2 { 3 } else { form });
+                chained::run(store, &calls, answers, lists)
             },
             |store, calls, answers, lists| {
-                chained::run(store, &with_form(calls, 3, 2), answers, lists)
+                let calls = with_words(calls, 6, |form| if form == 3 { 2 } else { form });
+                chained::run(store, &calls, answers, lists)
+            },
+            |store, calls, answers, lists| {
+                let calls = with_words(calls, 4, |form| if form == 2 { 0 } else { form });
+                chained::run(store, &calls, answers, lists)
+            },
+            |store, calls, answers, lists| {
+                let calls = with_words(calls, 1, |n| n % 65_536);
+                chained::run(store, &calls, answers, lists)
             },
         ];
         for run in wrong {
@@ -593,26 +762,33 @@ mod tests {
         }
     }
 
-    /// The calls with another form of space in place of one.
-    fn with_form(calls: &[u32], form: u32, other: u32) -> Vec<u32> {
+    /// The calls with other words in one place of each.
+    fn with_words(calls: &[u32], place: usize, other: fn(u32) -> u32) -> Vec<u32> {
         let mut calls = calls.to_vec();
         for call in calls.chunks_exact_mut(WORDS_IN_A_CALL) {
-            if call[4] == form {
-                call[4] = other;
-            }
+            call[place] = other(call[place]);
         }
         calls
     }
 
     #[test]
     fn each_wrong_run_fails() {
-        let wrong: [WholeList; 4] = [
+        let wrong: [WholeList; 5] = [
+            |store, calls, answers, lists| {
+                let code = chained::run(store, calls, answers, lists);
+                for answer in answers.chunks_exact_mut(WORDS_IN_AN_ANSWER) {
+                    if answer[0] == 6 && answer[2] > 1 {
+                        answer[2] -= 1;
+                    }
+                }
+                code
+            },
             |store, calls, answers, lists| match chained::run(store, calls, answers, lists) {
                 1 => 9,
                 code => code,
             },
             |store, calls, answers, lists| {
-                let room = answers.len() / 2 * 2;
+                let room = answers.len() / WORDS_IN_AN_ANSWER * WORDS_IN_AN_ANSWER;
                 chained::run(store, calls, &mut answers[..room], lists) % 9
             },
             |store, calls, answers, lists| {

@@ -19,6 +19,8 @@ pub struct Found {
     lists: usize,
     answered: BTreeSet<u32>,
     refusals: BTreeSet<u32>,
+    pub(super) added: usize,
+    pub(super) removed: usize,
     capacities: BTreeSet<usize>,
     buffers: usize,
     stores: usize,
@@ -51,6 +53,11 @@ impl Found {
             Answer::Refusal(number) => self.refusals.insert(*number),
             _ => self.answered.insert(call.operator),
         };
+        match answer {
+            Answer::Added(_, count) => self.added += count,
+            Answer::Removed(_, count) => self.removed += count,
+            _ => (),
+        }
     }
 
     pub(super) fn add_buffer(&mut self, is_store: bool) {
@@ -71,6 +78,11 @@ impl fmt::Display for Found {
             self.capacities.len(),
             self.answered.len(),
             refusals.join(" ")
+        )?;
+        writeln!(
+            f,
+            "{} tuples added and {} removed by these calls",
+            self.added, self.removed
         )?;
         let others = self.passed + self.failed - self.calls - self.buffers;
         writeln!(

@@ -7,8 +7,9 @@ mod found;
 #[cfg(feature = "rattle")]
 mod proved;
 
-use crate::chained::{self, Answer};
+use crate::chained;
 use crate::machine::Call;
+use crate::packed::{self, AnswerWords, Fields};
 
 pub use beside::{lendable, LONGEST_LIST};
 pub use comparison::compare;
@@ -23,7 +24,26 @@ pub type Preparing = fn(store: &mut [u32]) -> Result<u32, u32>;
 pub type Judging = fn(store: &[u32]) -> bool;
 
 /// Makes a call on any buffer, with a list of packed pairs.
-pub type OneCall = fn(store: &mut [u32], call: &Call, list: &mut [u32]) -> Answer;
+#[derive(Clone, Copy)]
+pub enum OneCall {
+    /// From words to words, as the library does.
+    InWords(fn(store: &mut [u32], call: &Fields, list: &mut [u32]) -> AnswerWords),
+    /// For what has calls and answers of its own: the words are read and
+    /// written here.
+    Read(fn(store: &mut [u32], call: &Call, list: &mut [u32]) -> chained::Answer),
+}
+
+impl OneCall {
+    pub fn make(self, store: &mut [u32], call: &Fields, list: &mut [u32]) -> AnswerWords {
+        match self {
+            OneCall::InWords(make) => make(store, call, list),
+            OneCall::Read(make) => {
+                let call = packed::call_of_fields(call, list.len());
+                packed::words_of(make(store, &call, list))
+            }
+        }
+    }
+}
 
 /// Makes a whole list of calls, from words to words (`packed`). Gives 0, or 1
 /// where the buffer is not a store, or 9 where there is too little room.
@@ -45,7 +65,7 @@ pub struct Library {
 pub const HAND_WRITTEN: Library = Library {
     prepare: chained::prepare,
     is_store: chained::is_store,
-    call: chained::execute,
-    call_pairs: chained::execute,
+    call: OneCall::Read(chained::execute),
+    call_pairs: OneCall::Read(chained::execute),
     run: chained::run,
 };

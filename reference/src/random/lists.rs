@@ -13,6 +13,19 @@ pub struct Run {
     pub machine: Machine,
 }
 
+impl Run {
+    /// How many tuples the answers say were added, and how many were removed.
+    pub fn changes(&self) -> (usize, usize) {
+        self.answers
+            .iter()
+            .fold((0, 0), |(added, removed), answer| match answer {
+                Answer::Added(_, count) => (added + count, removed),
+                Answer::Removed(_, count) => (added, removed + count),
+                _ => (added, removed),
+            })
+    }
+}
+
 /// The forms that the spaces of drawn calls have.
 #[derive(Clone, Copy, PartialEq, Eq, Debug)]
 pub enum Forms {

@@ -1,11 +1,12 @@
-//! Random lists of calls, buffers and scripts, for comparisons. Equal seeds
-//! draw equal ones everywhere.
+//! Random lists of calls, words, buffers and scripts, for comparisons. Equal
+//! seeds draw equal ones everywhere.
 
 pub mod buffers;
 pub mod damage;
 pub mod lists;
 pub mod scripts;
 pub mod systematic;
+pub mod words;
 
 /// A small generator of numbers.
 pub struct Draws(u64);

@@ -118,7 +118,10 @@ impl Side for InBuffer {
 
     fn run_checked(&mut self, run: Run) {
         for (call, answer, list) in parts(run) {
-            *answer = packed::words_of((self.functions.call)(&mut self.words, call, list));
+            *answer = self
+                .functions
+                .call
+                .make(&mut self.words, &packed::fields(call), list);
         }
     }
 

@@ -9,7 +9,7 @@ use std::process::ExitCode;
 use std::sync::atomic::{AtomicUsize, Ordering};
 use std::thread;
 
-use gaffdamson_reference::compare::{self, tally::Tally};
+use gaffdamson_reference::compare::{self, tally::Tally, Expected};
 use gaffdamson_reference::random::scripts;
 use gaffdamson_reference::script;
 
@@ -123,8 +123,8 @@ fn compare_some(
             return Ok((tally, failures));
         }
         let input = scripts.get(place)?;
-        let expected = script::printed(&input);
-        tally.add(&input, &expected);
+        let expected = Expected::of(&input);
+        tally.add(&input, &expected.output);
         let run = compare::run(program, &input)?;
         if let Some(problem) = compare::difference(&input, &expected, &run) {
             failures.push((place, problem));

@@ -10,7 +10,7 @@ use gaffdamson_reference::machine::{Answer, Call, Key, Space, Value};
 use gaffdamson_reference::random::lists::Run;
 
 /// The files of the definitions that compute.
-const MODULES: [&str; 11] = [
+const MODULES: [&str; 12] = [
     "Numbers",
     "Ordered",
     "Keys",
@@ -18,6 +18,7 @@ const MODULES: [&str; 11] = [
     "Operators",
     "Pairs",
     "Steps",
+    "Changes",
     "Refusals",
     "Machine",
     "Rules",
@@ -36,7 +37,7 @@ use Rattle.model.specs.declared.Space.the-variants.{Universe, Numbered, 
 use Rattle.model.specs.Keys.{Tuple}
 use Rattle.model.specs.Tuples.{Tuples, fresh}
 use Rattle.model.specs.Pairs.{pair}
-use Rattle.model.specs.Steps.{Reply, refusal, name, valued, yesNo, pairs}
+use Rattle.model.specs.Steps.{Reply, refusal, name, added, removed, valued, yesNo, pairs}
 use Rattle.model.specs.Machine.{Request, calling}
 ";
 
@@ -89,20 +90,28 @@ impl Definitions {
         format!("\npub {name} :\n    {left}\n    ≡ {right}\n{unfolding}\n{name} = refl\n")
     }
 
-    /// The answers of a list of calls, and the state after the last.
+    /// The answers of a list of calls, the state after the last, and how many
+    /// tuples the answers say were added and removed.
     pub fn of_list(&self, place: usize, run: &Run) -> String {
         let calls = listed(run.calls.iter().map(written_call));
         let answers = listed(run.answers.iter().map(written_answer));
         let tuples = listed(run.machine.tuples().map(written_tuple));
         let name = format!("list-{place}");
         let given = format!("{} fresh {name}-calls", run.capacity);
-        abbreviation(&format!("{name}-calls"), "List Request", &calls)
-            + &self.theorem(
-                &format!("{name}-answers"),
-                &format!("answers {given}"),
-                &answers,
-            )
-            + &self.theorem(&format!("{name}-state"), &format!("final {given}"), &tuples)
+        let (added, removed) = run.changes();
+        let theorems = [
+            ("answers", format!("answers {given}"), answers.clone()),
+            ("state", format!("final {given}"), tuples),
+            ("added", format!("allAdded {answers}"), added.to_string()),
+            (
+                "removed",
+                format!("allRemoved {answers}"),
+                removed.to_string(),
+            ),
+        ];
+        let theorems = theorems
+            .map(|(part, left, right)| self.theorem(&format!("{name}-{part}"), &left, &right));
+        abbreviation(&format!("{name}-calls"), "List Request", &calls) + &theorems.concat()
     }
 
     /// Whether a buffer is a store; of a store, its tuples and how many
@@ -187,6 +196,8 @@ fn written_answer(answer: &Answer) -> String {
     match answer {
         Answer::Refusal(number) => format!("refusal {number}"),
         Answer::Name(name) => format!("name {name}"),
+        Answer::Added(name, count) => format!("added {name} {count}"),
+        Answer::Removed(name, count) => format!("removed {name} {count}"),
         Answer::Value(value) => format!("valued {value}"),
         Answer::YesNo(yes) => format!("yesNo {yes}"),
         Answer::List(entries) => {
