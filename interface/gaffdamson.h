@@ -227,9 +227,9 @@ enum {
  * other number) the space s. s is read in this last form alone.
  *
  * With no selection the graph is not looked at and 5 to 10 are not tested: C, B
- * and D operators change no word and answer n, X operators say no, S operators
- * answer an empty list. V operators and CUS to DUS are refused, 12. Both SUS do
- * not read the space.
+ * and D operators change no word and answer n (C and D with 0 tuples), X
+ * operators say no, S operators answer an empty list. V operators and CUS to DUS
+ * are refused, 12. Both SUS do not read the space.
  */
 enum {
     GAFFDAMSON_UNIVERSE = 0,
@@ -241,40 +241,40 @@ enum {
  * A call. Fields that are left out of a C initializer are 0, which is NIL and
  * UNIVERSE:
  *
- *   gaffdamson_request create = {.op = GAFFDAMSON_CUN, .n = 1};
+ *   gaffdamson_call_words create = {.op = GAFFDAMSON_CUN, .n = 1};
  *
  * Any words are a call. A name has 16 bits; a greater word stands for 0.
  */
 typedef struct {
-    uint32_t op;            /* the operator */
+    uint32_t op;            /* the operator; C++ keeps that word for itself */
     uint32_t n, g, m;       /* the first node, the edge, the second node */
     uint32_t value_form, v; /* the value */
     uint32_t space_form, s; /* the space */
-} gaffdamson_request;
+} gaffdamson_call_words;
 
 /* A call on UNIVERSE, with NIL. */
-static inline gaffdamson_request gaffdamson_on_universe(
+static inline gaffdamson_call_words gaffdamson_on_universe(
     uint32_t op, uint32_t n, uint32_t g, uint32_t m) {
-    gaffdamson_request call = {op, n, g, m, GAFFDAMSON_NIL, 0, GAFFDAMSON_UNIVERSE, 0};
+    gaffdamson_call_words call = {op, n, g, m, GAFFDAMSON_NIL, 0, GAFFDAMSON_UNIVERSE, 0};
     return call;
 }
 
 /* The same call in space s; also the call of CUS to DUS on space s. */
-static inline gaffdamson_request gaffdamson_in_space(gaffdamson_request call, uint32_t s) {
+static inline gaffdamson_call_words gaffdamson_in_space(gaffdamson_call_words call, uint32_t s) {
     call.space_form = GAFFDAMSON_NUMBERED;
     call.s = s;
     return call;
 }
 
 /* The same call with no selection. */
-static inline gaffdamson_request gaffdamson_on_nothing(gaffdamson_request call) {
+static inline gaffdamson_call_words gaffdamson_on_nothing(gaffdamson_call_words call) {
     call.space_form = GAFFDAMSON_NOTHING;
     call.s = 0;
     return call;
 }
 
 /* The same call with the value v. */
-static inline gaffdamson_request gaffdamson_with_value(gaffdamson_request call, uint32_t v) {
+static inline gaffdamson_call_words gaffdamson_with_value(gaffdamson_call_words call, uint32_t v) {
     call.value_form = GAFFDAMSON_NUMBER;
     call.v = v;
     return call;
@@ -317,20 +317,20 @@ uint32_t gaffdamson_is_store(const uint32_t *store, size_t store_length);
  */
 gaffdamson_answer gaffdamson_call(
     uint32_t *store, size_t store_length,
-    gaffdamson_request call,
+    gaffdamson_call_words call,
     uint32_t *list, size_t list_length);
 
 /* The same, with a list of pairs. */
 gaffdamson_answer gaffdamson_call_pairs(
     uint32_t *store, size_t store_length,
-    gaffdamson_request call,
+    gaffdamson_call_words call,
     gaffdamson_pair *list, size_t list_length);
 
 /*
  * Makes a whole list of calls, one after the other. The buffer is checked
  * once, before the first.
  *
- *   calls     nine words for each call: the eight of a gaffdamson_request, in
+ *   calls     nine words for each call: the eight of a gaffdamson_call_words, in
  *             their order, then the length of the call's list. There are
  *             calls_length / 9 calls, rounded down; words past the last are
  *             not read.

@@ -14,7 +14,7 @@ static uint32_t store[GAFFDAMSON_WORDS(RECORDS)];
 
 typedef struct {
     const char *what;
-    gaffdamson_request call;
+    gaffdamson_call_words call;
 } step;
 
 /* The space of a call: selection s. A call without it is on UNIVERSE. */
@@ -41,7 +41,7 @@ static const step building[] = {
     {"remove loop 4", {.op = GAFFDAMSON_DUN, .n = 4}},
 };
 
-static gaffdamson_answer make(gaffdamson_request call, uint32_t list[PLACES]) {
+static gaffdamson_answer make(gaffdamson_call_words call, uint32_t list[PLACES]) {
     return gaffdamson_call(store, sizeof store / sizeof store[0], call, list, PLACES);
 }
 
@@ -66,22 +66,22 @@ static void print_answer(gaffdamson_answer answer) {
 }
 
 /* The entries of a list; none where the call is refused. */
-static uint32_t entries_of(gaffdamson_request call, uint32_t list[PLACES]) {
+static uint32_t entries_of(gaffdamson_call_words call, uint32_t list[PLACES]) {
     gaffdamson_answer answer = make(call, list);
     return answer.kind == GAFFDAMSON_LIST ? answer.first : 0;
 }
 
 /* A call in the same space as another one. */
-static gaffdamson_request beside(
-    gaffdamson_request other, uint32_t op, uint32_t n, uint32_t g, uint32_t m) {
-    gaffdamson_request call = gaffdamson_on_universe(op, n, g, m);
+static gaffdamson_call_words beside(
+    gaffdamson_call_words other, uint32_t op, uint32_t n, uint32_t g, uint32_t m) {
+    gaffdamson_call_words call = gaffdamson_on_universe(op, n, g, m);
     call.space_form = other.space_form;
     call.s = other.s;
     return call;
 }
 
 /* The yarn that leaves a loop, with its length in the same space. */
-static void print_yarn(uint32_t loop, gaffdamson_request loops) {
+static void print_yarn(uint32_t loop, gaffdamson_call_words loops) {
     uint32_t pairs[PLACES] = {0}, none[PLACES] = {0};
     uint32_t count = entries_of(beside(loops, GAFFDAMSON_SOP, loop, 0, 0), pairs);
     for (uint32_t i = 0; i < count; i++) {
@@ -97,7 +97,7 @@ static void print_yarn(uint32_t loop, gaffdamson_request loops) {
 }
 
 /* The loops that a call of SUN lists, and the yarn that leaves them. */
-static void print_space(const char *title, gaffdamson_request call) {
+static void print_space(const char *title, gaffdamson_call_words call) {
     uint32_t loops[PLACES] = {0};
     uint32_t count = entries_of(call, loops);
     printf(count == 0 ? "%s: no loops" : "%s: loops", title);
@@ -119,7 +119,7 @@ int main(void) {
         print_answer(make(building[i].call, list));
     }
     printf("\n");
-    gaffdamson_request loops = gaffdamson_on_universe(GAFFDAMSON_SUN, 0, 0, 0);
+    gaffdamson_call_words loops = gaffdamson_on_universe(GAFFDAMSON_SUN, 0, 0, 0);
     print_space("selection 1", gaffdamson_in_space(loops, 1));
     print_space("selection 2", gaffdamson_in_space(loops, 2));
     print_space("a row with no selection", gaffdamson_on_nothing(loops));

@@ -17,7 +17,7 @@ use Rattle.layouts.specs.Stored.{stored}
 use Rattle.fresh.specs.Prepare.{afterPreparing}
 use Rattle.pairs.specs.InPairs.{CallInPairs}
 use Rattle.run.specs.declared.AnswerWords.{AnswerWords}
-use Rattle.run.specs.Words.{answerWords}
+use Rattle.run.specs.Words.{capacityKind, answerWords}
 
 -- ---- one call
 
@@ -41,10 +41,10 @@ pub record CalledInPairs (b : List ℕ) (l : List Pair) (c : Call) (r : AnswerWo
 unfoldable pub preparationOf : List ℕ → Preparation
 preparationOf b = cond (fitsLength b) (Capacity (stored .capacityOf b)) (Refused 1)
 
--- in words: a refusal like that of a call, or C, whose kind is 5
+-- in words: a refusal like that of a call, or C, which has a kind of its own
 unfoldable pub preparationWords : Preparation → AnswerWords
 preparationWords (Refused number) = answerWords (Refusal number)
-preparationWords (Capacity C) = record { kind = 5; first = C; second = 0 }
+preparationWords (Capacity C) = record { kind = capacityKind; first = C; second = 0 }
 
 -- preparing the buffer b gives the words r and leaves the buffer b′
 pub record PreparedAs (b : List ℕ) (r : AnswerWords) (b′ : List ℕ) : Type 0 where

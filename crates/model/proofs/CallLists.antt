@@ -30,7 +30,7 @@ use Rattle.model.specs.CallLists.{CallMade, OneMade, Exchange, exchangeO
 use Rattle.model.proofs.Entries.{listed-sound}
 use Rattle.model.proofs.Steps.{every-member}
 use Rattle.model.proofs.Refusals.{answer-form, full-exactly}
-use Rattle.model.proofs.Changes.{counted}
+use Rattle.model.proofs.Changes.{counts-the-difference}
 use Rattle.model.proofs.Traces.{trace-map}
 
 -- ---- pairs and words
@@ -161,7 +161,7 @@ module _ (Y : Layout) (L : Lawful Y) where
           subst (λ (us : State). FullExactly C us xs) (A .state) (subst (λ (D : ℕ). FullExactly D (Y .stateOf b′) xs) same (W .fullExactly)),
         );
         addsUp =
-            omega (arith, ap addedIn (A .reply), ap removedIn (A .reply), counted C ts (x .request) (L .rules b e), ap length (A .state), W .addsUp);
+            omega (arith, ap addedIn (A .reply), ap removedIn (A .reply), counts-the-difference C ts (x .request) (L .rules b e), ap length (A .state), W .addsUp);
       }
 
   -- a list of calls from any store

@@ -43,9 +43,9 @@ unfolding addedIn removedIn
 idle-counted = idle-form CountsNothing (λ x. (refl, refl)) (λ x. (refl, refl)) (λ x. (refl, refl)) (λ v. (refl, refl)) (refl, refl) (refl, refl)
 
 -- "The number is the difference of the tuple counts before and after."
-pub counted : (C : ℕ) (ts : Tuples) (r : Request) → TupleRules ts → Counted ts (serve C ts r)
+pub counts-the-difference : (C : ℕ) (ts : Tuples) (r : Request) → TupleRules ts → Counted ts (serve C ts r)
 unfolding serve machine outcomeOf addedIn removedIn
-counted C ts (calling r) R = go (refusalOf C ts (r .call) (r .room))
+counts-the-difference C ts (calling r) R = go (refusalOf C ts (r .call) (r .room))
   where
     go : (x : Option ℕ) → Counted ts (outcomeOf x ts (r .call))
     go (some number) = refl

@@ -1,7 +1,7 @@
 -- Calls and answers as words: what a list of calls holds, and what the C functions take and give.
 -- A call has a word for each field: the operator; n; g; m; the form of the value and v; the form of the space and s. In a list of calls the length of the answer
 -- list lent to it is a ninth word. So any nine words are a call; words past the last whole call are not read.
--- An answer has three words: its kind, and what it carries.
+-- An answer has three words: its kind, and what it carries first and second.
 use mathlib.Core.Bool.{Bool, true, false, cond, not}
 use mathlib.Core.List.{List, [], _∷_}
 use Prim.Native.Nat.{ℕ, zero, suc, _+_, _*_, _/_}
@@ -90,7 +90,11 @@ callsIn ws = callsFrom ws (callCount ws) 0
 
 -- ---- answers
 
--- the first word of an answer: its kind. 5 is the kind of what preparing answers
+-- the kind of what preparing answers, which is no answer to a call
+abbrev pub capacityKind : ℕ
+capacityKind = 5
+
+-- the kind of an answer
 unfoldable pub kindOf : Answer → ℕ
 kindOf (Refusal number) = 0
 kindOf (Name x) = 1
@@ -104,7 +108,7 @@ abbrev pub bitOf : Bool → ℕ
 bitOf true = 1
 bitOf false = 0
 
--- the second word: the refusal's number, the name, the value, 1 for yes and 0 for no, how many pairs are listed
+-- what it carries first: the refusal's number, the name, the value, 1 for yes and 0 for no, how many pairs are listed
 unfoldable pub firstOf : Answer → ℕ
 firstOf (Refusal number) = number
 firstOf (Name x) = x
@@ -114,7 +118,7 @@ firstOf (Valued v) = v
 firstOf (YesNo b) = bitOf b
 firstOf (Listed k) = k
 
--- the third word: how many tuples were added or removed; of a value 1 for a number and 0 for NIL; else 0
+-- what it carries second: how many tuples were added or removed; of a value 1 for a number and 0 for NIL; else 0
 unfoldable pub secondOf : Answer → ℕ
 secondOf (Refusal number) = 0
 secondOf (Name x) = 0
@@ -128,7 +132,7 @@ secondOf (Listed k) = 0
 abbrev pub answerWords : Answer → AnswerWords
 answerWords a = record { kind = kindOf a; first = firstOf a; second = secondOf a }
 
--- what a caller reads in words: the answer of that kind, with what it carries
+-- what a caller reads in words: the answer of that kind, with what it carries (words that no answer has read as `Removed`; nothing rests on that)
 unfoldable pub answerIn : AnswerWords → Answer
 answerIn w =
     cond (eqb (w .kind) 0) (Refusal (w .first))

@@ -18,17 +18,23 @@ ghost use Rattle.run.specs.Runs.{roomsOf, callMade, callsMade, OneRun, L
 // Words of a call in a list of calls, and of an answer.
 const WORDS_IN_CALL: usize = 9;
 
+// The place of the list's length among the words of a call.
+const ROOM: usize = 8;
+
 const WORDS_IN_ANSWER: usize = 3;
 
 // The greatest name.
 const MOST_NAME: u32 = 65535;
 
-// The forms of a value and of a space that are not the number beside them.
+// The value that is none.
 const NIL: u32 = 0;
 
-const UNIVERSE: u32 = 0;
+// The forms of a value and of a space that do not take the number beside them.
+const NIL_FORM: u32 = 0;
 
-const NOTHING: u32 = 2;
+const UNIVERSE_FORM: u32 = 0;
+
+const NOTHING_FORM: u32 = 2;
 
 // The kinds of answers.
 const REFUSAL: u32 = 0;
@@ -83,8 +89,8 @@ fn name_in(w: u32) -> u16
 fn value_of_form(form: u32, v: u32) -> u32
     ensures { λ r. ⌜ r ≡ valueOfForm form v ⌝ }
 {
-    if form == NIL {
-        return 0;
+    if form == NIL_FORM {
+        return NIL;
     }
     v
 }
@@ -93,10 +99,10 @@ fn value_of_form(form: u32, v: u32) -> u32
 fn space_of_form(form: u32, s: u32) -> Space
     ensures { λ r. ⌜ r ≡ spaceOfForm form s ⌝ }
 {
-    if form == UNIVERSE {
+    if form == UNIVERSE_FORM {
         return Space::Universe;
     }
-    if form == NOTHING {
+    if form == NOTHING_FORM {
         return Space::Nothing;
     }
     Space::Numbered(SpaceName(name_in(s)))
@@ -147,7 +153,7 @@ fn room_at(calls: &[u32], i: usize) -> usize
     requires { ⌜ wordsInCall * i + wordsInCall ≤ length (now calls) ⌝ }
     ensures { λ r. ⌜ r ≡ roomAt (now (calls .entry)) i ⌝ }
 {
-    let at = WORDS_IN_CALL * i + 8;
+    let at = WORDS_IN_CALL * i + ROOM;
     words::index_of(calls[at])
 }
 
@@ -179,8 +185,8 @@ pub fn bit_of(b: bool) -> u32
     0
 }
 
-// Words as an answer.
-fn answer_of(kind: u32, first: u32, second: u32) -> AnswerWords
+// An answer with these words.
+fn words_of(kind: u32, first: u32, second: u32) -> AnswerWords
     ensures { λ r. ⌜ r ≡ record { kind = kind; first = first; second = second } ⌝ }
 {
     AnswerWords {
@@ -196,13 +202,13 @@ pub fn answer_words(a: Answer) -> AnswerWords
     ensures { λ r. ⌜ r ≡ answerWords a ⌝ }
 {
     match a {
-        Answer::Refusal(number) => answer_of(REFUSAL, number, 0),
-        Answer::Name(x) => answer_of(NAME, x as u32, 0),
-        Answer::Added(x, k) => answer_of(ADDED, x as u32, k),
-        Answer::Removed(x, k) => answer_of(REMOVED, x as u32, k),
-        Answer::Value(v) => answer_of(VALUE, v, bit_of(v != 0)),
-        Answer::YesNo(b) => answer_of(YES_NO, bit_of(b), 0),
-        Answer::List(k) => answer_of(LIST, k as u32, 0),
+        Answer::Refusal(number) => words_of(REFUSAL, number, 0),
+        Answer::Name(x) => words_of(NAME, x as u32, 0),
+        Answer::Added(x, k) => words_of(ADDED, x as u32, k),
+        Answer::Removed(x, k) => words_of(REMOVED, x as u32, k),
+        Answer::Value(v) => words_of(VALUE, v, bit_of(v != NIL)),
+        Answer::YesNo(b) => words_of(YES_NO, bit_of(b), 0),
+        Answer::List(k) => words_of(LIST, k as u32, 0),
     }
 }
 

@@ -7,9 +7,9 @@ use borrow.Author.Needs.{needs}
 use Rattle.run.proofs.answer_words.Statement.{statement}
 use Rattle.run.proofs.answer_words.Tie as tie
 
-cast-answer-of-4 : tie.Need-cast-answer-of-4
+cast-words-of-4 : tie.Need-cast-words-of-4
 unfolding listCount
-cast-answer-of-4 c =
+cast-words-of-4 c =
     let at-list : tie.After-a7 = search in
     let at-start : tie.Start = search in
     omega (arith, ap listCount (at-list .a7 .given .1), at-start .pre)
@@ -37,7 +37,7 @@ answer-words-spec =
     (λ c κs. search needs)
     (λ c κs. search needs)
     (λ c. search needs)
-    cast-answer-of-4
+    cast-words-of-4
     (λ c κs. search needs)
     (λ c. search known-words)
     (λ c. search known-words)
