@@ -9,6 +9,7 @@ use std::env;
 use std::process::ExitCode;
 
 use gaffdamson_reference::load::{self, Drawn};
+use gaffdamson_reference::operators;
 use measure::{Figure, Load, Mode};
 
 const USAGE: &str = "usage: bench [--repetitions R]";
@@ -58,14 +59,38 @@ fn repetitions() -> Option<usize> {
 
 fn loads() -> Vec<Load> {
     let drawn = |k| Drawn::new(1, k).take(100_000).collect();
-    vec![
+    let dense_graph = load::dense_graph();
+    let mut loads = vec![
         Load::new("drawn calls, K 20", Vec::new(), drawn(20)),
         Load::new("drawn calls, K 200", Vec::new(), drawn(200)),
         Load::new("2,047 CUN", Vec::new(), load::full_bed()),
         Load::new("SUN of 2,047", load::full_bed(), load::lists_of_nodes(200)),
         Load::new("panel knitted", Vec::new(), load::panel()),
         Load::new("panel read", load::panel(), load::panel_reads(2)),
-    ]
+        Load::new("panel listed", load::panel(), load::panel_lists()),
+        Load::new("dense graph listed", dense_graph, load::dense_graph_lists()),
+    ];
+    loads.extend(HUBS.into_iter().flat_map(hub_loads));
+    loads
+}
+
+/// How many names the edges of a hub have, and how often an operator lists
+/// them: with many names a list can take long.
+const HUBS: [(u16, usize); 3] = [(1, 50), (8, 50), (900, 20)];
+
+/// SIP, SIG, SIN, SAP, SAG and SAN of 900 edges to a node, and SON of 900
+/// edges from it. Each has a load of its own: in a mean, one that takes long
+/// would not show.
+const LISTED_AT_HUBS: [u32; 7] = [31, 34, 40, 32, 35, 41, 39];
+
+fn hub_loads((names, times): (u16, usize)) -> impl Iterator<Item = Load> {
+    let ending = if names == 1 { "" } else { "s" };
+    LISTED_AT_HUBS.into_iter().map(move |operator| {
+        let letters = operators::letters(operator).expect("it is 1 to 57");
+        let name = format!("{letters}, 900 edges of {names} name{ending}");
+        let hub = load::hub(operator, names);
+        Load::new(name, hub, load::hub_lists(operator, times)).of_long_calls()
+    })
 }
 
 /// Columns: the time of a call on each side; then each side's time in terms of

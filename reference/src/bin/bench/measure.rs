@@ -37,24 +37,35 @@ impl Mode {
 
 /// Calls that make the graph, and calls that are timed.
 pub struct Load {
-    pub name: &'static str,
+    pub name: String,
     before: Calls,
     timed: Calls,
+    /// At most so often it is run for each repetition.
+    most_times: usize,
 }
 
 impl Load {
-    pub fn new(name: &'static str, before: Vec<Call>, timed: Vec<Call>) -> Load {
+    pub fn new(name: impl Into<String>, before: Vec<Call>, timed: Vec<Call>) -> Load {
         Load {
-            name,
+            name: name.into(),
             before: Calls::new(before),
             timed: Calls::new(timed),
+            most_times: 8,
+        }
+    }
+
+    /// The same load, run less often: its calls may take long.
+    pub fn of_long_calls(self) -> Load {
+        Load {
+            most_times: 2,
+            ..self
         }
     }
 
     /// How often the load is run for each repetition: a short one is sooner
     /// disturbed throughout.
     fn times(&self) -> usize {
-        (100_000 / self.count()).clamp(1, 8)
+        (100_000 / self.count()).clamp(1, self.most_times)
     }
 
     /// How many calls are timed.
