@@ -1,7 +1,7 @@
 -- How many entries there can be: one for each tuple, two where pairs in both directions are asked for.
 use mathlib.Core.Bool.{Bool, true, false, cond, true≢false}
 use mathlib.Core.List.{List, [], _∷_}
-use mathlib.Core.Path.{_≡_, refl, sym, ap, _∙_, subst}
+use mathlib.Core.Path.{_≡_, refl, sym, ap, _∙_}
 use Prim.Native.Nat.{ℕ, _*_, _≤_}
 use native.Mathlib.Omega.{arith}
 use lib.Dec.{eqb, leb}
@@ -22,7 +22,7 @@ use lib.ListN.{length-map}
 use Rattle.entries.specs.declared.Query.{Query}
 use Rattle.entries.specs.declared.Query.the-variants.{Pairs, Nodes, Spaces, SpacesOf}
 use Rattle.entries.specs.Queries.{chosen, secondPairs, firstAt, secondAt, queried, givesTwo, mostOf}
-use Rattle.entries.proofs.Members.{entriesAt, single-first}
+use Rattle.entries.proofs.Singles.{entriesAt, single-first}
 use Rattle.entries.proofs.Counted.{length-single, length-queried}
 
 second-none : (d : Direction) → bothWays d ≡ false → (n : ℕ) (k : Key) → secondPairs d n k ≡ []

@@ -1,1 +1,3 @@
 pub mod Queries
+pub mod Cursors
+pub mod Lists

@@ -1,9 +1,8 @@
--- What a list holds, as one value: the entries that S operators list, and their codes.
--- An entry's code is one more than its packed pair, so that 0 says that there is none.
-use mathlib.Core.Bool.{Bool, true, false, cond, not, _&&_, _||_}
+-- What a list holds, as one value: the entries that S operators list.
+use mathlib.Core.Bool.{Bool, false, cond, not, _&&_, _||_}
 use mathlib.Core.List.{List, [], _∷_, _++_, map}
-use Prim.Native.Nat.{ℕ, suc, _*_}
-use lib.Dec.{eqb, ltb}
+use Prim.Native.Nat.{ℕ, _*_}
+use lib.Dec.{eqb}
 use lib.ListN.{length, drop}
 use Rattle.model.specs.declared.Direction.{Direction}
 use Rattle.model.specs.declared.Direction.the-variants.{Outpointing, Inpointing, Adjacent}
@@ -97,59 +96,12 @@ outside (SpacesOf n) k = false
 unfoldable pub endsAt : ℕ → Key → Bool
 endsAt n k = eqb (k .n) n || eqb (k .m) n
 
--- ---- codes
-
-abbrev pub code : Pair → ℕ
-code p = suc (pack p)
-
--- the code of the first of some pairs; 0 for none
-unfoldable pub headCode : List Pair → ℕ
-headCode [] = 0
-headCode (p ∷ ps) = code p
-
--- the codes that the keys give, in the order of the chain
-unfoldable pub codes : Query → Tuples → List ℕ
-codes q [] = []
-codes q (t ∷ ts) = headCode (firstAt q (t .key)) ∷ headCode (secondAt q (t .key)) ∷ codes q ts
-
--- ---- the codes of a list, found in one walk or one after the other
-
--- those that rise above all before them
-unfoldable pub rising : ℕ → List ℕ → List ℕ
-rising seen [] = []
-rising seen (e ∷ es) = cond (ltb seen e) (e ∷ rising e es) (rising seen es)
-
--- of two codes above `seen` the lesser; `best` is 0 for none
-unfoldable pub nearer : ℕ → ℕ → ℕ → ℕ
-nearer seen best e = cond (ltb seen e && (eqb best 0 || ltb e best)) e best
-
--- the least that is above `seen`, or 0
-unfoldable pub leastFrom : ℕ → ℕ → List ℕ → ℕ
-leastFrom best seen [] = best
-leastFrom best seen (e ∷ es) = leastFrom (nearer seen best e) seen es
+-- ---- what is written, and what is asked of a buffer
 
 -- what the functions that list ask of a buffer: chains, and names that fit half a word
 pub record Readable (b : List ℕ) : Type 0 where
   pub linked : Linked b
   pub small : (k : Key) → Has k (tuplesOf b) → Small k
-
--- do the entries come in the order of the list as the chain is walked
-unfoldable pub pairsInOrder : Direction → Part → ℕ → ℕ → Bool
-pairsInOrder Outpointing Both g m = true
-pairsInOrder Outpointing Edge g m = true
-pairsInOrder Outpointing Node g m = not (eqb g 0)
-pairsInOrder Inpointing Both g m = false
-pairsInOrder Inpointing Edge g m = not (eqb m 0)
-pairsInOrder Inpointing Node g m = true
-pairsInOrder Adjacent Both g m = false
-pairsInOrder Adjacent Edge g m = false
-pairsInOrder Adjacent Node g m = false
-
-unfoldable pub entriesInOrder : Query → Bool
-entriesInOrder (Pairs q) = pairsInOrder (q .d) (q .part) (q .g) (q .m)
-entriesInOrder (Nodes s) = true
-entriesInOrder Spaces = true
-entriesInOrder (SpacesOf n) = true
 
 -- the answer list with the entries in its first places; "the rest stays"
 unfoldable pub writtenPairs : List Pair → List ℕ → List ℕ

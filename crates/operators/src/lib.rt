@@ -157,7 +157,7 @@ fn pair_removal(o: u32) -> Operator
 }
 
 // 30 to 44: S of pairs.
-fn pair_listing(o: u32) -> Operator
+pub fn pair_listing(o: u32) -> Operator
     requires { ⌜ (30 ≤ o) × (o < 45) ⌝ }
     ensures { λ r. ⌜ r ≡ operatorOf o ⌝ }
 {
@@ -171,7 +171,7 @@ fn pair_listing(o: u32) -> Operator
 }
 
 // From 45 on: the operators of nodes and spaces.
-fn other_operator(o: u32) -> Operator
+pub fn other_operator(o: u32) -> Operator
     requires { ⌜ 45 ≤ o ⌝ }
     ensures { λ r. ⌜ r ≡ operatorOf o ⌝ }
 {
@@ -321,7 +321,7 @@ fn space_name(s: Space) -> u16
 }
 
 // The fields of a call as numbers; their types keep every name to 16 bits.
-fn fields_of(c: Call) -> Fields
+pub fn fields_of(c: Call) -> Fields
     ensures { λ r. ⌜ r ≡ fieldsOf c ⌝ }
     ensures fit { λ _. ⌜ FieldsFit (fieldsOf c) ⌝ }
 {

@@ -1,6 +1,5 @@
-pub mod Rooms
-pub mod Unpacked
-pub mod Calls
-pub mod Lent
+pub mod Decisions
+pub mod WrittenPairs
+pub mod Executed
 pub mod Learning
 pub mod Lists

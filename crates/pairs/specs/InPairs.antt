@@ -10,13 +10,9 @@ use Rattle.model.specs.declared.Answer.the-variants.{Refusal, Name, Added, Remo
 use Rattle.model.specs.declared.Pair.{Pair}
 use Rattle.model.specs.Steps.{Reply, refusal, name, added, removed, valued, yesNo, pairs}
 use Rattle.model.specs.Machine.{calling, machine}
-use Rattle.model.specs.OneCall.{pack, unpack, OneCall}
+use Rattle.model.specs.OneCall.{pack, OneCall}
 use Rattle.model.specs.CallLists.{Made, Exchange}
 use Rattle.layouts.specs.Stored.{stored}
-
--- the pairs that the first k words hold in the first k places, the rest what they held
-unfoldable pub unpackedOnto : ℕ → List ℕ → List Pair → List Pair
-unpackedOnto k ws l = map unpack (take k ws) ++ drop k l
 
 -- "in its first k places; the rest stays": the list of pairs afterwards
 unfoldable pub pairsAfter : Reply → List Pair → List Pair

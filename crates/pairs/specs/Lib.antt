@@ -1,2 +1,3 @@
-pub mod InWords
 pub mod InPairs
+pub mod Decisions
+pub mod WrittenPairs

@@ -1,4 +1,4 @@
-use Rattle.entries.proofs.CodeTests.{no-node, maybe-node}
+use Rattle.entries.proofs.KeyTests.{no-node, maybe-node}
 use Rattle.entries.proofs.is_node.Statement.{statement}
 use Rattle.entries.proofs.is_node.Tie as tie
 

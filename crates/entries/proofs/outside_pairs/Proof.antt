@@ -1,4 +1,4 @@
-use Rattle.entries.proofs.CodeTests.{outside-space, outside-out, outside-in, outside-both}
+use Rattle.entries.proofs.KeyTests.{outside-space, outside-out, outside-in, outside-both}
 use borrow.Author.Needs.{needs}
 use Rattle.entries.proofs.outside_pairs.Statement.{statement}
 use Rattle.entries.proofs.outside_pairs.Tie as tie

@@ -1,4 +1,4 @@
-use Rattle.entries.proofs.CodeTests.{start-pairs}
+use Rattle.entries.proofs.KeyTests.{start-pairs}
 use Rattle.entries.specs.Queries.{pairsStart}
 use borrow.Author.Needs.{needs}
 use Rattle.entries.proofs.pairs_start.Statement.{statement}

@@ -1,4 +1,4 @@
-use Rattle.entries.proofs.CodeTests.{start-case}
+use Rattle.entries.proofs.KeyTests.{start-case}
 use Rattle.entries.specs.Queries.{startKey}
 use borrow.Author.Needs.{needs}
 use Rattle.entries.proofs.start_key.Statement.{statement}

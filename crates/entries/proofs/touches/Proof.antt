@@ -1,4 +1,4 @@
-use Rattle.entries.proofs.CodeTests.{ends-first, ends-second}
+use Rattle.entries.proofs.KeyTests.{ends-first, ends-second}
 use Rattle.entries.proofs.touches.Statement.{statement}
 use Rattle.entries.proofs.touches.Tie as tie
 
