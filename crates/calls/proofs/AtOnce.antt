@@ -35,8 +35,7 @@ use Rattle.model.proofs.Entries.{Member, samePair, own-pair, listed-sound}
 use Rattle.model.proofs.Refusals.{reading}
 use Rattle.layouts.proofs.Store.{tuples-fit}
 use Rattle.edit.proofs.Built.{store-linked, store-tuples}
-use Rattle.entries.specs.Queries.{writtenPairs, mostOf}
-use Rattle.listings.specs.Lists.{queryOf}
+use Rattle.entries.specs.Queries.{writtenPairs}
 use Rattle.listings.proofs.Asked.{surely-not-short}
 use Rattle.refusals.proofs.Stops.{passes, nothing-left, all-pass}
 use Rattle.refusals.specs.Numbers.{stopNumber, ofStore}
@@ -100,11 +99,11 @@ module _ (C : ℕ) (ts : Tuples) (c : Call) (room : ℕ) (e : c .operator ≡ 40
   nothing-added h =
       ap (λ (op : Operator). ltb C (length ts + length (missing (wouldAdd op f) ts))) (sin-operator c e) ∙ le-ltb C (length ts + 0) (omega arith)
 
-  roomy : leb (mostOf (queryOf sin f) (length ts)) room ≡ true → listShort (decoded c) ts room ≡ false
+  roomy : leb (length ts) room ≡ true → listShort (decoded c) ts room ≡ false
   unfolding listShort wouldList
   roomy g =
       ap (λ (op : Operator). ltb room (length (wouldList op f ts))) (sin-operator c e)
-      ∙ sym (surely-not-short sin f ts room (leb (mostOf (queryOf sin f) (length ts)) room) tt refl g)
+      ∙ sym (surely-not-short sin f ts room (leb (length ts) room) refl g)
 
   space-there : There (f .s) (f .n) ts → spaceAbsent (decoded c) ts ≡ false
   unfolding spaceAbsent
@@ -117,7 +116,7 @@ module _ (C : ℕ) (ts : Tuples) (c : Call) (room : ℕ) (e : c .operator ≡ 40
       (not-absent (rowOf (c .operator) .asks .node) (present (nodeKey (f .s) (f .n)) ts) (T .node))
       (not-absent (rowOf (c .operator) .asks .universe) (present (nodeKey 0 (f .n)) ts) (T .also))
 
-  none-applies : leb (mostOf (queryOf sin f) (length ts)) room ≡ true → length ts ≤ C → There (f .s) (f .n) ts
+  none-applies : leb (length ts) room ≡ true → length ts ≤ C → There (f .s) (f .n) ts
       → 0 ≡ stopNumber (first (ofStore C ts (decoded c) room))
   unfolding ofStore ofTuples
   none-applies fits h T =
@@ -159,13 +158,13 @@ pub at-once-known : (b l l′ : List ℕ) (c : Call) (f : Fields) (k : ℕ) (t :
     → l′ ≡ writtenPairs (listedAtOnce (c .operator) f (tuplesOf b) (length l)) l → OnStore stored b l c (Listed k) b l′
 unfolding listedAtOnce atOnce
 at-once-known b l l′ c f k t store p S s F K h L =
-    go (atOnce (c .operator) (fieldsOf c) (length (tuplesOf b)) (length l)) refl (K ∙ ap (λ (x : Fields). length (entries x)) F)
+    go (atOnce (c .operator) (length (tuplesOf b)) (length l)) refl (K ∙ ap (λ (x : Fields). length (entries x)) F)
     (L ∙ ap (λ (x : Fields). writtenPairs (entries x) l) F)
   where
     entries : Fields → List Pair
     entries x = listedAtOnce (c .operator) x (tuplesOf b) (length l)
 
-    go : (u : Bool) → atOnce (c .operator) (fieldsOf c) (length (tuplesOf b)) (length l) ≡ u → k ≡ length (cond u (listed sin (fieldsOf c) (tuplesOf b)) [])
+    go : (u : Bool) → atOnce (c .operator) (length (tuplesOf b)) (length l) ≡ u → k ≡ length (cond u (listed sin (fieldsOf c) (tuplesOf b)) [])
         → l′ ≡ writtenPairs (cond u (listed sin (fieldsOf c) (tuplesOf b)) []) l → OnStore stored b l c (Listed k) b l′
     go false e K L = absurd (h K)
     go true e K L =
@@ -194,7 +193,7 @@ module _ (b l : List ℕ) (number : ℕ) (f : Fields) where
   abbrev entries : List Pair
   entries = listedAtOnce number f (tuplesOf b) (length l)
 
-  none-at-once : atOnce number f (length (tuplesOf b)) (length l) ≡ false → entries ≡ []
+  none-at-once : atOnce number (length (tuplesOf b)) (length l) ≡ false → entries ≡ []
   unfolding listedAtOnce
   none-at-once e = ap (λ (t : Bool). cond t (listed sin f (tuplesOf b)) []) e
 
@@ -209,7 +208,7 @@ module _ (b l : List ℕ) (number : ℕ) (f : Fields) where
   unfolding writtenPairs
   other-list h = sym (ap (λ (ps : List Pair). writtenPairs ps l) (other-number h))
 
-  module _ (t : Bool) (T : t ≡ leb (mostOf (queryOf sin f) (length (tuplesOf b))) (length l)) where
+  module _ (t : Bool) (T : t ≡ leb (length (tuplesOf b)) (length l)) where
     no-room : not t ≡ true → entries ≡ []
     unfolding atOnce
     no-room e = none-at-once (failed _ (λ u. clash (and-right (eqb number 40) _ u) (sym T ∙ not-yes t e)))
@@ -223,7 +222,7 @@ module _ (b l : List ℕ) (number : ℕ) (f : Fields) where
 
     -- what writing the entries requires
     pub room-enough : not t ≡ false → length (listed sin f (tuplesOf b)) ≤ length l
-    room-enough e = ltb-false (length l) _ (sym (surely-not-short sin f (tuplesOf b) (length l) t tt T (not-no t e)))
+    room-enough e = ltb-false (length l) _ (sym (surely-not-short sin f (tuplesOf b) (length l) t T (not-no t e)))
 
     all-of : number ≡ 40 → not t ≡ false → listed sin f (tuplesOf b) ≡ entries
     unfolding listedAtOnce atOnce

@@ -10,17 +10,15 @@ use Rattle.model.specs.declared.Listing.{Listing}
 use Rattle.model.specs.declared.Pair.{Pair}
 use Rattle.model.specs.Tuples.{Tuples}
 use Rattle.model.specs.Steps.{listed}
-use Rattle.entries.specs.Queries.{mostOf}
-use Rattle.listings.specs.Lists.{queryOf}
 
 -- what SIN lists
 abbrev pub sin : Listing
 sin = Listing.N Inpointing
 
--- a SIN, and a list with room for as many entries as n tuples could give
-unfoldable pub atOnce : ℕ → Fields → ℕ → ℕ → Bool
-atOnce number f n room = eqb number 40 && leb (mostOf (queryOf sin f) n) room
+-- a SIN, and a list with places for as many entries as there are tuples
+unfoldable pub atOnce : ℕ → ℕ → ℕ → Bool
+atOnce number n room = eqb number 40 && leb n room
 
 -- the entries of such a call; none for others
 unfoldable pub listedAtOnce : ℕ → Fields → Tuples → ℕ → List Pair
-listedAtOnce number f ts room = cond (atOnce number f (length ts) room) (listed sin f ts) []
+listedAtOnce number f ts room = cond (atOnce number (length ts) room) (listed sin f ts) []

@@ -34,7 +34,7 @@ fn list_at_once(b: &[u32], number: u32, f: Fields, list: &mut [u32]) -> usize
         return 0;
     }
     let nodes = Listing::N(Direction::Inpointing);
-    if !listings::surely_fits(b, nodes, f, list.len()) {
+    if !listings::surely_fits(b, list.len()) {
         return 0;
     }
     let nowhere = Near {

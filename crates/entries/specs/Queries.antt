@@ -1,7 +1,7 @@
 -- What a list holds, as one value: the entries that S operators list.
 use mathlib.Core.Bool.{Bool, false, cond, not, _&&_, _||_}
 use mathlib.Core.List.{List, [], _∷_, _++_, map}
-use Prim.Native.Nat.{ℕ, _*_}
+use Prim.Native.Nat.{ℕ}
 use lib.Dec.{eqb}
 use lib.ListN.{length, drop}
 use Rattle.model.specs.declared.Direction.{Direction}
@@ -107,15 +107,9 @@ pub record Readable (b : List ℕ) : Type 0 where
 unfoldable pub writtenPairs : List Pair → List ℕ → List ℕ
 writtenPairs ps l = map pack ps ++ drop (length ps) l
 
--- ---- how many entries there can be
-
 -- for adjacent pairs a key can give a second
 unfoldable pub givesTwo : Query → Bool
 givesTwo (Pairs q) = bothWays (q .d)
 givesTwo (Nodes s) = false
 givesTwo Spaces = false
 givesTwo (SpacesOf n) = false
-
--- n tuples give at most so many entries
-unfoldable pub mostOf : Query → ℕ → ℕ
-mostOf q n = cond (givesTwo q) (2 * n) n

@@ -16,7 +16,7 @@ ghost use Rattle.layouts.specs.Buffer.{tuplesOf};
 ghost use Rattle.chain.specs.Links.{Linked, Hint};
 ghost use Rattle.entries.specs.Cursors.{asksNames, listOf};
 ghost use Rattle.entries.specs.Queries.{chosen, firstAt, queried};
-ghost use Rattle.entries.specs.Queries.{Readable, pairsStart, startKey, startIn, outside, endsAt, writtenPairs, givesTwo, mostOf};
+ghost use Rattle.entries.specs.Queries.{Readable, pairsStart, startKey, startIn, outside, endsAt, writtenPairs, givesTwo};
 ghost use lib.Dec.{leb};
 
 // What is listed of a pair.
@@ -383,16 +383,12 @@ fn gives_two(q: Query) -> bool
     }
 }
 
-// Is there room for as many entries as the tuples could give: then they need not be counted.
-pub fn surely_fits(b: &[u32], q: Query, room: usize) -> bool
+// Are there places for as many entries as there are tuples: no S operator lists more, so that they need not be counted.
+pub fn surely_fits(b: &[u32], room: usize) -> bool
     requires { ⌜ Linked (now b) ⌝ }
-    ensures { λ r. ⌜ r ≡ leb (mostOf q (length (tuplesOf (now (b .entry))))) room ⌝ }
+    ensures { λ r. ⌜ r ≡ leb (length (tuplesOf (now (b .entry)))) room ⌝ }
 {
-    let tuples = words::head_word(b, 3);
-    if gives_two(q) {
-        return 2 * tuples <= room;
-    }
-    tuples <= room
+    words::head_word(b, 3) <= room
 }
 
 // The number of entries.

@@ -25,8 +25,8 @@ use Rattle.entries.specs.declared.Part.the-variants.{Both, Edge, Node}
 use Rattle.entries.specs.declared.PairQuery.{PairQuery}
 use Rattle.entries.specs.declared.Query.{Query}
 use Rattle.entries.specs.declared.Query.the-variants.{Pairs, Nodes, Spaces, SpacesOf}
-use Rattle.entries.specs.Queries.{partOf, chosen, firstPairs, secondPairs, firstAt, secondAt, queried, writtenPairs, mostOf}
-use Rattle.entries.proofs.Most.{queried-most}
+use Rattle.entries.specs.Queries.{partOf, chosen, firstPairs, secondPairs, firstAt, secondAt, queried, writtenPairs}
+use Rattle.model.proofs.Counts.{listed-within}
 use Rattle.taken.specs.Selections.{passes}
 use Rattle.located.specs.declared.Near.{Near}
 use Rattle.located.specs.Located.{NearIn}
@@ -236,14 +236,8 @@ list-hint b l near h N e = subst (Hint b) (sym e) (go l)
 
 -- ---- the most entries
 
-pub told-most : (l : Listing) (f : Fields) (q : Query) (n room : ℕ) (t : Bool) → q ≡ queryOf l f → t ≡ leb (mostOf q n) room
-    → t ≡ leb (mostOf (queryOf l f) n) room
-told-most l f q n room t e T = T ∙ ap (λ (x : Query). leb (mostOf x n) room) e
-
--- where even those fit, the list is not short
-pub surely-not-short : (l : Listing) (f : Fields) (ts : Tuples) (room : ℕ) (t : Bool) → NamesAsked l f → t ≡ leb (mostOf (queryOf l f) (length ts)) room → t ≡ true
-    → false ≡ ltb room (length (listed l f ts))
-surely-not-short l f ts room t h T e =
-    let most : mostOf (queryOf l f) (length ts) ≤ room = leb-true _ room (sym T ∙ e) in
-    let listed-count = ap (λ (ps : List Pair). length ps) (asked-listed l f ts h) in
-    sym (le-ltb room (length (listed l f ts)) (omega (arith, most, queried-most (queryOf l f) ts, sym listed-count)))
+-- where there are places for as many entries as tuples, the list is not short
+pub surely-not-short : (l : Listing) (f : Fields) (ts : Tuples) (room : ℕ) (t : Bool) → t ≡ leb (length ts) room → t ≡ true → false ≡ ltb room (length (listed l f ts))
+surely-not-short l f ts room t T e =
+    let most : length ts ≤ room = leb-true _ room (sym T ∙ e) in
+    sym (le-ltb room (length (listed l f ts)) (omega (arith, most, listed-within ts l f)))

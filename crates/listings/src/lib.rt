@@ -11,7 +11,7 @@ ghost use lib.ListN.{length};
 ghost use Prim.Native.Nat.{_≤_};
 ghost use Rattle.layouts.specs.Buffer.{tuplesOf};
 ghost use Rattle.model.specs.Steps.{listed};
-ghost use Rattle.entries.specs.Queries.{Readable, writtenPairs, mostOf};
+ghost use Rattle.entries.specs.Queries.{Readable, writtenPairs};
 ghost use Rattle.chain.specs.Links.{Linked};
 ghost use lib.Dec.{leb};
 ghost use Rattle.entries.specs.declared.Query.the-variants.{Pairs};
@@ -83,12 +83,12 @@ pub fn count_listed(b: &[u32], near: Near, l: Listing, f: Fields) -> usize
     entries::count_entries(b, list_hint(l, near), query_of(l, f))
 }
 
-// Is there room for as many entries as the tuples could give an S operator: then they need not be counted.
-pub fn surely_fits(b: &[u32], l: Listing, f: Fields, room: usize) -> bool
+// Are there places for as many entries as there are tuples: no S operator lists more, so that they need not be counted.
+pub fn surely_fits(b: &[u32], room: usize) -> bool
     requires { ⌜ Linked (now b) ⌝ }
-    ensures { λ r. ⌜ r ≡ leb (mostOf (queryOf l f) (length (tuplesOf (now (b .entry))))) room ⌝ }
+    ensures { λ r. ⌜ r ≡ leb (length (tuplesOf (now (b .entry)))) room ⌝ }
 {
-    entries::surely_fits(b, query_of(l, f), room)
+    entries::surely_fits(b, room)
 }
 
 // The entries written to the first places of a list that has room for them, and their number; the rest stays.

@@ -31,8 +31,8 @@ use Rattle.layouts.specs.Stored.{stored}
 use Rattle.layouts.proofs.Stored.{stored-lawful}
 use Rattle.entries.specs.declared.Query.{Query}
 use Rattle.entries.specs.declared.Query.the-variants.{Spaces}
-use Rattle.entries.specs.Queries.{queried, Readable, mostOf}
-use Rattle.entries.proofs.Most.{queried-most}
+use Rattle.entries.specs.Queries.{queried, Readable}
+use Rattle.model.proofs.Counts.{listed-within}
 use Rattle.listings.proofs.Asked.{asked-listed}
 use Rattle.listings.proofs.Stores.{store-readable, names-asked}
 use Rattle.pairs.specs.declared.Decision.{Decision}
@@ -213,11 +213,11 @@ few-told c h = sym (below-same (fieldsOf c) 30 refl (c .operator) h)
 
 -- ---- has a list room for the entries of a query
 
-pub surely-room : (b : List ℕ) (q : Query) (room : ℕ) (t : Bool) → t ≡ leb (mostOf q (length (tuplesOf b))) room → t ≡ true
+pub surely-room : (b : List ℕ) (q : Query) (room : ℕ) (t : Bool) → length (queried q (tuplesOf b)) ≤ length (tuplesOf b) → t ≡ leb (length (tuplesOf b)) room → t ≡ true
     → true ≡ leb (length (queried q (tuplesOf b))) room
-surely-room b q room t T e =
-    let most = leb-true (mostOf q (length (tuplesOf b))) room (sym T ∙ e) in
-    sym (le-leb _ room (omega (arith, most, queried-most q (tuplesOf b))))
+surely-room b q room t few T e =
+    let most = leb-true (length (tuplesOf b)) room (sym T ∙ e) in
+    sym (le-leb _ room (omega (arith, most, few)))
 
 pub room-counted : (b : List ℕ) (q : Query) (room k : ℕ) → k ≡ length (queried q (tuplesOf b)) → leb k room ≡ leb (length (queried q (tuplesOf b))) room
 room-counted b q room k K = ap (λ (n : ℕ). leb n room) K
@@ -395,6 +395,13 @@ module _ (b b′ : List ℕ) (c : Call) (a : Answer) (one : OneCall stored b [] 
 
     pub refused-readable : not t ≡ false → Readable b′
     refused-readable e = store-readable b′ (one .onStore (refused-store (nine-answered e)) .store)
+
+    -- no S operator lists more entries than there are tuples
+    pub refused-few : not t ≡ false → (q : Query) → q ≡ queryFor c → length (queried q (tuplesOf b′)) ≤ length (tuplesOf b′)
+    refused-few e q K =
+        let Q = has-query ts c 0 (refused-short (nine-answered e)) in
+        subst₂ (λ (x : Query) (w : List ℕ). length (queried x (tuplesOf w)) ≤ length (tuplesOf w)) (sym K) (sym (refused-unchanged (nine-answered e)))
+        (omega (arith, ap length (Q .same), listed-within ts (Q .listing) (fieldsOf c)))
 
     module _ (room : ℕ) (q : Query) (K : q ≡ queryFor c) (u : Bool) (U : u ≡ leb (length (queried q (tuplesOf b′))) room) where
       room-told : not t ≡ false → leb (length (queried (queryFor c) ts)) room ≡ u

@@ -90,10 +90,10 @@ fn query_for(call: Call) -> Query
 
 // Has a list of so many places room for the entries of a query: they are counted only where the tuples could give more.
 fn has_room(b: &[u32], q: Query, room: usize) -> bool
-    requires { ⌜ Readable (now b) ⌝ }
+    requires { ⌜ Readable (now b) × (length (queried q (tuplesOf (now b))) ≤ length (tuplesOf (now b))) ⌝ }
     ensures { λ r. ⌜ r ≡ leb (length (queried q (tuplesOf (now (b .entry))))) room ⌝ }
 {
-    if entries::surely_fits(b, q, room) {
+    if entries::surely_fits(b, room) {
         return true;
     }
     entries::count_entries(b, 0, q) <= room

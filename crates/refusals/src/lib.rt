@@ -100,7 +100,7 @@ fn list_short(b: &[u32], near: Near, l: Listing, f: Fields, room: usize) -> bool
     requires { ⌜ (isStore (now b) ≡ true) × NearIn (now b) near × NamesAsked l f ⌝ }
     ensures { λ r. ⌜ r ≡ ltb room (length (listed l f (tuplesOf (now (b .entry))))) ⌝ }
 {
-    if listings::surely_fits(b, l, f, room) {
+    if listings::surely_fits(b, room) {
         return false;
     }
     room < listings::count_listed(b, near, l, f)
