@@ -122,12 +122,10 @@ def main():
         code = QUIET.sub(" ", text)
         theirs = imported(code, False)
         names = {old: to for old, to in new.items() if old not in theirs}
-        turned = turn(text, names, QUIET, humps)
+        here = {o: t for o, t in given_way.items() if path in declared[o] or o in imported(code, True)}
+        turned = turn(turn_given_way(text, here), names, QUIET, humps)
         if path.endswith("/Proof.antt"):
             turned = re.sub(r"(?<=\.)(\w+)_lem\b", r"\1", turned)
-        here = {o: t for o, t in given_way.items() if path in declared[o] or o in imported(code, True)}
-        if here:
-            turned = turn_given_way(turned, here)
         used = set(WORD.findall(code))
         for old in sorted(used):
             if names.get(old) in theirs:

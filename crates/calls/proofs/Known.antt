@@ -184,12 +184,12 @@ decoded_fields c d D = ap (λ (x : Decoded). x.fields) D
 pub no_store_lem : (b l : List ℕ) (c : Call) (x : Bool) → x ≡ is_store b → not x ≡ true → OneCall stored b l c (Refusal 1) b l
 no_store_lem b l c x X e =
     record {
-      no_store_lem = λ f. record { answer = refl; buffer = refl; list = refl };
-      on_store_lem = λ f. absurd (false≢true (sym (not_yes x e) ∙ X ∙ f));
+      no_store = λ f. record { answer = refl; buffer = refl; list = refl };
+      on_store = λ f. absurd (false≢true (sym (not_yes x e) ∙ X ∙ f));
     }
 
 pub tested_store : (b : List ℕ) (x : Bool) → x ≡ is_store b → not x ≡ false → is_store b ≡ true
 tested_store b x X e = sym X ∙ not_no x e
 
 pub on_store_lem : (b l b' l' : List ℕ) (c : Call) (a : Answer) (x : Bool) → x ≡ is_store b → not x ≡ false → OnStore stored b l c a b' l' → OneCall stored b l c a b' l'
-on_store_lem b l b' l' c a x X e O = record { no_store_lem = λ f. absurd (false≢true (sym f ∙ tested_store b x X e)); on_store_lem = λ f. O }
+on_store_lem b l b' l' c a x X e O = record { no_store = λ f. absurd (false≢true (sym f ∙ tested_store b x X e)); on_store = λ f. O }

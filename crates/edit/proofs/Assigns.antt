@@ -11,7 +11,7 @@ use lib.Seq.{get_or-set_other}
 use borrow.Author.Tests.{eq-eqb, ne_eqb}
 use Rattle.model.specs.declared.Key.{Key}
 use Rattle.model.specs.Ordered.{holds, Ascending}
-use Rattle.model.specs.Keys.{Value, Tuple, key_of, space_key, compare_keys, same_key_lem}
+use Rattle.model.specs.Keys.{Value, Tuple, key_of, space_key, compare_keys, same_key}
 use Rattle.model.specs.Tuples.{Tuples, present, assign}
 use Rattle.layouts.specs.Buffer.{word, record_start, value_place, capacity_of, next, key_at, tuple_at, used_of, free_of, tuples_of, count}
 use Rattle.layouts.specs.Chains.{Chain, ChainRules, Within}
@@ -36,8 +36,8 @@ assign_absent : (k : Key) (v : Value) (ts : Tuples) → present k ts ≡ false �
 unfolding assign holds
 assign_absent k v [] e = refl
 assign_absent k v (t ∷ ts) e =
-    ap₂ ◌∷◌ (ap (λ (u : Bool). cond u (record { key = t.key; value = v }) t) (or_no_left (same_key_lem k t.key) (present k ts) e))
-    (assign_absent k v ts (or_no_right (same_key_lem k t.key) (present k ts) e))
+    ap₂ ◌∷◌ (ap (λ (u : Bool). cond u (record { key = t.key; value = v }) t) (or_no_left (same_key k t.key) (present k ts) e))
+    (assign_absent k v ts (or_no_right (same_key k t.key) (present k ts) e))
 
 module _ (b : List ℕ) (k : Key) (v : Value) (at : ℕ) (I : Inside b at) where
   b' : List ℕ
@@ -51,35 +51,35 @@ module _ (b : List ℕ) (k : Key) (v : Value) (at : ℕ) (I : Inside b at) where
   find_own : (js : List ℕ) → at ≡ find_in (key_at b) k js → at ≢ 0 → key_at b at ≡ k
   unfolding find_in
   find_own [] e n = absurd (n e)
-  find_own (j ∷ js) e n = look (same_key_lem k (key_at b j)) refl e (λ f. find_own js f n)
+  find_own (j ∷ js) e n = look (same_key k (key_at b j)) refl e (λ f. find_own js f n)
     where
-      look : (t : Bool) → same_key_lem k (key_at b j) ≡ t → at ≡ cond t j (find_in (key_at b) k js) → (at ≡ find_in (key_at b) k js → key_at b at ≡ k)
+      look : (t : Bool) → same_key k (key_at b j) ≡ t → at ≡ cond t j (find_in (key_at b) k js) → (at ≡ find_in (key_at b) k js → key_at b at ≡ k)
           → key_at b at ≡ k
       look true f g rest = ap (key_at b) g ∙ sym (same_key_lem k (key_at b j) f)
       look false f g rest = rest g
 
   -- records with another key are as before
-  tuple_other_lem : (j : ℕ) → 1 ≤ j → key_at b at ≡ k → same_key_lem k (key_at b j) ≡ false → tuple_at b' j ≡ tuple_at b j
+  tuple_other_lem : (j : ℕ) → 1 ≤ j → key_at b at ≡ k → same_key k (key_at b j) ≡ false → tuple_at b' j ≡ tuple_at b j
   unfolding b'
   tuple_other_lem j h own differs =
       by_parts (tuple_at (put_value b at v) j) (tuple_at b j) (key_put_value b at v I j h)
       (value_put_value_other b at v I j h
-      (λ e. clash (subst (λ (i : ℕ). same_key_lem k (key_at b i) ≡ true) (sym e) (subst (λ (x : Key). same_key_lem k x ≡ true) (sym own) (own_key k))) differs))
+      (λ e. clash (subst (λ (i : ℕ). same_key k (key_at b i) ≡ true) (sym e) (subst (λ (x : Key). same_key k x ≡ true) (sym own) (own_key k))) differs))
 
   absent_same : (is : List ℕ) → Within (capacity_of b) is → key_at b at ≡ k → present k (map (tuple_at b) is) ≡ false → map (tuple_at b') is ≡ map (tuple_at b) is
   unfolding holds tuple_at
   absent_same [] w own e = refl
   absent_same (i ∷ is) w own e =
-      ap₂ ◌∷◌ (tuple_other_lem i w.0 own (or_no_left (same_key_lem k (key_at b i)) (present k (map (tuple_at b) is)) e))
-      (absent_same is w.2 own (or_no_right (same_key_lem k (key_at b i)) (present k (map (tuple_at b) is)) e))
+      ap₂ ◌∷◌ (tuple_other_lem i w.0 own (or_no_left (same_key k (key_at b i)) (present k (map (tuple_at b) is)) e))
+      (absent_same is w.2 own (or_no_right (same_key k (key_at b i)) (present k (map (tuple_at b) is)) e))
 
   assigned : (is : List ℕ) → Within (capacity_of b) is → Ascending key_of compare_keys (map (tuple_at b) is) → at ≡ find_in (key_at b) k is → at ≢ 0
       → map (tuple_at b') is ≡ assign k v (map (tuple_at b) is)
   unfolding find_in assign tuple_at
   assigned [] w h e d = refl
-  assigned (i ∷ is) w h e d = go (same_key_lem k (key_at b i)) refl e (assigned is w.2 (ascending_tail key_of compare_keys keys (key_at b i) (map (tuple_at b) is) h))
+  assigned (i ∷ is) w h e d = go (same_key k (key_at b i)) refl e (assigned is w.2 (ascending_tail key_of compare_keys keys (key_at b i) (map (tuple_at b) is) h))
     where
-      go : (t : Bool) → same_key_lem k (key_at b i) ≡ t → at ≡ cond t i (find_in (key_at b) k is)
+      go : (t : Bool) → same_key k (key_at b i) ≡ t → at ≡ cond t i (find_in (key_at b) k is)
           → (at ≡ find_in (key_at b) k is → at ≢ 0 → map (tuple_at b') is ≡ assign k v (map (tuple_at b) is))
           → tuple_at b' i ∷ map (tuple_at b') is ≡ cond t (record { key = key_at b i; value = v }) (tuple_at b i) ∷ assign k v (map (tuple_at b) is)
       go true f here ih =

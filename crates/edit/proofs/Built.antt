@@ -9,7 +9,7 @@ use lib.ListN.{length, length-map}
 use Rattle.model.specs.Ordered.{Ascending}
 use Rattle.model.specs.Keys.{key_of, space_key, compare_keys}
 use Rattle.model.specs.Tuples.{Tuples}
-use Rattle.layouts.specs.Buffer.{word, tuple_at, past_records, used_of, free_of_lem, tuples_of, is_store}
+use Rattle.layouts.specs.Buffer.{word, tuple_at, past_records, used_of, free_of, tuples_of, is_store}
 use Rattle.model.specs.Rules.{first_key, TupleRules}
 use Rattle.layouts.specs.Chains.{ChainRules}
 use Rattle.layouts.proofs.Store.{store_rules, rules_store, used_of_lem, free_of_lem, tuples_of_lem, tuples_fit, capacity_most}
@@ -46,7 +46,7 @@ tuples_counted b x L e = e ∙ L.chains.counted ∙ sym (length_tuples b)
 
 -- .. and fits in a word
 pub count_fits : (b : List ℕ) (x : ℕ) → Linked b → x ≡ word b 3 → x ≤ 4294967295
-count_fits b x L e = omega (arith, tuples_counted b x L e, tuples_fit b L.chains, capacity_most b (used_of b) (free_of_lem b) L.chains)
+count_fits b x L e = omega (arith, tuples_counted b x L e, tuples_fit b L.chains, capacity_most b (used_of b) (free_of b) L.chains)
 
 -- ---- stores
 
@@ -63,7 +63,7 @@ store_tuples b e = (store_rules b e).tuples
 -- an edit whose tuples keep the rules leaves a store
 pub linked_store : (b : List ℕ) → Linked b → TupleRules (tuples_of b) → is_store b ≡ true
 unfolding tuples_of
-linked_store b L R = rules_store b (used_of b) (free_of_lem b) (record { chains = L.chains; tuples = R })
+linked_store b L R = rules_store b (used_of b) (free_of b) (record { chains = L.chains; tuples = R })
 
 pub edited_store : (b b' : List ℕ) (ts : Tuples) → Edited b b' ts → TupleRules ts → is_store b' ≡ true
 edited_store b b' ts E R = linked_store b' E.linked (subst TupleRules (sym E.tuples) R)

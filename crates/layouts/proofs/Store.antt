@@ -9,7 +9,7 @@ use native.Mathlib.Omega.{arith}
 use lib.Dec.{eqb, leb}
 use lib.ListN.{length-map, length}
 use borrow.Author.Tests.{eqb-true, eq-eqb, leb-true, le-leb}
-use Rattle.layouts.specs.Buffer.{word, fits_length, capacity_of, next, tuple_at, ends, or_nothing, used_chain, free_chain, used_of, free_of_lem, tuples_of, count, is_store}
+use Rattle.layouts.specs.Buffer.{word, fits_length, capacity_of, next, tuple_at, ends, or_nothing, used_chain, free_chain, used_of, free_of, tuples_of, count, is_store}
 use Rattle.model.specs.Numbers.{every_up_to}
 use Rattle.model.specs.Rules.{TupleRules}
 use Rattle.layouts.specs.Chains.{ChainRules, StoreRules, IsStore}
@@ -27,8 +27,8 @@ ends_some none e = absurd (false≢true e)
 ends_some (some is) e = refl
 
 -- what the test says yes to meets the rules, with the chains that a walk meets
-pub store_rules : (b : List ℕ) → is_store b ≡ true → StoreRules b (used_of b) (free_of_lem b)
-unfolding is_store used_of free_of_lem used_chain free_chain tuples_of
+pub store_rules : (b : List ℕ) → is_store b ≡ true → StoreRules b (used_of b) (free_of b)
+unfolding is_store used_of free_of used_chain free_chain tuples_of
 store_rules b e =
     let C : ℕ = capacity_of b in
     let fits = and_left (fits_length b) _ e in
@@ -39,7 +39,7 @@ store_rules b e =
     let e₆ = and_right (every_up_to (λ (i : ℕ). leb (next b i) C) C) _ e₅ in
     let e₇ = and_right (ends (used_chain b)) _ e₆ in
     let e₈ = and_right (ends (free_chain b)) _ e₇ in
-    let e₉ = and_right (every_up_to (λ (i : ℕ). eqb (count i (used_of b ++ free_of_lem b)) 1) C) _ e₈ in
+    let e₉ = and_right (every_up_to (λ (i : ℕ). eqb (count i (used_of b ++ free_of b)) 1) C) _ e₈ in
     record {
       chains =
           record {
@@ -50,12 +50,12 @@ store_rules b e =
             free_head = leb-true (word b 2) C (and_left (leb (word b 2) C) _ e₄);
             nexts = λ i h k. leb-true (next b i) C (every_up_to_lem (λ (i : ℕ). leb (next b i) C) C (and_left (every_up_to (λ (i : ℕ). leb (next b i) C) C) _ e₅) i h k);
             used_chain = walk_chain (next b) C (word b 1) (used_of b) (ends_some (used_chain b) (and_left (ends (used_chain b)) _ e₆));
-            free_chain = walk_chain (next b) C (word b 2) (free_of_lem b) (ends_some (free_chain b) (and_left (ends (free_chain b)) _ e₇));
+            free_chain = walk_chain (next b) C (word b 2) (free_of b) (ends_some (free_chain b) (and_left (ends (free_chain b)) _ e₇));
             once =
                 λ i h k.
-                eqb-true (count i (used_of b ++ free_of_lem b)) 1
-                (every_up_to_lem (λ (i : ℕ). eqb (count i (used_of b ++ free_of_lem b)) 1) C
-                (and_left (every_up_to (λ (i : ℕ). eqb (count i (used_of b ++ free_of_lem b)) 1) C) _ e₈) i h k);
+                eqb-true (count i (used_of b ++ free_of b)) 1
+                (every_up_to_lem (λ (i : ℕ). eqb (count i (used_of b ++ free_of b)) 1) C
+                (and_left (every_up_to (λ (i : ℕ). eqb (count i (used_of b ++ free_of b)) 1) C) _ e₈) i h k);
             counted = eqb-true (word b 3) (length (used_of b)) (and_left (eqb (word b 3) (length (used_of b))) _ e₉);
           };
       tuples = (sound_exactly (tuples_of b)).0 (and_right (eqb (word b 3) (length (used_of b))) _ e₉);
@@ -70,9 +70,9 @@ chains_count b used free R =
     (chain_within (next b) (capacity_of b) (word b 2) free R.free_chain R.free_head R.nexts) R.once
 
 -- so there are at most C tuples
-pub tuples_fit : (b : List ℕ) → ChainRules b (used_of b) (free_of_lem b) → length (tuples_of b) ≤ capacity_of b
+pub tuples_fit : (b : List ℕ) → ChainRules b (used_of b) (free_of b) → length (tuples_of b) ≤ capacity_of b
 unfolding tuples_of
-tuples_fit b R = omega (arith, length-map (used_of b) (tuple_at b), chains_count b (used_of b) (free_of_lem b) R)
+tuples_fit b R = omega (arith, length-map (used_of b) (tuple_at b), chains_count b (used_of b) (free_of b) R)
 
 -- a buffer of at most 12,297 words has at most 2,048 records
 pub capacity_most : (b used free : List ℕ) → ChainRules b used free → capacity_of b ≤ 2048
@@ -92,8 +92,8 @@ pub used_of_lem : (b used free : List ℕ) → ChainRules b used free → used_o
 unfolding used_of or_nothing
 used_of_lem b used free R = ap or_nothing (used_chain_lem b used free R)
 
-pub free_of_lem : (b used free : List ℕ) → ChainRules b used free → free_of_lem b ≡ free
-unfolding free_of_lem or_nothing
+pub free_of_lem : (b used free : List ℕ) → ChainRules b used free → free_of b ≡ free
+unfolding free_of or_nothing
 free_of_lem b used free R = ap or_nothing (free_chain_lem b used free R)
 
 pub tuples_of_lem : (b used free : List ℕ) → ChainRules b used free → tuples_of b ≡ map (tuple_at b) used
@@ -112,10 +112,10 @@ rules_store b used free S =
     (and_both (every_up_to (λ (i : ℕ). leb (next b i) C) C) _ (up_to_every (λ (i : ℕ). leb (next b i) C) C (λ i h k. le-leb (next b i) C (R.nexts i h k)))
     (and_both (ends (used_chain b)) _ (ap ends (used_chain_lem b used free R))
     (and_both (ends (free_chain b)) _ (ap ends (free_chain_lem b used free R))
-    (and_both (every_up_to (λ (i : ℕ). eqb (count i (used_of b ++ free_of_lem b)) 1) C) _
-    (up_to_every (λ (i : ℕ). eqb (count i (used_of b ++ free_of_lem b)) 1) C
+    (and_both (every_up_to (λ (i : ℕ). eqb (count i (used_of b ++ free_of b)) 1) C) _
+    (up_to_every (λ (i : ℕ). eqb (count i (used_of b ++ free_of b)) 1) C
     (λ i h k.
-    eq-eqb (count i (used_of b ++ free_of_lem b)) 1
+    eq-eqb (count i (used_of b ++ free_of b)) 1
     (ap₂ (λ (x y : List ℕ). count i (x ++ y)) (used_of_lem b used free R) (free_of_lem b used free R) ∙ R.once i h k)))
     (and_both (eqb (word b 3) (length (used_of b))) _
     (eq-eqb (word b 3) (length (used_of b)) (R.counted ∙ ap length (sym (used_of_lem b used free R))))
@@ -123,4 +123,4 @@ rules_store b used free S =
 
 -- "A buffer is accepted as a store exactly when it meets the rules"
 pub store_exactly : (b : List ℕ) → (is_store b ≡ true) ↔ IsStore b
-store_exactly b = (λ e. (used_of b, free_of_lem b, store_rules b e), λ s. rules_store b s.0 s.1 s.2)
+store_exactly b = (λ e. (used_of b, free_of b, store_rules b e), λ s. rules_store b s.0 s.1 s.2)

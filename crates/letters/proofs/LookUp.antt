@@ -8,7 +8,7 @@ use lib.Dec.{eqb, ltb}
 use lib.ListN.{length, get_or}
 use borrow.Author.Tests.{eq-eqb, ne_eqb, eqb-true, lt-ltb, ltb-true}
 use Rattle.model.proofs.Bools.{and_left, and_right, and_both, no_not, failed}
-use Rattle.text.specs.Bytes.{Text, same_text_lem, A, B, C, D, I, O, S, U, «V», X}
+use Rattle.text.specs.Bytes.{Text, same_text, A, B, C, D, I, O, S, U, «V», X}
 use Rattle.text.proofs.Reading.{same_text_lem}
 use Rattle.letters.specs.OperatorWords.{operator_words, number_from, operator_number}
 use Rattle.letters.specs.Letters.{begins, begins_two}
@@ -21,7 +21,7 @@ numbered number [] = true
 numbered number (x ∷ xs) = eqb (operator_number x) number && numbered (number + 1) xs
 
 all_numbered : numbered 1 operator_words ≡ true
-unfolding operator_words operator_number number_from same_text_lem
+unfolding operator_words operator_number number_from same_text
 all_numbered = refl
 
 numbered_at : (number : ℕ) (xs : List Text) → numbered number xs ≡ true → (i : ℕ) → i < length xs → operator_number (get_or xs i []) ≡ number + i
@@ -39,7 +39,7 @@ pub each_number : (i : ℕ) → i < length operator_words → operator_number (g
 each_number i h = numbered_at 1 operator_words all_numbered i h
 
 -- a word that is the same as an entry has its number
-pub entry : (i : ℕ) → ltb i (length operator_words) ≡ true → (w : Text) (r : Bool) → r ≡ same_text_lem w (get_or operator_words i []) → r ≡ true → 1 + i ≡ operator_number w
+pub entry : (i : ℕ) → ltb i (length operator_words) ≡ true → (w : Text) (r : Bool) → r ≡ same_text w (get_or operator_words i []) → r ≡ true → 1 + i ≡ operator_number w
 entry i h w r e f = sym (ap operator_number (same_text_lem w (get_or operator_words i []) (sym e ∙ f)) ∙ each_number i (ltb-true i (length operator_words) h))
 
 -- the words that pass a test
@@ -50,9 +50,9 @@ passing p (x ∷ xs) = cond (p x) (x ∷ passing p xs) (passing p xs)
 -- a word is none of some: it was compared with each
 pub data NoneOf (w : Text) : List Text → Type 0 where
   compared : NoneOf w []
-  other : {x : Text} {xs : List Text} (r : Bool) → r ≡ same_text_lem w x → r ≡ false → NoneOf w xs → NoneOf w (x ∷ xs)
+  other : {x : Text} {xs : List Text} (r : Bool) → r ≡ same_text w x → r ≡ false → NoneOf w xs → NoneOf w (x ∷ xs)
 
-none_first : (w x : Text) (xs : List Text) → NoneOf w (x ∷ xs) → same_text_lem w x ≡ false
+none_first : (w x : Text) (xs : List Text) → NoneOf w (x ∷ xs) → same_text w x ≡ false
 none_first w x xs (other r e f n) = sym e ∙ f
 
 none_later : (w x : Text) (xs : List Text) → NoneOf w (x ∷ xs) → NoneOf w xs
@@ -64,13 +64,13 @@ none_passing p [] w h n = compared
 none_passing p (x ∷ xs) w h n = go (p x) refl n (none_passing p xs w h)
   where
     go : (t : Bool) → p x ≡ t → NoneOf w (cond t (x ∷ passing p xs) (passing p xs)) → (NoneOf w (passing p xs) → NoneOf w xs) → NoneOf w (x ∷ xs)
-    go true e m later = other (same_text_lem w x) refl (none_first w x (passing p xs) m) (later (none_later w x (passing p xs) m))
-    go false e m later = other (same_text_lem w x) refl (failed (same_text_lem w x) (λ s. true≢false (sym h ∙ ap p (same_text_lem w x s) ∙ e))) (later m)
+    go true e m later = other (same_text w x) refl (none_first w x (passing p xs) m) (later (none_later w x (passing p xs) m))
+    go false e m later = other (same_text w x) refl (failed (same_text w x) (λ s. true≢false (sym h ∙ ap p (same_text_lem w x s) ∙ e))) (later m)
 
 none_numbered : (number : ℕ) (xs : List Text) (w : Text) → NoneOf w xs → number_from number xs w ≡ 0
 unfolding number_from
 none_numbered number [] w n = refl
-none_numbered number (x ∷ xs) w n = go (same_text_lem w x) (none_first w x xs n) (none_numbered (number + 1) xs w (none_later w x xs n))
+none_numbered number (x ∷ xs) w n = go (same_text w x) (none_first w x xs n) (none_numbered (number + 1) xs w (none_later w x xs n))
   where
     go : (s : Bool) → s ≡ false → number_from (number + 1) xs w ≡ 0 → cond s number (number_from (number + 1) xs w) ≡ 0
     go true e later = absurd (true≢false e)

@@ -16,7 +16,7 @@ use Rattle.model.specs.declared.Call.{Call}
 use Rattle.model.specs.declared.Space.{Space}
 use Rattle.model.specs.declared.Space.TheVariants.{Universe, Numbered, Nothing}
 use Rattle.model.specs.Keys.{most_name}
-use Rattle.text.specs.Bytes.{Text, before, blank, same_text_lem, U, hyphen}
+use Rattle.text.specs.Bytes.{Text, before, blank, same_text, U, hyphen}
 use Rattle.text.specs.Numerals.{is_digit, plain_digits, read_number}
 use Rattle.text.proofs.Reading.{same_text_lem, number_most}
 use Rattle.lines.specs.declared.Argument.{Argument}
@@ -42,25 +42,25 @@ nothing_follows c line end h = sym (ap (complete c) (behind_end line end h))
 
 -- one argument
 
-pub is_universe_lem : (most : ℕ) (w : Text) (end : ℕ) (r : Bool) → r ≡ same_text_lem w (U ∷ []) → r ≡ true → Universal end ≡ of_word most w end
+pub is_universe_lem : (most : ℕ) (w : Text) (end : ℕ) (r : Bool) → r ≡ same_text w (U ∷ []) → r ≡ true → Universal end ≡ of_word most w end
 unfolding of_word
 is_universe_lem most w end r e f =
-    let s : same_text_lem w (U ∷ []) ≡ true = sym e ∙ f in
+    let s : same_text w (U ∷ []) ≡ true = sym e ∙ f in
     rw s
 
-pub is_nothing_lem : (most : ℕ) (w : Text) (end : ℕ) (r : Bool) → r ≡ same_text_lem w (U ∷ []) → r ≡ false → (q : Bool) → q ≡ same_text_lem w (hyphen ∷ []) → q ≡ true → NoSelection end ≡ of_word most w end
+pub is_nothing_lem : (most : ℕ) (w : Text) (end : ℕ) (r : Bool) → r ≡ same_text w (U ∷ []) → r ≡ false → (q : Bool) → q ≡ same_text w (hyphen ∷ []) → q ≡ true → NoSelection end ≡ of_word most w end
 unfolding of_word
 is_nothing_lem most w end r e f q i j =
-    let s : same_text_lem w (U ∷ []) ≡ false = sym e ∙ f in
-    let t : same_text_lem w (hyphen ∷ []) ≡ true = sym i ∙ j in
+    let s : same_text w (U ∷ []) ≡ false = sym e ∙ f in
+    let t : same_text w (hyphen ∷ []) ≡ true = sym i ∙ j in
     rw (s, t)
 
-pub is_number : (most : ℕ) (w : Text) (end : ℕ) (r : Bool) → r ≡ same_text_lem w (U ∷ []) → r ≡ false → (q : Bool) → q ≡ same_text_lem w (hyphen ∷ []) → q ≡ false
+pub is_number : (most : ℕ) (w : Text) (end : ℕ) (r : Bool) → r ≡ same_text w (U ∷ []) → r ≡ false → (q : Bool) → q ≡ same_text w (hyphen ∷ []) → q ≡ false
     → (x : Argument) → x ≡ as_number (read_number most w) end → x ≡ of_word most w end
 unfolding of_word
 is_number most w end r e f q i j x g =
-    let s : same_text_lem w (U ∷ []) ≡ false = sym e ∙ f in
-    let t : same_text_lem w (hyphen ∷ []) ≡ false = sym i ∙ j in
+    let s : same_text w (U ∷ []) ≡ false = sym e ∙ f in
+    let t : same_text w (hyphen ∷ []) ≡ false = sym i ∙ j in
     g ∙ rw (s, t)
 
 pub none_behind : (most : ℕ) (line : Text) (end : ℕ) → length line ≤ end → Missing ≡ argument_at most line end
@@ -87,7 +87,7 @@ is_read read most line end e a k = rw (e, k)
 -- an argument that is a number is at most what it may be
 word_most : (most : ℕ) (w : Text) (end x e : ℕ) → of_word most w end ≡ Number x e → x ≤ most
 unfolding of_word as_number
-word_most most w end x e f = go (same_text_lem w (U ∷ [])) (same_text_lem w (hyphen ∷ [])) (read_number most w) refl f
+word_most most w end x e f = go (same_text w (U ∷ [])) (same_text w (hyphen ∷ [])) (read_number most w) refl f
   where
     go : (b d : Bool) (o : Option ℕ) → read_number most w ≡ o → cond b (Universal end) (cond d (NoSelection end) (as_number o end)) ≡ Number x e → x ≤ most
     go true d o g h =
@@ -136,19 +136,19 @@ followed line end = go (ltb end (length line)) refl
     go false e = subst (λ (ws : List Text). Followed line end ws) (sym (behind_end line end (ltb-false _ _ e))) tt
 
 -- U is no number
-u_no_number : (most : ℕ) (w : Text) → same_text_lem w (U ∷ []) ≡ true → read_number most w ≡ none
+u_no_number : (most : ℕ) (w : Text) → same_text w (U ∷ []) ≡ true → read_number most w ≡ none
 unfolding read_number plain_digits is_digit
 u_no_number most w e = ap (read_number most) (same_text_lem w (U ∷ []) e)
 
 -- `-` is no number
-hyphen_no_number : (most : ℕ) (w : Text) → same_text_lem w (hyphen ∷ []) ≡ true → read_number most w ≡ none
+hyphen_no_number : (most : ℕ) (w : Text) → same_text w (hyphen ∷ []) ≡ true → read_number most w ≡ none
 unfolding read_number plain_digits is_digit
 hyphen_no_number most w e = ap (read_number most) (same_text_lem w (hyphen ∷ []) e)
 
 -- what a word leads to, where a number is asked for
 word_number : (most : ℕ) (w : Text) (end x e : ℕ) (then : ℕ → Reading) → of_word most w end ≡ Number x e → (with_number (read_number most w) then ≡ then x) × (e ≡ end)
 unfolding of_word as_number with_number
-word_number most w end x e then f = go (same_text_lem w (U ∷ [])) (same_text_lem w (hyphen ∷ [])) (read_number most w) f
+word_number most w end x e then f = go (same_text w (U ∷ [])) (same_text w (hyphen ∷ [])) (read_number most w) f
   where
     go : (b d : Bool) (o : Option ℕ) → cond b (Universal end) (cond d (NoSelection end) (as_number o end)) ≡ Number x e → (with_number o then ≡ then x) × (e ≡ end)
     go true d o h =
@@ -166,9 +166,9 @@ word_number most w end x e then f = go (same_text_lem w (U ∷ [])) (same_text_l
 
 word_refused : (most : ℕ) (w : Text) (end : ℕ) (then : ℕ → Reading) → ((x e : ℕ) → of_word most w end ≡ Number x e → ⊥) → with_number (read_number most w) then ≡ refused
 unfolding of_word as_number with_number
-word_refused most w end then n = go (same_text_lem w (U ∷ [])) refl (same_text_lem w (hyphen ∷ [])) refl (read_number most w) refl n
+word_refused most w end then n = go (same_text w (U ∷ [])) refl (same_text w (hyphen ∷ [])) refl (read_number most w) refl n
   where
-    go : (b : Bool) → same_text_lem w (U ∷ []) ≡ b → (d : Bool) → same_text_lem w (hyphen ∷ []) ≡ d → (o : Option ℕ) → read_number most w ≡ o
+    go : (b : Bool) → same_text w (U ∷ []) ≡ b → (d : Bool) → same_text w (hyphen ∷ []) ≡ d → (o : Option ℕ) → read_number most w ≡ o
         → ((x e : ℕ) → cond b (Universal end) (cond d (NoSelection end) (as_number o end)) ≡ Number x e → ⊥) → with_number o then ≡ refused
     go b f d k none g h = refl
     go true f d k (some y) g h =
@@ -233,7 +233,7 @@ space_behind true line end s e then [] k l h =
 space_behind false line end s e then [] k l h =
     let z : ◌≡◌ {A = ℕ} 0 1 = cc in
     absurd (omega arith)
-space_behind optional line end s e then (w ∷ ws) k l h = go (same_text_lem w (U ∷ [])) (same_text_lem w (hyphen ∷ [])) (read_number most_name w) h
+space_behind optional line end s e then (w ∷ ws) k l h = go (same_text w (U ∷ [])) (same_text w (hyphen ∷ [])) (read_number most_name w) h
   where
     go : (b d : Bool) (o : Option ℕ)
         → space_of optional end (cond b (Universal (end + 1 + length w)) (cond d (NoSelection (end + 1 + length w)) (as_number o (end + 1 + length w)))) ≡ Given s e
@@ -265,7 +265,7 @@ no_space_behind true end then [] h =
     let z : ◌≡◌ {A = ℕ} 0 1 = cc in
     absurd (omega arith)
 no_space_behind false end then [] h = refl
-no_space_behind optional end then (w ∷ ws) h = go (same_text_lem w (U ∷ [])) (same_text_lem w (hyphen ∷ [])) (read_number most_name w) h
+no_space_behind optional end then (w ∷ ws) h = go (same_text w (U ∷ [])) (same_text w (hyphen ∷ [])) (read_number most_name w) h
   where
     go : (b d : Bool) (o : Option ℕ)
         → space_of optional end (cond b (Universal (end + 1 + length w)) (cond d (NoSelection (end + 1 + length w)) (as_number o (end + 1 + length w)))) ≡ NotASpace

@@ -16,7 +16,7 @@ use Rattle.model.specs.Operators.{reads_of, within}
 use Rattle.model.specs.Steps.{space_number}
 use Rattle.model.proofs.Bools.{and_left, and_right, and_both, failed}
 use Rattle.model.proofs.Numbers.{every_up_to_lem}
-use Rattle.text.specs.Bytes.{Text, same_text_lem, blank, U, hyphen}
+use Rattle.text.specs.Bytes.{Text, same_text, blank, U, hyphen}
 use Rattle.text.specs.Numerals.{is_digit, all_digits, printed_number}
 use Rattle.text.proofs.Reading.{same_text_lem}
 use Rattle.text.proofs.Printing.{reads_back, digits_printed}
@@ -25,7 +25,7 @@ use Rattle.lines.specs.declared.Reading.{Reading}
 use Rattle.lines.specs.declared.Reading.TheVariants.{Read}
 use Rattle.lines.specs.Lines.{words_of}
 use Rattle.letters.specs.OperatorWords.{operator_words, number_from, operator_number}
-use Rattle.lines.specs.Calls.{most_value, with_number, take_number, take_space, complete, call_of, in_order_lem, space_then_value, spaces, arguments, read_words, read_line}
+use Rattle.lines.specs.Calls.{most_value, with_number, take_number, take_space, complete, call_of, in_order, space_then_value, spaces, arguments, read_words, read_line}
 use Rattle.model.specs.Unread.{readable}
 use Rattle.lines.specs.Reachable.{joined, letters_of, space_text, if_read, fields_then, ordered_of, arguments_of, line_of, short_line_of, CallFits}
 use Rattle.lines.proofs.Parting.{parted_off}
@@ -115,11 +115,11 @@ unfolding all_digits is_digit
 not_hyphen x h = failed _ (λ e. true≢false (sym (digits_printed x h) ∙ ap all_digits (same_text (printed_number x) (hyphen ∷ []) e)))
 
 universe_space : (optional : Bool) (ws : List Text) (then : Space → List Text → Reading) → take_space optional ((U ∷ []) ∷ ws) then ≡ then Universe ws
-unfolding take_space same_text_lem
+unfolding take_space same_text
 universe_space optional ws then = refl
 
 nothing_space : (optional : Bool) (ws : List Text) (then : Space → List Text → Reading) → take_space optional ((hyphen ∷ []) ∷ ws) then ≡ then Nothing ws
-unfolding take_space same_text_lem
+unfolding take_space same_text
 nothing_space optional ws then = refl
 
 printed_space : (optional : Bool) (x : SpaceName) (ws : List Text) (then : Space → List Text → Reading) → x.0 ≤ most_name → take_space optional (printed_number x.0 ∷ ws) then ≡ then (Numbered x) ws
@@ -144,13 +144,13 @@ whole c f = ap read_words (parted (letters_of c.operator) (arguments_of c) (lett
 -- 57, 56 and 52
 
 reads_57 : (n g m v : ℕ) (s : Space) → n ≤ most_name → arguments (operator_number (letters_of 57)) (arguments_of (call_of 57 n g m v s)) ≡ Read (readable (call_of 57 n g m v s))
-unfolding letters_of operator_words operator_number number_from same_text_lem arguments arguments_of ordered_of fields_then if_read reads_of spaces take_number with_number complete readable
+unfolding letters_of operator_words operator_number number_from same_text arguments arguments_of ordered_of fields_then if_read reads_of spaces take_number with_number complete readable
 reads_57 n g m v s h =
     let b = reads_back most_name n h (omega arith) in
     rw b
 
 reads_56 : (n g m v : ℕ) (s : Space) → arguments (operator_number (letters_of 56)) (arguments_of (call_of 56 n g m v s)) ≡ Read (readable (call_of 56 n g m v s))
-unfolding letters_of operator_words operator_number number_from same_text_lem arguments arguments_of ordered_of fields_then if_read reads_of spaces readable
+unfolding letters_of operator_words operator_number number_from same_text arguments arguments_of ordered_of fields_then if_read reads_of spaces readable
 reads_56 n g m v s = refl
 
 value_last : (s : Space) (v : ℕ) → v ≤ most_value → take_number true most_value (printed_number v ∷ []) (λ (x : ℕ) (ws : List Text). complete (call_of 52 0 0 0 x s) ws) ≡ Read (call_of 52 0 0 0 v s)
@@ -160,7 +160,7 @@ value_last s v h =
     rw b
 
 reads_52 : (n g m v : ℕ) (s : Space) → v ≤ most_value → space_number s ≤ most_name → arguments (operator_number (letters_of 52)) (arguments_of (call_of 52 n g m v s)) ≡ Read (readable (call_of 52 n g m v s))
-unfolding letters_of operator_words operator_number number_from same_text_lem arguments arguments_of reads_of space_then_value readable
+unfolding letters_of operator_words operator_number number_from same_text arguments arguments_of reads_of space_then_value readable
 reads_52 n g m v s h k =
     take_space_lem false s (printed_number v ∷ []) (λ (t : Space) (ws : List Text). take_number true most_value ws (λ (x : ℕ) (vs : List Text). complete (call_of 52 0 0 0 x t) vs)) k
     ∙ value_last s v h
@@ -168,7 +168,7 @@ reads_52 n g m v s h k =
 -- the others
 
 number_back : (o : ℕ) → 1 ≤ o → o ≤ 56 → operator_number (letters_of o) ≡ o
-unfolding every_up_to letters_of operator_words operator_number number_from same_text_lem
+unfolding every_up_to letters_of operator_words operator_number number_from same_text
 number_back o h k = eqb-true (operator_number (letters_of o)) o (every_up_to_lem (λ (i : ℕ). eqb (operator_number (letters_of i)) i) 56 refl o h k)
 
 space_asked : (o : ℕ) → 1 ≤ o → o ≤ 55 → (reads_of o).s ≡ true
@@ -186,8 +186,8 @@ fields_read c s ws =
     let r = reads_of c.operator in
     complete (call_of c.operator (cond r.n c.n.0 0) (cond r.g c.g.0 0) (cond r.m c.m.0 0) (cond r.v c.v 0) s) ws
 
-fields_in_order : (c : Call) → CallFits c → (ws : List Text) → in_order_lem c.operator (fields_then c ws) ≡ take_space (within 1 50 c.operator) ws (fields_read c)
-unfolding in_order_lem fields_then
+fields_in_order : (c : Call) → CallFits c → (ws : List Text) → in_order c.operator (fields_then c ws) ≡ take_space (within 1 50 c.operator) ws (fields_read c)
+unfolding in_order fields_then
 fields_in_order c f ws =
     let o = c.operator in
     let r = reads_of c.operator in
@@ -199,7 +199,7 @@ fields_in_order c f ws =
     ∙ take_printed r.m most_name c.m.0 _ (behind_m o n g) f.names.m (omega arith)
     ∙ take_printed r.v most_value c.v ws (behind_v o n g m) f.value (omega arith)
 
-in_order_lem : (c : Call) → CallFits c → c.operator ≤ 55 → in_order_lem c.operator (ordered_of c) ≡ Read (readable c)
+in_order_lem : (c : Call) → CallFits c → c.operator ≤ 55 → in_order c.operator (ordered_of c) ≡ Read (readable c)
 unfolding ordered_of readable complete
 in_order_lem c f k =
     let r = reads_of c.operator in

@@ -7,7 +7,7 @@ use Prim.Native.Nat.{ℕ, Ordering}
 use Rattle.model.specs.declared.Fields.{Fields}
 use Rattle.model.specs.Ordered.{by_order, holds, put, Ascending}
 use Rattle.model.specs.declared.Key.{Key}
-use Rattle.model.specs.Keys.{Value, NIL, Tuple, key_of, space_key, node_key, edge_key, compare_keys, same_key_lem}
+use Rattle.model.specs.Keys.{Value, NIL, Tuple, key_of, space_key, node_key, edge_key, compare_keys, same_key}
 use Rattle.model.specs.Tuples.{Tuples, present, any_present, value_at, add, assign, remove}
 use Rattle.model.specs.declared.Direction.TheVariants.{Outpointing, Inpointing, Adjacent}
 use Rattle.model.specs.declared.Object.{Object}
@@ -26,7 +26,7 @@ use Rattle.model.proofs.Tuples.{same_key_lem, among, present_add_all}
 pub value_missing : (k : Key) (ts : Tuples) → present k ts ≡ false → value_at k ts ≡ NIL
 unfolding value_at holds
 value_missing k [] e = refl
-value_missing k (t ∷ ts) e = go (same_key_lem k t.key) (value_missing k ts) e
+value_missing k (t ∷ ts) e = go (same_key k t.key) (value_missing k ts) e
   where
     go : (b : Bool) → (present k ts ≡ false → value_at k ts ≡ NIL) → (b || present k ts) ≡ false → cond b t.value (value_at k ts) ≡ NIL
     go true ih f = absurd (true≢false f)
@@ -35,7 +35,7 @@ value_missing k (t ∷ ts) e = go (same_key_lem k t.key) (value_missing k ts) e
 -- "NIL where missing; a present one keeps its value": adding a key changes no value
 pub value_add : (j k : Key) (ts : Tuples) → Ascending key_of compare_keys ts → value_at j (add k ts) ≡ value_at j ts
 unfolding value_at put
-value_add j k [] h = go (same_key_lem j k)
+value_add j k [] h = go (same_key j k)
   where
     go : (b : Bool) → cond b NIL NIL ≡ NIL
     go true = refl
@@ -45,7 +45,7 @@ value_add j k (t ∷ ts) h = go (compare_keys k t.key) refl (value_add j k ts (a
     new : Tuple
     new = record { key = k; value = NIL }
 
-    first : (b : Bool) → same_key_lem j k ≡ b → compare_keys k t.key ≡ Ordering.lt → cond b NIL (value_at j (t ∷ ts)) ≡ value_at j (t ∷ ts)
+    first : (b : Bool) → same_key j k ≡ b → compare_keys k t.key ≡ Ordering.lt → cond b NIL (value_at j (t ∷ ts)) ≡ value_at j (t ∷ ts)
     first true e f =
         sym (ap (λ (i : Key). value_at i (t ∷ ts)) (same_key_lem j k e)
         ∙ value_missing k (t ∷ ts) (above_not_held key_of compare_keys keys k (t ∷ ts) (f, h)))
@@ -53,33 +53,33 @@ value_add j k (t ∷ ts) h = go (compare_keys k t.key) refl (value_add j k ts (a
 
     go : (o : Ordering) → compare_keys k t.key ≡ o → value_at j (add k ts) ≡ value_at j ts
         → value_at j (by_order o (new ∷ t ∷ ts) (t ∷ ts) (t ∷ add k ts)) ≡ value_at j (t ∷ ts)
-    go Ordering.lt f ih = first (same_key_lem j k) refl f
+    go Ordering.lt f ih = first (same_key j k) refl f
     go Ordering.eq f ih = refl
-    go Ordering.gt f ih = ap (λ (v : Value). cond (same_key_lem j t.key) t.value v) ih
+    go Ordering.gt f ih = ap (λ (v : Value). cond (same_key j t.key) t.value v) ih
 
 -- "set": the key's own value ..
 pub value_assign : (k : Key) (v : Value) (ts : Tuples) → Has k ts → value_at k (assign k v ts) ≡ v
 unfolding value_at assign holds
 value_assign k v [] e = absurd (false≢true e)
-value_assign k v (t ∷ ts) e = go (same_key_lem k t.key) refl (value_assign k v ts) e
+value_assign k v (t ∷ ts) e = go (same_key k t.key) refl (value_assign k v ts) e
   where
-    go : (b : Bool) → same_key_lem k t.key ≡ b → (present k ts ≡ true → value_at k (assign k v ts) ≡ v) → (b || present k ts) ≡ true
+    go : (b : Bool) → same_key k t.key ≡ b → (present k ts ≡ true → value_at k (assign k v ts) ≡ v) → (b || present k ts) ≡ true
         → value_at k (cond b (record { key = t.key; value = v }) t ∷ assign k v ts) ≡ v
     go true f ih h = ap (λ (b : Bool). cond b v (value_at k (assign k v ts))) f
     go false f ih h = ap (λ (b : Bool). cond b t.value (value_at k (assign k v ts))) f ∙ ih h
 
 -- .. and no other
-pub value_assign_other : (j k : Key) (v : Value) (ts : Tuples) → same_key_lem j k ≡ false → value_at j (assign k v ts) ≡ value_at j ts
+pub value_assign_other : (j k : Key) (v : Value) (ts : Tuples) → same_key j k ≡ false → value_at j (assign k v ts) ≡ value_at j ts
 unfolding value_at assign
 value_assign_other j k v [] e = refl
-value_assign_other j k v (t ∷ ts) e = go (same_key_lem k t.key) refl (value_assign_other j k v ts e)
+value_assign_other j k v (t ∷ ts) e = go (same_key k t.key) refl (value_assign_other j k v ts e)
   where
-    go : (b : Bool) → same_key_lem k t.key ≡ b → value_at j (assign k v ts) ≡ value_at j ts
-        → value_at j (cond b (record { key = t.key; value = v }) t ∷ assign k v ts) ≡ cond (same_key_lem j t.key) t.value (value_at j ts)
+    go : (b : Bool) → same_key k t.key ≡ b → value_at j (assign k v ts) ≡ value_at j ts
+        → value_at j (cond b (record { key = t.key; value = v }) t ∷ assign k v ts) ≡ cond (same_key j t.key) t.value (value_at j ts)
     go true f ih =
-        let other : same_key_lem j t.key ≡ false = subst (λ (i : Key). same_key_lem j i ≡ false) (same_key_lem k t.key f) e in
+        let other : same_key j t.key ≡ false = subst (λ (i : Key). same_key j i ≡ false) (same_key_lem k t.key f) e in
         ap (λ (b : Bool). cond b v (value_at j (assign k v ts))) other ∙ ih ∙ sym (ap (λ (b : Bool). cond b t.value (value_at j ts)) other)
-    go false f ih = ap (λ (w : Value). cond (same_key_lem j t.key) t.value w) ih
+    go false f ih = ap (λ (w : Value). cond (same_key j t.key) t.value w) ih
 
 -- a tuple that is not taken keeps its value
 pub value_remove : (j : Key) (takes : Key → Bool) (ts : Tuples) → takes j ≡ false → value_at j (remove takes ts) ≡ value_at j ts
@@ -88,13 +88,13 @@ value_remove j takes [] e = refl
 value_remove j takes (t ∷ ts) e = go (takes t.key) refl (value_remove j takes ts e)
   where
     go : (b : Bool) → takes t.key ≡ b → value_at j (remove takes ts) ≡ value_at j ts
-        → value_at j (cond b (remove takes ts) (t ∷ remove takes ts)) ≡ cond (same_key_lem j t.key) t.value (value_at j ts)
-    go true f ih = ih ∙ other (same_key_lem j t.key) refl
+        → value_at j (cond b (remove takes ts) (t ∷ remove takes ts)) ≡ cond (same_key j t.key) t.value (value_at j ts)
+    go true f ih = ih ∙ other (same_key j t.key) refl
       where
-        other : (b : Bool) → same_key_lem j t.key ≡ b → value_at j ts ≡ cond b t.value (value_at j ts)
+        other : (b : Bool) → same_key j t.key ≡ b → value_at j ts ≡ cond b t.value (value_at j ts)
         other true g = absurd (clash f (sym (ap takes (same_key_lem j t.key g)) ∙ e))
         other false g = refl
-    go false f ih = ap (λ (w : Value). cond (same_key_lem j t.key) t.value w) ih
+    go false f ih = ap (λ (w : Value). cond (same_key j t.key) t.value w) ih
 
 -- ---- C: "add"
 

@@ -10,7 +10,7 @@ use Rattle.model.specs.declared.Fields.{Fields}
 use Rattle.model.specs.declared.Pair.{Pair}
 use Rattle.model.specs.Ordered.{holds, Ascending}
 use Rattle.model.specs.declared.Key.{Key}
-use Rattle.model.specs.Keys.{space_key, node_key, edge_key, is_node, is_edge, same_key_lem}
+use Rattle.model.specs.Keys.{space_key, node_key, edge_key, is_node, is_edge, same_key}
 use Rattle.model.specs.Tuples.{Tuples, present}
 use Rattle.model.specs.declared.Direction.{Direction}
 use Rattle.model.specs.declared.Direction.TheVariants.{Outpointing, Inpointing, Adjacent}
@@ -60,8 +60,8 @@ pub gather_sound : (f : Key → List Pair) (ts : Tuples) (q : Pair) → Member q
 unfolding gather holds
 gather_sound f [] q e = absurd (false≢true e)
 gather_sound f (t ∷ ts) q e =
-    ⊎_elim (λ h. (t.key, or_left (same_key_lem t.key t.key) (present t.key ts) (own_key t.key), h))
-    (λ h. let r = gather_sound f ts q h in (r.0, or_right (same_key_lem r.0 t.key) (present r.0 ts) r.1, r.2))
+    ⊎_elim (λ h. (t.key, or_left (same_key t.key t.key) (present t.key ts) (own_key t.key), h))
+    (λ h. let r = gather_sound f ts q h in (r.0, or_right (same_key r.0 t.key) (present r.0 ts) r.1, r.2))
     (or_cases (member q (f t.key)) (member q (gather f ts)) (sym (member_append q (f t.key) (gather f ts)) ∙ e))
 
 -- .. and nothing is left out
@@ -73,7 +73,7 @@ gather_complete f (t ∷ ts) q k h e =
     ∙ ⊎_elim
     (λ same. or_left (member q (f t.key)) (member q (gather f ts)) (subst (λ (j : Key). Member q (f j)) (same_key_lem k t.key same) e))
     (λ there. or_right (member q (f t.key)) (member q (gather f ts)) (gather_complete f ts q k there e))
-    (or_cases (same_key_lem k t.key) (present k ts) h)
+    (or_cases (same_key k t.key) (present k ts) h)
 
 pub map_sound : (f : Pair → Pair) (ps : List Pair) (q : Pair) → Member q (map f ps) → (p : Pair) × Member p ps × (q ≡ f p)
 unfolding holds

@@ -74,7 +74,7 @@ nothing_without_effect Y C ts xs x r ys b zs b'' asks e same W W₀ =
     let with_it_lem = map-append (λ (y : Exchange). y.request) xs (x ∷ ys) ∙ ap (λ (q : Request). requests xs ++ (q ∷ requests ys)) asks in
     let without_it_lem = same ∙ map-append (λ (y : Exchange). y.request) xs ys in
     record {
-      with_it_lem = W.answered ∙ ap (answers C ts) with_it_lem ∙ nothing_answers C ts (requests xs) r (requests ys) e;
+      with_it = W.answered ∙ ap (answers C ts) with_it_lem ∙ nothing_answers C ts (requests xs) r (requests ys) e;
       without_it = W₀.answered ∙ ap (answers C ts) without_it_lem ∙ answers_append C ts (requests xs) (requests ys);
       same_state =
           W.held

@@ -8,7 +8,7 @@ use Prim.Native.Nat.{ℕ, compare, Ordering}
 use native.Mathlib.Omega.{arith}
 use Rattle.model.specs.Ordered.{then_by, holds, Ascending}
 use Rattle.model.specs.declared.Key.{Key}
-use Rattle.model.specs.Keys.{Value, key_of, space_key, node_key, edge_key, compare_keys, same_key_lem}
+use Rattle.model.specs.Keys.{Value, key_of, space_key, node_key, edge_key, compare_keys, same_key}
 use Rattle.model.specs.Tuples.{Tuples, present, add_all, assign, assign_all, remove}
 use Rattle.model.specs.Rules.{Has, Supported, Small, Shaped, first_key, TupleRules}
 use Rattle.model.proofs.Bools.{or_cases, or_left, or_right, and_left, and_right, and_both, not_yes, no_not, failed, clash}

@@ -10,7 +10,7 @@ use lib.Dec.{eqb, leb}
 use borrow.Author.Tests.{eqb-true, eqb-false, eq-eqb, ne_eqb, leb-true, le-leb}
 use Rattle.model.specs.Ordered.{holds, Ascending}
 use Rattle.model.specs.declared.Key.{Key}
-use Rattle.model.specs.Keys.{most_name, key_of, space_key, node_key, is_node, is_edge, compare_keys, same_key_lem}
+use Rattle.model.specs.Keys.{most_name, key_of, space_key, node_key, is_node, is_edge, compare_keys, same_key}
 use Rattle.model.specs.Tuples.{Tuples, present}
 use Rattle.model.specs.Rules.{ascends_from_universe, small_key, no_edge_without_node, edge_has_end, node_supported, edge_supported, every_key, sound, Has, Supported, Small, Shaped, first_key, TupleRules}
 use Rattle.model.proofs.Bools.{or_cases, or_left, or_right, and_left, and_right, and_both, not_yes, no_not, clash}
@@ -26,14 +26,14 @@ every_key_lem p [] e k h = absurd (false≢true h)
 every_key_lem p (t ∷ ts) e k h =
     ⊎_elim (λ f. ap p (same_key_lem k t.key f) ∙ and_left (p t.key) (every_key p ts) e)
     (λ f. every_key_lem p ts (and_right (p t.key) (every_key p ts) e) k f)
-    (or_cases (same_key_lem k t.key) (present k ts) h)
+    (or_cases (same_key k t.key) (present k ts) h)
 
 key_every : (p : Key → Bool) (ts : Tuples) → ((k : Key) → Has k ts → p k ≡ true) → every_key p ts ≡ true
 unfolding every_key holds
 key_every p [] h = refl
 key_every p (t ∷ ts) h =
-    and_both (p t.key) (every_key p ts) (h t.key (or_left (same_key_lem t.key t.key) (present t.key ts) (own_key t.key)))
-    (key_every p ts (λ k e. h k (or_right (same_key_lem k t.key) (present k ts) e)))
+    and_both (p t.key) (every_key p ts) (h t.key (or_left (same_key t.key t.key) (present t.key ts) (own_key t.key)))
+    (key_every p ts (λ k e. h k (or_right (same_key k t.key) (present k ts) e)))
 
 -- ---- the rules on one key
 
@@ -145,8 +145,8 @@ pub from_universe_yes : (ts : Tuples) → ascends_from_universe ts ≡ true → 
 unfolding ascends_from_universe
 from_universe_yes [] e = absurd (false≢true e)
 from_universe_yes (t ∷ ts) e = (
-  test_above key_of compare_keys keys t.key ts (and_right (same_key_lem t.key (space_key 0)) _ e),
-  ap some (same_key_lem t.key (space_key 0) (and_left (same_key_lem t.key (space_key 0)) _ e)),
+  test_above key_of compare_keys keys t.key ts (and_right (same_key t.key (space_key 0)) _ e),
+  ap some (same_key_lem t.key (space_key 0) (and_left (same_key t.key (space_key 0)) _ e)),
 )
 
 yes_from_universe : (ts : Tuples) → Ascending key_of compare_keys ts → first_key ts ≡ some (space_key 0) → ascends_from_universe ts ≡ true
@@ -156,7 +156,7 @@ yes_from_universe [] h e = absurd (never e)
     never : ◌≡◌ {A = Option Key} none (some (space_key 0)) → ⊥
     never e = let z : ◌≡◌ {A = ℕ} 0 1 = cc in omega arith
 yes_from_universe (t ∷ ts) h e =
-    and_both (same_key_lem t.key (space_key 0)) _ (subst (λ (k : Key). same_key_lem k (space_key 0) ≡ true) (sym (injective e)) (own_key (space_key 0)))
+    and_both (same_key t.key (space_key 0)) _ (subst (λ (k : Key). same_key k (space_key 0) ≡ true) (sym (injective e)) (own_key (space_key 0)))
     (above_test key_of compare_keys keys t.key ts h)
   where
     injective : {a b : Key} → some a ≡ some b → a ≡ b

@@ -16,7 +16,7 @@ use Rattle.model.specs.declared.Space.TheVariants.{Universe, Numbered, Nothing}
 use Rattle.model.specs.declared.Pair.{Pair}
 use Rattle.model.specs.Ordered.{holds}
 use Rattle.model.specs.declared.Key.{Key}
-use Rattle.model.specs.Keys.{most_name, space_key, node_key, edge_key, same_key_lem}
+use Rattle.model.specs.Keys.{most_name, space_key, node_key, edge_key, same_key}
 use Rattle.model.specs.Tuples.{Tuples, present, add_all, missing, assign, assign_all, remove}
 use Rattle.model.specs.declared.Direction.{Direction}
 use Rattle.model.specs.declared.Direction.TheVariants.{Outpointing, Inpointing, Adjacent}
@@ -223,15 +223,15 @@ every_among : (P : Key → Type 0) (ks : List Key) → EveryKey P ks → (k : Ke
 unfolding holds
 every_among P [] h k e = absurd (false≢true e)
 every_among P (j ∷ ks) h k e =
-    ⊎_elim (λ f. subst P (sym (same_key_lem k j f)) h.0) (λ f. every_among P ks h.1 k f) (or_cases (same_key_lem k j) (among k ks) e)
+    ⊎_elim (λ f. subst P (sym (same_key_lem k j f)) h.0) (λ f. every_among P ks h.1 k f) (or_cases (same_key k j) (among k ks) e)
 
 here : (k : Key) (ks : List Key) → among k (k ∷ ks) ≡ true
 unfolding holds
-here k ks = or_left (same_key_lem k k) (among k ks) (own_key k)
+here k ks = or_left (same_key k k) (among k ks) (own_key k)
 
 there : (k j : Key) (ks : List Key) → among k ks ≡ true → among k (j ∷ ks) ≡ true
 unfolding holds
-there k j ks e = or_right (same_key_lem k j) (among k ks) e
+there k j ks e = or_right (same_key k j) (among k ks) e
 
 -- ---- creating
 

@@ -9,7 +9,7 @@ use native.Mathlib.Omega.{arith}
 use lib.ListN.{length}
 use Rattle.model.specs.Ordered.{holds, Above, Ascending}
 use Rattle.model.specs.declared.Key.{Key}
-use Rattle.model.specs.Keys.{Value, NIL, Tuple, key_of, compare_keys, same_key_lem}
+use Rattle.model.specs.Keys.{Value, NIL, Tuple, key_of, compare_keys, same_key}
 use Rattle.model.specs.Tuples.{Tuples, present, add, add_all, missing, assign, remove}
 use Rattle.model.proofs.Bools.{or_left}
 use Rattle.model.proofs.Order.{keys}
@@ -17,10 +17,10 @@ use Rattle.model.proofs.Ordered.{at_element, self, holds_put, above_less, ascend
 
 -- ---- the key is there
 
-pub same_key_lem : (j k : Key) → same_key_lem j k ≡ true → j ≡ k
+pub same_key_lem : (j k : Key) → same_key j k ≡ true → j ≡ k
 same_key_lem j k e = at_element key_of compare_keys keys j k e
 
-pub own_key : (k : Key) → same_key_lem k k ≡ true
+pub own_key : (k : Key) → same_key k k ≡ true
 own_key k = self key_of compare_keys keys k
 
 -- does a key stand in a list of keys
@@ -29,7 +29,7 @@ among k ks = holds (λ (j : Key). j) compare_keys k ks
 
 -- ---- add
 
-pub present_add : (j k : Key) (ts : Tuples) → present j (add k ts) ≡ (same_key_lem j k || present j ts)
+pub present_add : (j k : Key) (ts : Tuples) → present j (add k ts) ≡ (same_key j k || present j ts)
 present_add j k ts = holds_put key_of compare_keys keys j (record { key = k; value = NIL }) ts
 
 pub add_ascending : (k : Key) (ts : Tuples) → Ascending key_of compare_keys ts → Ascending key_of compare_keys (add k ts)
@@ -48,7 +48,7 @@ present_add_all j [] ts = refl
 present_add_all j (k ∷ ks) ts =
     present_add_all j ks (add k ts)
     ∙ ap (λ (b : Bool). among j ks || b) (present_add j k ts)
-    ∙ or_middle (among j ks) (same_key_lem j k) (present j ts)
+    ∙ or_middle (among j ks) (same_key j k) (present j ts)
 
 pub add_all_ascending : (ks : List Key) (ts : Tuples) → Ascending key_of compare_keys ts → Ascending key_of compare_keys (add_all ks ts)
 unfolding add_all
@@ -77,12 +77,12 @@ pub among_missing : (j : Key) (ks : List Key) (ts : Tuples) → among j (missing
 unfolding missing holds
 among_missing j [] ts = refl
 among_missing j (k ∷ ks) ts =
-    go (present k ts) (same_key_lem j k) refl refl (among_missing j ks ts) (among_missing j ks (add k ts) ∙ ap (λ (b : Bool). among j ks && not b) (present_add j k ts))
+    go (present k ts) (same_key j k) refl refl (among_missing j ks ts) (among_missing j ks (add k ts) ∙ ap (λ (b : Bool). among j ks && not b) (present_add j k ts))
   where
-    go : (b d : Bool) → present k ts ≡ b → same_key_lem j k ≡ d
+    go : (b d : Bool) → present k ts ≡ b → same_key j k ≡ d
         → among j (missing ks ts) ≡ (among j ks && not (present j ts))
-        → among j (missing ks (add k ts)) ≡ (among j ks && not (same_key_lem j k || present j ts))
-        → among j (cond b (missing ks ts) (k ∷ missing ks (add k ts))) ≡ ((same_key_lem j k || among j ks) && not (present j ts))
+        → among j (missing ks (add k ts)) ≡ (among j ks && not (same_key j k || present j ts))
+        → among j (cond b (missing ks ts) (k ∷ missing ks (add k ts))) ≡ ((same_key j k || among j ks) && not (present j ts))
     go true true e f here there =
         let p : present j ts ≡ true = subst (λ (i : Key). present i ts ≡ true) (sym (same_key_lem j k f)) e in
         here ∙ ap (λ (b : Bool). among j ks && not b) p ∙ and-false (among j ks) ∙ sym (ap₂ (λ (a b : Bool). (a || among j ks) && not b) f p)
@@ -105,7 +105,7 @@ missing_once [] ts = tt
 missing_once (k ∷ ks) ts = go (present k ts) (missing_once ks ts) (missing_once ks (add k ts))
   where
     taken : present k (add k ts) ≡ true
-    taken = present_add k k ts ∙ or_left (same_key_lem k k) (present k ts) (own_key k)
+    taken = present_add k k ts ∙ or_left (same_key k k) (present k ts) (own_key k)
 
     go : (b : Bool) → Once (missing ks ts) → Once (missing ks (add k ts)) → Once (cond b (missing ks ts) (k ∷ missing ks (add k ts)))
     go true here there = here
@@ -117,11 +117,11 @@ missing_once (k ∷ ks) ts = go (present k ts) (missing_once ks ts) (missing_onc
 pub present_remove : (j : Key) (takes : Key → Bool) (ts : Tuples) → present j (remove takes ts) ≡ (present j ts && not (takes j))
 unfolding remove holds
 present_remove j takes [] = refl
-present_remove j takes (t ∷ ts) = go (takes t.key) (same_key_lem j t.key) refl refl (present_remove j takes ts)
+present_remove j takes (t ∷ ts) = go (takes t.key) (same_key j t.key) refl refl (present_remove j takes ts)
   where
-    go : (b d : Bool) → takes t.key ≡ b → same_key_lem j t.key ≡ d
+    go : (b d : Bool) → takes t.key ≡ b → same_key j t.key ≡ d
         → present j (remove takes ts) ≡ (present j ts && not (takes j))
-        → present j (cond b (remove takes ts) (t ∷ remove takes ts)) ≡ ((same_key_lem j t.key || present j ts) && not (takes j))
+        → present j (cond b (remove takes ts) (t ∷ remove takes ts)) ≡ ((same_key j t.key || present j ts) && not (takes j))
     go true true e f ih =
         let p : takes j ≡ true = ap takes (same_key_lem j t.key f) ∙ e in
         ih ∙ ap (λ (b : Bool). present j ts && not b) p ∙ and-false (present j ts)
@@ -174,20 +174,20 @@ reassigned_key false v t = refl
 pub present_assign : (j k : Key) (v : Value) (ts : Tuples) → present j (assign k v ts) ≡ present j ts
 unfolding assign holds
 present_assign j k v [] = refl
-present_assign j k v (t ∷ ts) = ap₂ (λ (i : Key) (b : Bool). same_key_lem j i || b) (reassigned_key (same_key_lem k t.key) v t) (present_assign j k v ts)
+present_assign j k v (t ∷ ts) = ap₂ (λ (i : Key) (b : Bool). same_key j i || b) (reassigned_key (same_key k t.key) v t) (present_assign j k v ts)
 
 pub assign_above : (j k : Key) (v : Value) (ts : Tuples) → Above key_of compare_keys j ts → Above key_of compare_keys j (assign k v ts)
 unfolding assign
 assign_above j k v [] h = tt
 assign_above j k v (t ∷ ts) h =
-    let e : t.key ≡ (reassigned (same_key_lem k t.key) v t).key = sym (reassigned_key (same_key_lem k t.key) v t) in
+    let e : t.key ≡ (reassigned (same_key k t.key) v t).key = sym (reassigned_key (same_key k t.key) v t) in
     (subst (λ (i : Key). compare_keys j i ≡ Ordering.lt) e h.0, subst (λ (i : Key). Above key_of compare_keys i (assign k v ts)) e (assign_above t.key k v ts h.1))
 
 pub assign_ascending : (k : Key) (v : Value) (ts : Tuples) → Ascending key_of compare_keys ts → Ascending key_of compare_keys (assign k v ts)
 unfolding assign
 assign_ascending k v [] h = tt
 assign_ascending k v (t ∷ ts) h =
-    subst (λ (i : Key). Above key_of compare_keys i (assign k v ts)) (sym (reassigned_key (same_key_lem k t.key) v t)) (assign_above t.key k v ts h)
+    subst (λ (i : Key). Above key_of compare_keys i (assign k v ts)) (sym (reassigned_key (same_key k t.key) v t)) (assign_above t.key k v ts h)
 
 pub length_assign : (k : Key) (v : Value) (ts : Tuples) → length (assign k v ts) ≡ length ts
 unfolding assign

@@ -9,7 +9,7 @@ use lib.Dec.{eqb, compare_is_eq}
 use borrow.Author.Tests.{eqb-true, eqb-false, eq-eqb, ne_eqb}
 use Rattle.model.specs.declared.Key.{Key}
 use Rattle.model.specs.Ordered.{is_less, then_by, Above, Ascending}
-use Rattle.model.specs.Keys.{key_of, space_key, node_key, compare_keys, same_key_lem}
+use Rattle.model.specs.Keys.{key_of, space_key, node_key, compare_keys, same_key}
 use Rattle.model.specs.Tuples.{Tuples, present}
 use Rattle.layouts.specs.Buffer.{word, next, key_at, tuple_at, tuples_of}
 use Rattle.model.specs.Rules.{ascends_from_universe, every_key}
@@ -35,8 +35,8 @@ less_space j k e = go (compare j.s k.s) refl e
     go Ordering.eq f h = omega (arith, compare_eq j.s k.s f)
     go Ordering.gt f h = absurd (lt≢gt (sym h))
 
-other_space : (j k : Key) → (j.s ≡ k.s → ⊥) → same_key_lem j k ≡ false
-other_space j k h = failed (same_key_lem j k) (λ e. h (ap (λ (x : Key). x.s) (same_key_lem j k e)))
+other_space : (j k : Key) → (j.s ≡ k.s → ⊥) → same_key j k ≡ false
+other_space j k h = failed (same_key j k) (λ e. h (ap (λ (x : Key). x.s) (same_key_lem j k e)))
 
 -- ---- the first record of a space
 

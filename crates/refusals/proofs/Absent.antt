@@ -12,7 +12,7 @@ use Rattle.model.specs.declared.Key.{Key}
 use Rattle.model.specs.declared.Operator.{Operator}
 use Rattle.model.specs.Keys.{space_key, node_key}
 use Rattle.model.specs.Numbers.{every_up_to}
-use Rattle.model.specs.Operators.{within, reads_of, asks_of_lem}
+use Rattle.model.specs.Operators.{within, reads_of, asks_of}
 use Rattle.model.specs.Tuples.{Tuples, present, any_present}
 use Rattle.model.specs.Steps.{decoded}
 use Rattle.model.specs.Refusals.{no_operator, space_absent, node_absent, second_absent, worked_on, edge_absent}
@@ -41,10 +41,10 @@ works_on_none op known f ts e none =
 
 -- an operator that asks for n in s, or reads m, asks for its space; one that asks for n in s reads n; one that asks for n in UNIVERSE does not ask for it in s
 abbrev asks_together : ℕ → Bool
-asks_together o = not ((asks_of_lem o).node || (reads_of o).m) || (asks_of_lem o).space
+asks_together o = not ((asks_of o).node || (reads_of o).m) || (asks_of o).space
 
 abbrev reads_node : ℕ → Bool
-reads_node o = not (asks_of_lem o).node || (reads_of o).n
+reads_node o = not (asks_of o).node || (reads_of o).n
 
 all_ask : every_up_to asks_together 57 ≡ true
 unfolding every_up_to reads_of
@@ -83,12 +83,12 @@ module _ (d : Decoded) (U : Unstopped d) where
   space_is_asked : (d.row.asks.node || d.row.reads.m) ≡ true → d.row.asks.space ≡ true
   space_is_asked e =
       of_asks (λ x. x.row.asks.space) true
-      (sym (ap (λ (x : Bool). not x || (asks_of_lem o).space) (asks_of (λ x. x.row.asks.node || x.row.reads.m) true e))
+      (sym (ap (λ (x : Bool). not x || (asks_of o).space) (asks_of (λ x. x.row.asks.node || x.row.reads.m) true e))
       ∙ known_passes asks_together U.call all_ask U.known)
 
   in_one_place : d.row.asks.universe ≡ true → d.row.asks.node ≡ false
   in_one_place e =
-      of_asks (λ x. x.row.asks.node) false (ap (λ (x : ℕ). (asks_of_lem x).node) (eqb-true o 57 (asks_of (λ x. x.row.asks.universe) true e)))
+      of_asks (λ x. x.row.asks.node) false (ap (λ (x : ℕ). (asks_of x).node) (eqb-true o 57 (asks_of (λ x. x.row.asks.universe) true e)))
 
 module _ (b : List ℕ) (d : Decoded) where
   abbrev ts : Tuples

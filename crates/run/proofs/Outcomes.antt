@@ -13,7 +13,7 @@ use Rattle.layouts.specs.Buffer.{capacity_of, tuples_of, is_store}
 use Rattle.model.specs.CallLists.{exchange_of, requests}
 use Rattle.model.proofs.Bools.{and_both, and_left, and_right, clash, failed, not_yes, not_no}
 use Rattle.run.specs.Words.{words_in_answer, call_count, calls_from, calls_in}
-use Rattle.run.specs.Runs.{call_made, calls_made, rooms_of, has_room_lem, LeftByRun, Ran}
+use Rattle.run.specs.Runs.{call_made, calls_made, rooms_of, has_room, LeftByRun, Ran}
 use Rattle.run.proofs.WordLaws.{calls_length}
 
 -- the calls that are made are those that were asked
@@ -38,13 +38,13 @@ lists_wide ws l f ef nf = leb-true (rooms_of (calls_from ws (call_count ws) 0)) 
 module _ (ws a l : List ℕ) where
   -- room for the answers and the lists, as the code tests it
   has_room_lem : words_in_answer * call_count ws ≤ length a → leb (rooms_of (calls_from ws (call_count ws) 0)) (length l) ≡ true → has_room (calls_in ws) a l ≡ true
-  unfolding has_room_lem calls_in
+  unfolding has_room calls_in
   has_room_lem wide fit =
       and_both (leb (words_in_answer * length (calls_from ws (call_count ws) 0)) (length a)) (leb (rooms_of (calls_from ws (call_count ws) 0)) (length l))
       (le-leb (words_in_answer * length (calls_from ws (call_count ws) 0)) (length a) (omega (arith, calls_length ws (call_count ws) 0))) fit
 
   has_room_answers : has_room (calls_in ws) a l ≡ true → words_in_answer * call_count ws ≤ length a
-  unfolding has_room_lem calls_in
+  unfolding has_room calls_in
   has_room_answers e =
       let h : words_in_answer * length (calls_from ws (call_count ws) 0) ≤ length a
       = leb-true (words_in_answer * length (calls_from ws (call_count ws) 0)) (length a)
@@ -52,7 +52,7 @@ module _ (ws a l : List ℕ) where
       omega (arith, h, calls_length ws (call_count ws) 0)
 
   has_room_lists : has_room (calls_in ws) a l ≡ true → leb (rooms_of (calls_from ws (call_count ws) 0)) (length l) ≡ true
-  unfolding has_room_lem calls_in
+  unfolding has_room calls_in
   has_room_lists e = and_right (leb (words_in_answer * length (calls_from ws (call_count ws) 0)) (length a)) (leb (rooms_of (calls_from ws (call_count ws) 0)) (length l)) e
 
 module _ (b ws a l : List ℕ) where
@@ -62,7 +62,7 @@ module _ (b ws a l : List ℕ) where
       let none : is_store b ≡ false = sym e ∙ not_yes s n in
       record {
         no_store = λ f. record { result = refl; same_store = refl; same_answers = refl; same_lists = refl };
-        no_room_lem = λ f g. absurd (clash f none);
+        no_room = λ f g. absurd (clash f none);
         run = λ f g. absurd (clash f none);
       }
 
@@ -71,7 +71,7 @@ module _ (b ws a l : List ℕ) where
   no_room_lem e n =
       record {
         no_store = λ f. absurd (clash e f);
-        no_room_lem = λ f g. record { result = refl; same_store = refl; same_answers = refl; same_lists = refl };
+        no_room = λ f g. record { result = refl; same_store = refl; same_answers = refl; same_lists = refl };
         run = λ f g. absurd (clash g n);
       }
 
@@ -94,7 +94,7 @@ module _ (b ws a l : List ℕ) where
       let room : has_room (calls_in ws) a l ≡ true = has_room_lem ws a l wide (sym ef ∙ not_no f nf) in
       record {
         no_store = λ g. absurd (clash store g);
-        no_room_lem = λ g h. absurd (clash room h);
+        no_room = λ g h. absurd (clash room h);
         run = λ g h. record {
           result = refl;
           asked = requests_made (capacity_of b) (tuples_of b) (calls_from ws (call_count ws) 0) l (lists_wide ws l f ef nf);

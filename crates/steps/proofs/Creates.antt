@@ -13,7 +13,7 @@ use Rattle.model.specs.declared.Direction.TheVariants.{Outpointing, Inpointing, 
 use Rattle.model.specs.declared.Key.{Key}
 use Rattle.model.specs.declared.Object.{Object}
 use Rattle.model.specs.Ordered.{Ascending, holds}
-use Rattle.model.specs.Keys.{key_of, compare_keys, same_key_lem, edge_key}
+use Rattle.model.specs.Keys.{key_of, compare_keys, same_key, edge_key}
 use Rattle.model.specs.Tuples.{Tuples, present, add, add_all, missing}
 use Rattle.layouts.specs.Buffer.{capacity_of, tuples_of}
 use Rattle.model.specs.Steps.{object_keys, created}
@@ -47,7 +47,7 @@ both_same k j ts e = go (present k ts) refl
     go true p = ap (λ (x : Bool). length (cond x [] (j ∷ []))) (sym (ap (λ (i : Key). present i ts) e ∙ p))
     go false p =
         ap (λ (x : Bool). length (k ∷ cond x [] (j ∷ [])))
-        (sym (present_add j k ts ∙ or_left (same_key_lem j k) (present j ts) (ap (λ (i : Key). same_key_lem i k) e ∙ own_key k)))
+        (sym (present_add j k ts ∙ or_left (same_key j k) (present j ts) (ap (λ (i : Key). same_key i k) e ∙ own_key k)))
 
 one_more : (n : ℕ) → 1 + n ≡ suc n
 one_more n = omega arith
@@ -55,7 +55,7 @@ one_more n = omega arith
 none_more : (n : ℕ) → 0 + n ≡ n
 none_more n = omega arith
 
-both_apart : (k j : Key) (ts : Tuples) → same_key_lem j k ≡ false
+both_apart : (k j : Key) (ts : Tuples) → same_key j k ≡ false
     → length (missing (k ∷ []) ts) + length (missing (j ∷ []) ts) ≡ length (missing (k ∷ j ∷ []) ts)
 unfolding missing
 both_apart k j ts e = go (present k ts)
@@ -97,8 +97,8 @@ pub missing_two : (o : Object) (s : ℕ) (f : Fields) (k j : Key) (ts : Tuples) 
     → j ≡ edge_key s f.m f.g f.n → y ≡ length (missing (j ∷ []) ts) → x + y ≡ length (missing (object_keys o s f) ts)
 missing_two o s f k j ts a x y K X A e apart same Y =
     let two = not_no a e in
-    let other : same_key_lem j k ≡ false =
-    failed (same_key_lem j k) (λ t. apart (sym (ap (λ (i : Key). i.n) (sym same ∙ same_key_lem j k t ∙ K ∙ two_keys o s f (sym A ∙ two))))) in
+    let other : same_key j k ≡ false =
+    failed (same_key j k) (λ t. apart (sym (ap (λ (i : Key). i.n) (sym same ∙ same_key_lem j k t ∙ K ∙ two_keys o s f (sym A ∙ two))))) in
     ap₂ ◌+◌ X Y ∙ both_apart k j ts other ∙ ap (λ (ks : List Key). length (missing ks ts)) (keys_two o s f k j a K A two same)
 
 -- for one key at most one, so that two counts add up without wrapping
@@ -136,21 +136,21 @@ all_present : (ks : List Key) (ts : Tuples) → ((j : Key) → among j ks ≡ tr
 unfolding missing holds
 all_present [] ts h = refl
 all_present (k ∷ ks) ts h =
-    ap (λ (b : Bool). cond b (missing ks ts) (k ∷ missing ks (add k ts))) (h k (or_left (same_key_lem k k) (among k ks) (own_key k)))
-    ∙ all_present ks ts (λ j e. h j (or_right (same_key_lem j k) (among j ks) e))
+    ap (λ (b : Bool). cond b (missing ks ts) (k ∷ missing ks (add k ts))) (h k (or_left (same_key k k) (among k ks) (own_key k)))
+    ∙ all_present ks ts (λ j e. h j (or_right (same_key j k) (among j ks) e))
 
 -- what is missing depends on these keys alone
 same_present : (ks : List Key) (ts us : Tuples) → ((j : Key) → among j ks ≡ true → present j ts ≡ present j us) → missing ks ts ≡ missing ks us
 unfolding missing holds
 same_present [] ts us h = refl
 same_present (k ∷ ks) ts us h =
-    ap (λ (b : Bool). cond b (missing ks ts) (k ∷ missing ks (add k ts))) (h k (or_left (same_key_lem k k) (among k ks) (own_key k)))
+    ap (λ (b : Bool). cond b (missing ks ts) (k ∷ missing ks (add k ts))) (h k (or_left (same_key k k) (among k ks) (own_key k)))
     ∙ ap₂ (λ (xs ys : List Key). cond (present k us) xs (k ∷ ys)) (same_present ks ts us rest)
     (same_present ks (add k ts) (add k us)
-    (λ j e. present_add j k ts ∙ ap (λ (b : Bool). same_key_lem j k || b) (rest j e) ∙ sym (present_add j k us)))
+    (λ j e. present_add j k ts ∙ ap (λ (b : Bool). same_key j k || b) (rest j e) ∙ sym (present_add j k us)))
   where
     rest : (j : Key) → among j ks ≡ true → present j ts ≡ present j us
-    rest j e = h j (or_right (same_key_lem j k) (among j ks) e)
+    rest j e = h j (or_right (same_key j k) (among j ks) e)
 
 -- the keys of an object in space s are in space s
 main_space : (o : Object) (s : ℕ) (f : Fields) → (main_key o s f).s ≡ s
@@ -165,14 +165,14 @@ keys_space : (o : Object) (s : ℕ) (f : Fields) (j : Key) → among j (object_k
 unfolding holds
 keys_space o s f j e =
     ⊎_elim (λ t. ap (λ (i : Key). i.s) (same_key_lem j (main_key o s f) t) ∙ main_space o s f) (go (is_adjacent o))
-    (or_cases (same_key_lem j (main_key o s f)) (among j (cond (is_adjacent o) (second ∷ []) [])) (ap (among j) (sym (object_keys_lem o s f)) ∙ e))
+    (or_cases (same_key j (main_key o s f)) (among j (cond (is_adjacent o) (second ∷ []) [])) (ap (among j) (sym (object_keys_lem o s f)) ∙ e))
   where
     second : Key
     second = edge_key s f.m f.g f.n
 
     go : (a : Bool) → among j (cond a (second ∷ []) []) ≡ true → j.s ≡ s
     go true t =
-        ⊎_elim (λ u. ap (λ (i : Key). i.s) (same_key_lem j second u)) (λ u. absurd (clash u refl)) (or_cases (same_key_lem j second) false t)
+        ⊎_elim (λ u. ap (λ (i : Key). i.s) (same_key_lem j second u)) (λ u. absurd (clash u refl)) (or_cases (same_key j second) false t)
     go false t = absurd (clash t refl)
 
 -- what was added in a numbered space is not in 0

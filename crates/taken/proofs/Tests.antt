@@ -16,7 +16,7 @@ use Rattle.taken.specs.declared.NodeOf.{NodeOf}
 use Rattle.taken.specs.declared.Selection.{Selection}
 use Rattle.taken.specs.declared.Selection.TheVariants.{Edges, Node, Space}
 use Rattle.taken.specs.Selections.{passes, taken_by}
-use Rattle.model.specs.Pairs.{pair, only_if, out_pair, in_pair_lem, pairs_at, any_pair}
+use Rattle.model.specs.Pairs.{pair, only_if, out_pair, in_pair, pairs_at, any_pair}
 
 -- ---- the pair that a key gives
 
@@ -32,8 +32,8 @@ module _ (p : Pair → Bool) (n : ℕ) (k : Key) where
       any_only_if p (is_edge k && eqb k.n n) (pair k.g k.m)
       ∙ ap (λ (t : Bool). (not t && eqb k.n n) && p (pair k.g k.m)) (eq-eqb k.g 0 e)
 
-  no_edge_in : k.g ≡ 0 → any_pair p (in_pair_lem n k) ≡ false
-  unfolding in_pair_lem
+  no_edge_in : k.g ≡ 0 → any_pair p (in_pair n k) ≡ false
+  unfolding in_pair
   no_edge_in e =
       any_only_if p (is_edge k && eqb k.m n) (pair k.g k.n)
       ∙ ap (λ (t : Bool). (not t && eqb k.m n) && p (pair k.g k.n)) (eq-eqb k.g 0 e)
@@ -41,7 +41,7 @@ module _ (p : Pair → Bool) (n : ℕ) (k : Key) where
   pub out_no_edge : k.g ≡ 0 → false ≡ any_pair p (out_pair n k)
   out_no_edge e = sym (no_edge_out e)
 
-  pub in_no_edge : k.g ≡ 0 → false ≡ any_pair p (in_pair_lem n k)
+  pub in_no_edge : k.g ≡ 0 → false ≡ any_pair p (in_pair n k)
   in_no_edge e = sym (no_edge_in e)
 
   pub out_other : (k.g ≡ 0 → ⊥) → (k.n ≡ n → ⊥) → false ≡ any_pair p (out_pair n k)
@@ -50,8 +50,8 @@ module _ (p : Pair → Bool) (n : ℕ) (k : Key) where
       sym (any_only_if p (is_edge k && eqb k.n n) (pair k.g k.m)
       ∙ ap₂ (λ (t u : Bool). (not t && u) && p (pair k.g k.m)) (ne_eqb k.g 0 g) (ne_eqb k.n n d))
 
-  pub in_other : (k.g ≡ 0 → ⊥) → (k.m ≡ n → ⊥) → false ≡ any_pair p (in_pair_lem n k)
-  unfolding in_pair_lem
+  pub in_other : (k.g ≡ 0 → ⊥) → (k.m ≡ n → ⊥) → false ≡ any_pair p (in_pair n k)
+  unfolding in_pair
   in_other g d =
       sym (any_only_if p (is_edge k && eqb k.m n) (pair k.g k.n)
       ∙ ap₂ (λ (t u : Bool). (not t && u) && p (pair k.g k.n)) (ne_eqb k.g 0 g) (ne_eqb k.m n d))
@@ -63,8 +63,8 @@ module _ (p : Pair → Bool) (n : ℕ) (k : Key) where
       ∙ sym (any_only_if p (is_edge k && eqb k.n n) (pair k.g k.m)
       ∙ ap₂ (λ (t u : Bool). (not t && u) && p (pair k.g k.m)) (ne_eqb k.g 0 g) (eq-eqb k.n n e))
 
-  pub in_pair_lem : (t : Bool) → (k.g ≡ 0 → ⊥) → k.m ≡ n → t ≡ p (pair k.g k.n) → t ≡ any_pair p (in_pair_lem n k)
-  unfolding in_pair_lem
+  pub in_pair_lem : (t : Bool) → (k.g ≡ 0 → ⊥) → k.m ≡ n → t ≡ p (pair k.g k.n) → t ≡ any_pair p (in_pair n k)
+  unfolding in_pair
   in_pair_lem t g e r =
       r
       ∙ sym (any_only_if p (is_edge k && eqb k.m n) (pair k.g k.n)
@@ -81,14 +81,14 @@ module _ (p : Pair → Bool) (n : ℕ) (k : Key) where
     unfolding pairs_at
     at_out e t r = r ∙ ap (λ (x : Direction). any_pair p (pairs_at x n k)) (sym e)
 
-    pub at_in : d ≡ Inpointing → (t : Bool) → t ≡ any_pair p (in_pair_lem n k) → t ≡ any_pair p (pairs_at d n k)
+    pub at_in : d ≡ Inpointing → (t : Bool) → t ≡ any_pair p (in_pair n k) → t ≡ any_pair p (pairs_at d n k)
     unfolding pairs_at
     at_in e t r = r ∙ ap (λ (x : Direction). any_pair p (pairs_at x n k)) (sym e)
 
-    pub at_both : d ≡ Adjacent → (t u v : Bool) → t ≡ any_pair p (out_pair n k) → u ≡ any_pair p (in_pair_lem n k) → v ≡ (t || u) → v ≡ any_pair p (pairs_at d n k)
+    pub at_both : d ≡ Adjacent → (t u v : Bool) → t ≡ any_pair p (out_pair n k) → u ≡ any_pair p (in_pair n k) → v ≡ (t || u) → v ≡ any_pair p (pairs_at d n k)
     unfolding pairs_at
     at_both e t u v rt ru rv =
-        rv ∙ ap₂ ◌||◌ rt ru ∙ sym (any_append (out_pair n k) (in_pair_lem n k)) ∙ ap (λ (x : Direction). any_pair p (pairs_at x n k)) (sym e)
+        rv ∙ ap₂ ◌||◌ rt ru ∙ sym (any_append (out_pair n k) (in_pair n k)) ∙ ap (λ (x : Direction). any_pair p (pairs_at x n k)) (sym e)
 
 -- ---- the cases of a selection
 

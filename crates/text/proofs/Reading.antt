@@ -10,7 +10,7 @@ use lib.Dec.{eqb, leb}
 use lib.ListN.{length, get_or, take, drop, drop_of_length-le, length-drop}
 use lib.Seq.{drop-cons}
 use borrow.Author.Tests.{eqb-true, eq-eqb, ne_eqb, le-leb, lt-leb, leb-true}
-use Rattle.text.specs.Bytes.{Text, before, same_text_lem}
+use Rattle.text.specs.Bytes.{Text, before, same_text}
 use Rattle.text.specs.Numerals.{digit_zero, is_digit, plain_digits, number_after, read_number}
 
 -- the rest of a text from a place in it on
@@ -65,30 +65,30 @@ ends_within_lem end t from stop h e = omega (arith, before_within end t from h)
 
 -- texts that are the same
 
-pub same_text_lem : (x y : Text) → same_text_lem x y ≡ true → x ≡ y
-unfolding same_text_lem
+pub same_text_lem : (x y : Text) → same_text x y ≡ true → x ≡ y
+unfolding same_text
 same_text_lem [] [] e = refl
 same_text_lem [] (b ∷ y) e = absurd (false≢true e)
 same_text (a ∷ x) [] e = absurd (false≢true e)
 same_text (a ∷ x) (b ∷ y) e = go (eqb a b) refl e (same_text_lem x y)
   where
-    go : (t : Bool) → eqb a b ≡ t → (t && same_text_lem x y) ≡ true → (same_text_lem x y ≡ true → x ≡ y) → ◌≡◌ {A = Text} (a ∷ x) (b ∷ y)
+    go : (t : Bool) → eqb a b ≡ t → (t && same_text x y) ≡ true → (same_text x y ≡ true → x ≡ y) → ◌≡◌ {A = Text} (a ∷ x) (b ∷ y)
     go true f g later =
         let p = eqb-true a b f in
         let q = later g in
         cc
     go false f g later = absurd (false≢true g)
 
-other_length : (x y : Text) → (length x ≡ length y → ⊥) → same_text_lem x y ≡ false
-other_length x y n = go (same_text_lem x y) refl
+other_length : (x y : Text) → (length x ≡ length y → ⊥) → same_text x y ≡ false
+other_length x y n = go (same_text x y) refl
   where
-    go : (t : Bool) → same_text_lem x y ≡ t → t ≡ false
+    go : (t : Bool) → same_text x y ≡ t → t ≡ false
     go true e = absurd (n (ap length (same_text_lem x y e)))
     go false e = refl
 
 -- one byte further, in both
 same_on : (x y : Text) (i : ℕ) → i < length x → i < length y → get_or x i 0 ≡ get_or y i 0 → same_text (drop i x) (drop i y) ≡ same_text (drop (i + 1) x) (drop (i + 1) y)
-unfolding same_text_lem
+unfolding same_text
 same_on x y i h l e =
     let p = rest x i h in
     let q = rest y i l in
@@ -96,7 +96,7 @@ same_on x y i h l e =
     rw (p, q, r)
 
 same_off : (x y : Text) (i : ℕ) → i < length x → i < length y → (get_or x i 0 ≡ get_or y i 0 → ⊥) → same_text (drop i x) (drop i y) ≡ false
-unfolding same_text_lem
+unfolding same_text
 same_off x y i h l n =
     let p = rest x i h in
     let q = rest y i l in
@@ -104,25 +104,25 @@ same_off x y i h l n =
     rw (p, q, r)
 
 same_at_end : (x y : Text) (i : ℕ) → length x ≤ i → length x ≡ length y → same_text (drop i x) (drop i y) ≡ true
-unfolding same_text_lem
+unfolding same_text
 same_at_end x y i h e =
     let p = drop_of_length-le x h in
     let l : length y ≤ i = omega arith in
     let q = drop_of_length-le y l in
     rw (p, q)
 
-pub lengths_differ : (x y : Text) → (length x ≡ length y → ⊥) → false ≡ same_text_lem x y
+pub lengths_differ : (x y : Text) → (length x ≡ length y → ⊥) → false ≡ same_text x y
 lengths_differ x y n = sym (other_length x y n)
 
 -- texts of one length, compared as far as place i
-module _ (x y : Text) (i : ℕ) (S : same_text_lem x y ≡ same_text (drop i x) (drop i y)) (l : length x ≡ length y) where
-  pub byte_same : i < length x → get_or x i 0 ≡ get_or y i 0 → same_text_lem x y ≡ same_text (drop (i + 1) x) (drop (i + 1) y)
+module _ (x y : Text) (i : ℕ) (S : same_text x y ≡ same_text (drop i x) (drop i y)) (l : length x ≡ length y) where
+  pub byte_same : i < length x → get_or x i 0 ≡ get_or y i 0 → same_text x y ≡ same_text (drop (i + 1) x) (drop (i + 1) y)
   byte_same h e = S ∙ same_on x y i h (omega arith) e
 
-  pub byte_differs : i < length x → (get_or x i 0 ≡ get_or y i 0 → ⊥) → false ≡ same_text_lem x y
+  pub byte_differs : i < length x → (get_or x i 0 ≡ get_or y i 0 → ⊥) → false ≡ same_text x y
   byte_differs h n = sym (S ∙ same_off x y i h (omega arith) n)
 
-  pub all_same : length x ≤ i → true ≡ same_text_lem x y
+  pub all_same : length x ≤ i → true ≡ same_text x y
   all_same h = sym (S ∙ same_at_end x y i h l)
 
 -- the numbers of digits

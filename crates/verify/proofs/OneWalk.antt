@@ -11,7 +11,7 @@ use lib.Seq.{get_or-set_same, get_or-set_other}
 use borrow.Author.Tests.{eqb-true, eqb-false, eq-eqb, ne_eqb, leb-true, leb-false}
 use Rattle.model.specs.declared.Key.{Key}
 use Rattle.model.specs.Ordered.{is_less}
-use Rattle.model.specs.Keys.{Tuple, same_key_lem, space_key, node_key, compare_keys}
+use Rattle.model.specs.Keys.{Tuple, same_key, space_key, node_key, compare_keys}
 use Rattle.model.specs.Tuples.{Tuples, present}
 use Rattle.layouts.specs.Buffer.{word, capacity_of, next, used_chain, key_at, tuple_at, tuples_of}
 use Rattle.model.specs.Rules.{ascends_from_universe, every_key, small_key, no_edge_without_node, edge_has_end, node_supported, edge_supported}
@@ -19,7 +19,7 @@ use Rattle.model.specs.Numbers.{every_up_to}
 use Rattle.model.proofs.Bools.{and_left, and_right, and_both, not_yes, not_no}
 use Rattle.model.proofs.Tuples.{same_key_lem}
 use Rattle.presence.specs.Presence.{Walkable, ends_within, UsedEnds, Held, Marks, MarksFit, with_named, tuples_from, shaped_key, good_key, supported, settled, end_there, nothing_kept, found_with, list_with, every_end, KeptRecords, kept_count}
-use Rattle.verify.specs.Checks.{walked_on_lem, walked_from, stepped, FreeWalk, UsedFound, keys_right, may_meet, key_follows, stopped_walk, starts_right, used_walk}
+use Rattle.verify.specs.Checks.{walked_on, walked_from, stepped, FreeWalk, UsedFound, keys_right, may_meet, key_follows, stopped_walk, starts_right, used_walk}
 use Rattle.verify.specs.declared.chains.Walk.{Walk}
 use Rattle.presence.specs.declared.ends.Found.{Found}
 use Rattle.layouts.proofs.Sizes.{some_record, few_records}
@@ -59,12 +59,12 @@ module _ (b : List ℕ) where
       (ap good_key (same_key (key_at b h) (space_key 0) t) ∙ (unfold good_key small_key shaped_key no_edge_without_node edge_has_end in refl))
 
 module _ (b : List ℕ) (U : UsedEnds b) where
-  pub keyed_start : (h n : ℕ) → h ≡ word b 1 → h ≢ 0 → n ≡ next b h → (k : Key) → k ≡ key_at b h → same_key_lem k (space_key 0) ≡ true
+  pub keyed_start : (h n : ℕ) → h ≡ word b 1 → h ≢ 0 → n ≡ next b h → (k : Key) → k ≡ key_at b h → same_key k (space_key 0) ≡ true
       → (ms : List ℕ) → Marks b ms → Keyed b k n ms
   keyed_start h n e h≢ f k g t ms M =
       record {
         ascends = ascends_start b U h n e h≢ f k g t;
-        good = first_good b h n U e h≢ f (ap (λ (j : Key). same_key_lem j (space_key 0)) (sym g) ∙ t);
+        good = first_good b h n U e h≢ f (ap (λ (j : Key). same_key j (space_key 0)) (sym g) ∙ t);
         marks = M;
       }
 
@@ -136,7 +136,7 @@ unfolding every_key tuple_at
 every_tuple p b i ts = refl
 
 module _ (b : List ℕ) (U : UsedEnds b) where
-  pub open_start : (h n : ℕ) → h ≡ word b 1 → h ≢ 0 → n ≡ next b h → (k : Key) → k ≡ key_at b h → same_key_lem k (space_key 0) ≡ true → (list : List ℕ) → Open b list k n 0
+  pub open_start : (h n : ℕ) → h ≡ word b 1 → h ≢ 0 → n ≡ next b h → (k : Key) → k ≡ key_at b h → same_key k (space_key 0) ≡ true → (list : List ℕ) → Open b list k n 0
   unfolding every_end every_up_to supported node_supported edge_supported
   open_start h n e h≢ f k g t list =
       let z : k ≡ space_key 0 = same_key_lem k (space_key 0) t in
@@ -190,7 +190,7 @@ module _ (b : List ℕ) (U : UsedEnds b) where
 -- what is left of the walk
 pub record Using (b ms list : List ℕ) (f : Found) (left last at : ℕ) (free : Walk) : Type 0 where
   pub few : left ≤ capacity_of b
-  pub same : walked_on_lem b (record { at = at; left = left; last = last }) ≡ walked_from b (word b 1)
+  pub same : walked_on b (record { at = at; left = left; last = last }) ≡ walked_from b (word b 1)
   pub met : last ≢ 0
   pub within : last ≤ capacity_of b
   pub fit : MarksFit b ms
@@ -205,7 +205,7 @@ module _ (b : List ℕ) where
   unfolding starts_right
   starts_none h e z = simp (eq-eqb (word b 1) 0 (sym e ∙ z))
 
-  pub starts_some : (h : ℕ) → h ≡ word b 1 → h ≢ 0 → (k u : Key) → k ≡ key_at b h → u ≡ node_key 0 0 → (r : Bool) → r ≡ same_key_lem k u → r ≡ starts_right b
+  pub starts_some : (h : ℕ) → h ≡ word b 1 → h ≢ 0 → (k u : Key) → k ≡ key_at b h → u ≡ node_key 0 0 → (r : Bool) → r ≡ same_key k u → r ≡ starts_right b
   unfolding starts_right
   starts_some h e h≢ k u f g r t =
       let n : word b 1 ≢ 0 = λ z. h≢ (e ∙ z) in
@@ -256,7 +256,7 @@ module _ (b : List ℕ) (w : Walkable b) where
         few = omega arith;
         same =
             walked_on_lem b C h 0 n h≢ (λ z. omega (arith, some_record b w.least w.most)) (omega arith) (omega arith) f
-            ∙ ap₂ (λ (i c : ℕ). walked_on_lem b (record { at = i; left = c; last = 0 })) e d;
+            ∙ ap₂ (λ (i c : ℕ). walked_on b (record { at = i; left = c; last = 0 })) e d;
         met = h≢;
         within = omega arith;
         fit = marks_fit b ms M;
@@ -302,7 +302,7 @@ module _ (b : List ℕ) (w : Walkable b) where
         }
 
     -- the chain does not end with records of at most C
-    not_ended : stopped_walk ≡ walked_on_lem b (record { at = at; left = left; last = last }) → stopped_walk ≡ used_walk b
+    not_ended : stopped_walk ≡ walked_on b (record { at = at; left = left; last = last }) → stopped_walk ≡ used_walk b
     unfolding used_chain
     not_ended e = given_up (λ u. absurd (false≢true (found_ends b (word b 1) _ (e ∙ W.same) ∙ u)))
 

@@ -17,7 +17,7 @@ use Rattle.model.proofs.Numbers.{every_up_to_lem, up_to_every}
 use Rattle.verify.specs.declared.chains.Walk.{Walk}
 use Rattle.verify.specs.declared.chains.Walked.{Walked}
 use Rattle.presence.specs.Presence.{Walkable, all_within, ends_within}
-use Rattle.verify.specs.Checks.{nexts_within, met_once, chains_right, links_right, steps, last_met, stopped_walk, walked_on_lem, walked_from, stepped, in_run, along_run, FreeWalk}
+use Rattle.verify.specs.Checks.{nexts_within, met_once, chains_right, links_right, steps, last_met, stopped_walk, walked_on, walked_from, stepped, in_run, along_run, FreeWalk}
 use Rattle.layouts.proofs.Sizes.{some_record}
 use Rattle.presence.proofs.ChainEnds.{Met, met_by_walk}
 use Rattle.verify.proofs.Once.{last_or, once_test}
@@ -42,15 +42,15 @@ found t count last = cond t (record { ended = true; count = count; last = last }
 
 module _ (b : List ℕ) where
   pub walked_on_lem : (left at last n : ℕ) → at ≢ 0 → left ≢ 0 → left ≤ capacity_of b → at ≤ capacity_of b → n ≡ next b at
-      → walked_on_lem b (record { at = n; left = left - 1; last = at }) ≡ walked_on_lem b (record { at = at; left = left; last = last })
-  unfolding walked_on_lem walk steps last_met
+      → walked_on b (record { at = n; left = left - 1; last = at }) ≡ walked_on b (record { at = at; left = left; last = last })
+  unfolding walked_on walk steps last_met
   walked_on_lem zero at last n at≢ left≢ few high e = absurd (left≢ refl)
   walked_on (suc left) zero last n at≢ left≢ few high e = absurd (at≢ refl)
   walked_on (suc left) (suc i) last n at≢ left≢ few high e =
       let z : suc left - 1 ≡ left = omega arith in
       let S : ℕ = steps (next b) left (next b (suc i)) in
       let q : (capacity_of b - left) + S ≡ (capacity_of b - suc left) + suc S = omega arith in
-      ap₂ (λ (m k : ℕ). walked_on_lem b (record { at = m; left = k; last = suc i })) e z
+      ap₂ (λ (m k : ℕ). walked_on b (record { at = m; left = k; last = suc i })) e z
       ∙ ap₂ (λ (t : Bool) (c : ℕ). found t c (last_met (next b) left (next b (suc i)) (suc i)))
       (sym (ends_more (capacity_of b) (suc i) (walk (next b) left (next b (suc i))) (le-leb (suc i) (capacity_of b) high))) q
 
@@ -103,19 +103,19 @@ module _ (b : List ℕ) where
   along_end (suc left) at last z = absurd (omega (arith, z))
 
   pub walked_end : (left at last : ℕ) → at ≡ 0
-      → record { ended = true; count = capacity_of b - left; last = last } ≡ walked_on_lem b (record { at = at; left = left; last = last })
-  walked_end left at last z = go left ∙ ap (λ (i : ℕ). walked_on_lem b (record { at = i; left = left; last = last })) (sym z)
+      → record { ended = true; count = capacity_of b - left; last = last } ≡ walked_on b (record { at = at; left = left; last = last })
+  walked_end left at last z = go left ∙ ap (λ (i : ℕ). walked_on b (record { at = i; left = left; last = last })) (sym z)
     where
       none_more : (k : ℕ) → k ≡ k + 0
       none_more k = omega arith
 
-      go : (k : ℕ) → record { ended = true; count = capacity_of b - k; last = last } ≡ walked_on_lem b (record { at = 0; left = k; last = last })
-      go zero = unfold walked_on_lem walk steps last_met ends_within all_within in ap (λ (c : ℕ). found true c last) (none_more (capacity_of b - 0))
-      go (suc k) = unfold walked_on_lem walk steps last_met ends_within all_within in ap (λ (c : ℕ). found true c last) (none_more (capacity_of b - suc k))
+      go : (k : ℕ) → record { ended = true; count = capacity_of b - k; last = last } ≡ walked_on b (record { at = 0; left = k; last = last })
+      go zero = unfold walked_on walk steps last_met ends_within all_within in ap (λ (c : ℕ). found true c last) (none_more (capacity_of b - 0))
+      go (suc k) = unfold walked_on walk steps last_met ends_within all_within in ap (λ (c : ℕ). found true c last) (none_more (capacity_of b - suc k))
 
   -- a walk along records that follow one another finds what the walk itself finds
   pub along_same : (left at last : ℕ) → left ≤ capacity_of b
-      → (walked_on_lem b (along_run b left at last) ≡ walked_on_lem b (record { at = at; left = left; last = last })) × ((along_run b left at last).left ≤ left)
+      → (walked_on b (along_run b left at last) ≡ walked_on b (record { at = at; left = left; last = last })) × ((along_run b left at last).left ≤ left)
   unfolding along_run
   along_same zero at last few = (refl, omega arith)
   along_same (suc left) at last few = go (in_run b at) refl (along_same left (at + 1) at (omega (arith, few)))
@@ -127,35 +127,35 @@ module _ (b : List ℕ) where
       chosen t = cond t (along_run b left (at + 1) at) here
 
       go : (t : Bool) → in_run b at ≡ t
-          → (walked_on_lem b (along_run b left (at + 1) at) ≡ walked_on_lem b (record { at = at + 1; left = left; last = at })) × ((along_run b left (at + 1) at).left ≤ left)
-          → (walked_on_lem b (chosen (in_run b at)) ≡ walked_on_lem b here) × ((chosen (in_run b at)).left ≤ suc left)
-      go false e rest = let w = ap chosen e in (ap (walked_on_lem b) w, omega (arith, ap (λ (x : Walk). x.left) w))
+          → (walked_on b (along_run b left (at + 1) at) ≡ walked_on b (record { at = at + 1; left = left; last = at })) × ((along_run b left (at + 1) at).left ≤ left)
+          → (walked_on b (chosen (in_run b at)) ≡ walked_on b here) × ((chosen (in_run b at)).left ≤ suc left)
+      go false e rest = let w = ap chosen e in (ap (walked_on b) w, omega (arith, ap (λ (x : Walk). x.left) w))
       go true e rest =
           let w = ap chosen e in
           let in_it = run_told at e in
           let z : suc left - 1 ≡ left = omega arith in (
-            ap (walked_on_lem b) w ∙ rest.0 ∙ ap (λ (k : ℕ). walked_on_lem b (record { at = at + 1; left = k; last = at })) (sym z)
+            ap (walked_on b) w ∙ rest.0 ∙ ap (λ (k : ℕ). walked_on b (record { at = at + 1; left = k; last = at })) (sym z)
                 ∙ walked_on (suc left) at last (at + 1) in_it.0 (λ e. absurd (omega (arith, e))) few in_it.1 in_it.2,
             omega (arith, ap (λ (x : Walk). x.left) w, rest.1),
           )
 
   -- one record on, and along those that follow one another
   pub walked_run : (left at last n : ℕ) (w : Walk) → at ≢ 0 → left ≢ 0 → left ≤ capacity_of b → at ≤ capacity_of b → n ≡ next b at
-      → w ≡ along_run b (left - 1) n at → (walked_on_lem b w ≡ walked_on_lem b (record { at = at; left = left; last = last })) × (w.left < left)
+      → w ≡ along_run b (left - 1) n at → (walked_on b w ≡ walked_on b (record { at = at; left = left; last = last })) × (w.left < left)
   walked_run left at last n w at≢ left≢ few high e same =
       let run = along_same (left - 1) n at (omega (arith, few)) in
       let shorter : w.left ≡ (along_run b (left - 1) n at).left = ap (λ (x : Walk). x.left) same in
-      (ap (walked_on_lem b) same ∙ run.0 ∙ walked_on_lem left at last n at≢ left≢ few high e, omega (arith, shorter, run.1, left≢))
+      (ap (walked_on b) same ∙ run.0 ∙ walked_on_lem left at last n at≢ left≢ few high e, omega (arith, shorter, run.1, left≢))
 
-  pub walked_long : (left at last : ℕ) → at ≢ 0 → left ≡ 0 → stopped_walk ≡ walked_on_lem b (record { at = at; left = left; last = last })
-  walked_long left at last at≢ z = go at at≢ ∙ ap (λ (k : ℕ). walked_on_lem b (record { at = at; left = k; last = last })) (sym z)
+  pub walked_long : (left at last : ℕ) → at ≢ 0 → left ≡ 0 → stopped_walk ≡ walked_on b (record { at = at; left = left; last = last })
+  walked_long left at last at≢ z = go at at≢ ∙ ap (λ (k : ℕ). walked_on b (record { at = at; left = k; last = last })) (sym z)
     where
-      go : (i : ℕ) → i ≢ 0 → stopped_walk ≡ walked_on_lem b (record { at = i; left = 0; last = last })
+      go : (i : ℕ) → i ≢ 0 → stopped_walk ≡ walked_on b (record { at = i; left = 0; last = last })
       go zero n = absurd (n refl)
-      go (suc i) n = unfold walked_on_lem walk ends_within in refl
+      go (suc i) n = unfold walked_on walk ends_within in refl
 
-  pub walked_far : (left at last : ℕ) → capacity_of b < at → stopped_walk ≡ walked_on_lem b (record { at = at; left = left; last = last })
-  unfolding walked_on_lem walk steps last_met
+  pub walked_far : (left at last : ℕ) → capacity_of b < at → stopped_walk ≡ walked_on b (record { at = at; left = left; last = last })
+  unfolding walked_on walk steps last_met
   walked_far left zero last h = absurd (omega arith)
   walked_far zero (suc i) last h = unfold ends_within in refl
   walked_far (suc left) (suc i) last h =
@@ -212,7 +212,7 @@ free_first b w C e f =
     (record {
       few = omega arith;
       enough = omega arith;
-      same = ap (λ (k : ℕ). walked_on_lem b (record { at = word b 2; left = k; last = 0 })) e;
+      same = ap (λ (k : ℕ). walked_on b (record { at = word b 2; left = k; last = 0 })) e;
     })
 
 -- ---- a walk that ends
@@ -282,7 +282,7 @@ link_within link C h (j ∷ js) c w i k = go (eqb i j) refl (link_within link C 
 -- what a walk from a head finds
 module _ (b : List ℕ) (head : ℕ) (u : Walked) (from : u ≡ walked_from b head) where
   pub found_ends : u.ended ≡ ends_within (capacity_of b) (walk (next b) (capacity_of b) head)
-  unfolding walked_from walked_on_lem
+  unfolding walked_from walked_on
   found_ends = ap (λ (x : Walked). x.ended) from ∙ go (ends_within (capacity_of b) (walk (next b) (capacity_of b) head)) _ _
     where
       go : (t : Bool) (c l : ℕ) → (found t c l).ended ≡ t
@@ -299,7 +299,7 @@ module _ (b : List ℕ) (head : ℕ) (u : Walked) (from : u ≡ walked_from b he
           count = (capacity_of b - capacity_of b) + steps (next b) (capacity_of b) head;
           last = last_met (next b) (capacity_of b) head 0;
         }
-    unfolding walked_from walked_on_lem
+    unfolding walked_from walked_on
     whole =
         from
         ∙ ap

@@ -7,7 +7,7 @@ use lib.Dec.{ltb, eqb, compare_is_eq}
 use borrow.Author.Tests.{lt-ltb, le-ltb}
 use Rattle.model.specs.declared.Key.{Key}
 use Rattle.model.specs.Ordered.{then_by, is_less}
-use Rattle.model.specs.Keys.{compare_keys, same_key_lem}
+use Rattle.model.specs.Keys.{compare_keys, same_key}
 use Rattle.model.proofs.Tuples.{same_key_lem}
 use Rattle.model.proofs.Order.{compare_eq, compare_lt, compare_gt, compare_refl}
 
@@ -51,7 +51,7 @@ module _ (a b : Key) where
       less_last a.m b.m
       ∙ ap is_less (sym (then_equal a.s b.s _ s ∙ (then_equal a.n b.n _ n ∙ then_equal a.g b.g _ g)))
 
-  pub same_s : a.n ≡ b.n → a.g ≡ b.g → a.m ≡ b.m → eqb a.s b.s ≡ same_key_lem a b
+  pub same_s : a.n ≡ b.n → a.g ≡ b.g → a.m ≡ b.m → eqb a.s b.s ≡ same_key a b
   unfolding compare_keys
   same_s n g m =
       ap compare_is_eq (sym (then_same (compare a.s b.s)))
@@ -64,9 +64,9 @@ module _ (a b : Key) where
       then_same Ordering.gt = refl
 
 -- keys that differ in a part are not the same
-pub differ : (a b : Key) (part : Key → ℕ) → (part a ≡ part b → ⊥) → false ≡ same_key_lem a b
-differ a b part h = go (same_key_lem a b) refl
+pub differ : (a b : Key) (part : Key → ℕ) → (part a ≡ part b → ⊥) → false ≡ same_key a b
+differ a b part h = go (same_key a b) refl
   where
-    go : (t : Bool) → same_key_lem a b ≡ t → false ≡ t
+    go : (t : Bool) → same_key a b ≡ t → false ≡ t
     go true e = absurd (h (ap part (same_key_lem a b e)))
     go false e = refl
