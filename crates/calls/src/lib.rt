@@ -1,3 +1,4 @@
+#![tactic(auto)]
 // The entry: one call of the operators 1 to 57 on a buffer.
 mod perform;
 

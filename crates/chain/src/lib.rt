@@ -1,3 +1,4 @@
+#![tactic(auto)]
 // The used and free chains of the buffer.
 ghost use Rattle.std.specs.Prelude.{◌≡◌, ◌+◌, ◌≤◌, ◌<◌};
 ghost use Rattle.model.specs.Tuples.{present, value_at};

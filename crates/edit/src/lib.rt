@@ -1,3 +1,4 @@
+#![tactic(auto)]
 // Tuples counted, added, set and removed.
 // A hint is a used record, or 0: the walk for a key starts behind it where its key is below.
 ghost use Rattle.std.specs.Prelude.{◌≡◌, false, length};

@@ -1,3 +1,4 @@
+#![tactic(auto)]
 // The entries that an S operator lists, counted and written.
 mod cursors;
 pub mod lists;

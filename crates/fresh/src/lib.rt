@@ -1,3 +1,4 @@
+#![tactic(auto)]
 // Preparing a buffer: a fresh store, which holds UNIVERSE alone.
 ghost use Rattle.std.specs.Prelude.{true, ◌≡◌, ◌+◌, ◌-◌, ◌*◌, ◌≤◌, length};
 ghost use Rattle.layouts.specs.Buffer.{head_words, record_words, fits_length, capacity_of, follower, Preparing};

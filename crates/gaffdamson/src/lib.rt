@@ -1,3 +1,4 @@
+#![tactic(auto)]
 // The C functions of the static library: words and slices in, words out. None requires anything; each leaves every refusal to the store.
 ghost use Rattle.std.specs.Prelude.{◌≡◌};
 ghost use Rattle.layouts.specs.Stored.{stored};

@@ -1,1 +1,2 @@
+#![tactic(auto)]
 // The layouts of the buffer: definitions in specs/, theorems about them in proofs/. There is no code here.

@@ -1,3 +1,4 @@
+#![tactic(auto)]
 // "Operator letters are compared as they stand, in capitals": the number of an operator's letters.
 ghost use Rattle.std.specs.Prelude.{true, ◌≡◌};
 ghost use Rattle.text.specs.Bytes.{A as letterA, B, C, D, I, O, S, U, «V», X, same_text};

@@ -108,11 +108,11 @@ take_printed false most x ws then h k = refl
 -- a printed number is neither U nor `-`
 not_u : (x : ℕ) → x ≤ most_value → same_text (printed_number x) (U ∷ []) ≡ false
 unfolding all_digits is_digit
-not_u x h = failed _ (λ e. true≢false (sym (digits_printed x h) ∙ ap all_digits (same_text (printed_number x) (U ∷ []) e)))
+not_u x h = failed _ (λ e. true≢false (sym (digits_printed x h) ∙ ap all_digits (same_text_lem (printed_number x) (U ∷ []) e)))
 
 not_hyphen : (x : ℕ) → x ≤ most_value → same_text (printed_number x) (hyphen ∷ []) ≡ false
 unfolding all_digits is_digit
-not_hyphen x h = failed _ (λ e. true≢false (sym (digits_printed x h) ∙ ap all_digits (same_text (printed_number x) (hyphen ∷ []) e)))
+not_hyphen x h = failed _ (λ e. true≢false (sym (digits_printed x h) ∙ ap all_digits (same_text_lem (printed_number x) (hyphen ∷ []) e)))
 
 universe_space : (optional : Bool) (ws : List Text) (then : Space → List Text → Reading) → take_space optional ((U ∷ []) ∷ ws) then ≡ then Universe ws
 unfolding take_space same_text

@@ -1,3 +1,4 @@
+#![tactic(auto)]
 // The lines of a script, read as calls.
 mod arguments;
 mod numbers;

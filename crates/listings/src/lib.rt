@@ -1,3 +1,4 @@
+#![tactic(auto)]
 // The query of each S operator, and its list.
 ghost use Rattle.std.specs.Prelude.{◌≡◌, length, ◌≤◌, leb};
 ghost use Rattle.layouts.specs.Buffer.{tuples_of};

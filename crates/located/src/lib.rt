@@ -1,3 +1,4 @@
+#![tactic(auto)]
 // What a call names, located once: where it is to be sought, and what of it is there.
 ghost use Rattle.std.specs.Prelude.{◌≡◌};
 ghost use Rattle.chain.specs.Links.{Linked, Hint};

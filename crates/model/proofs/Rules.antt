@@ -41,7 +41,7 @@ pub universe_first : (ts : Tuples) → Ascending key_of compare_keys ts → Has 
 unfolding holds
 universe_first [] h e = absurd (false≢true e)
 universe_first (t ∷ ts) h e =
-    ⊎_elim (λ f. ap some (sym (same_key (space_key 0) t.key f)))
+    ⊎_elim (λ f. ap some (sym (same_key_lem (space_key 0) t.key f)))
     (λ f. absurd (never_below_universe t.key (above_held key_of compare_keys keys t.key (space_key 0) ts h f)))
     (or_cases (same_key (space_key 0) t.key) (present (space_key 0) ts) e)
 

@@ -1,3 +1,4 @@
+#![tactic(auto)]
 // The types of the store that its callers see: names, the space of a call, a call, an answer, a pair of the answer list.
 // The definitions over them, in the order of document 01, are in specs/. There is no code here.
 

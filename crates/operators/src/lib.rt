@@ -1,3 +1,4 @@
+#![tactic(auto)]
 // A number's row and its operator, and the refusals that depend on the call alone.
 ghost use Rattle.std.specs.Prelude.{◌≡◌, not, ◌&&◌, ◌||◌, eqb, ◌-◌, ◌<◌, ◌≤◌};
 ghost use Rattle.model.specs.Operators.{within, operator_of, reads_of, asks_of, row_of};

@@ -1,3 +1,4 @@
+#![tactic(auto)]
 // One call whose answer list is a lent list of pairs: the pairs are written straight to their places, one after the other.
 ghost use Rattle.std.specs.Prelude.{true, [], ◌≡◌, ◌≤◌, ◌-◌, leb, length};
 ghost use Rattle.model.specs.OneCall.{OneCall};

@@ -176,7 +176,7 @@ first_universe : (b : List ℕ) (i : ℕ) (ts : Tuples) → ascends_from_univers
     → (key_at b i ≡ space_key 0) × Above key_of compare_keys (key_at b i) ts
 unfolding ascends_from_universe tuple_at
 first_universe b i ts e = (
-  same_key (key_at b i) (space_key 0) (and_left (same_key (key_at b i) (space_key 0)) _ e),
+  same_key_lem (key_at b i) (space_key 0) (and_left (same_key (key_at b i) (space_key 0)) _ e),
   test_above key_of compare_keys keys (key_at b i) ts (and_right (same_key (key_at b i) (space_key 0)) _ e),
 )
 

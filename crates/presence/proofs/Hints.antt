@@ -103,7 +103,7 @@ shown : (b : List ℕ) (i : ℕ) (k : Key) → Held b i → is_at b i k ≡ true
 unfolding is_at
 shown b i k H t =
     let i≢ : i ≢ 0 = eqb-false i 0 (not_yes (eqb i 0) (and_left (not (eqb i 0)) _ t)) in
-    ap (λ (j : Key). present j (tuples_of b)) (sym (same_key (key_at b i) k (and_right (not (eqb i 0)) _ t))) ∙ H.has i≢
+    ap (λ (j : Key). present j (tuples_of b)) (sym (same_key_lem (key_at b i) k (and_right (not (eqb i 0)) _ t))) ∙ H.has i≢
 
 -- what passes is a mark
 looked : (p : ℕ → Bool) (Q : Type 0) (left : ℕ) (ms : List ℕ) (at : ℕ) → ((j : ℕ) → p (get_or ms j 0) ≡ true → Q) → look_from p left ms at ≡ true → Q

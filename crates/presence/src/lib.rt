@@ -1,3 +1,4 @@
+#![tactic(auto)]
 // Is all there that the tuples of the used chain name.
 // The check of a store has each tuple looked at as it walks the chain (`ends::take`), and asks after the walk.
 mod edge_ends;

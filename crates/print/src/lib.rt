@@ -1,3 +1,4 @@
+#![tactic(auto)]
 // Answers as lines of text in lent bytes.
 ghost use Rattle.std.specs.Prelude.{[], ◌∷◌, ◌++◌, map, ◌≡◌, ◌≤◌, ◌<◌, length, take};
 ghost use Rattle.model.specs.OneCall.{unpack, observed};

@@ -1,3 +1,4 @@
+#![tactic(auto)]
 // A script from standard input, its answers to standard output.
 // No contract can say what is read or written: what a script prints is in the contracts of crate script.
 ghost use Rattle.script.specs.Runs.{RunReady, ScriptRun};

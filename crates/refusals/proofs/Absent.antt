@@ -73,22 +73,22 @@ module _ (d : Decoded) (U : Unstopped d) where
   of_asks f t e = ap f U.same ∙ e
 
   space_is_read : d.row.asks.space ≡ true → d.row.reads.s ≡ true
-  space_is_read e = of_asks (λ x. x.row.reads.s) true (and_left (reads_of o).s _ (asks_of (λ x. x.row.asks.space) true e))
+  space_is_read e = of_asks (λ x. x.row.reads.s) true (and_left (reads_of o).s _ (asks_of_lem (λ x. x.row.asks.space) true e))
 
   node_is_read : d.row.asks.node ≡ true → d.row.reads.n ≡ true
   node_is_read e =
       of_asks (λ x. x.row.reads.n) true
-      (sym (ap (λ (x : Bool). not x || (reads_of o).n) (asks_of (λ x. x.row.asks.node) true e)) ∙ known_passes reads_node U.call all_read U.known)
+      (sym (ap (λ (x : Bool). not x || (reads_of o).n) (asks_of_lem (λ x. x.row.asks.node) true e)) ∙ known_passes reads_node U.call all_read U.known)
 
   space_is_asked : (d.row.asks.node || d.row.reads.m) ≡ true → d.row.asks.space ≡ true
   space_is_asked e =
       of_asks (λ x. x.row.asks.space) true
-      (sym (ap (λ (x : Bool). not x || (asks_of o).space) (asks_of (λ x. x.row.asks.node || x.row.reads.m) true e))
+      (sym (ap (λ (x : Bool). not x || (asks_of o).space) (asks_of_lem (λ x. x.row.asks.node || x.row.reads.m) true e))
       ∙ known_passes asks_together U.call all_ask U.known)
 
   in_one_place : d.row.asks.universe ≡ true → d.row.asks.node ≡ false
   in_one_place e =
-      of_asks (λ x. x.row.asks.node) false (ap (λ (x : ℕ). (asks_of x).node) (eqb-true o 57 (asks_of (λ x. x.row.asks.universe) true e)))
+      of_asks (λ x. x.row.asks.node) false (ap (λ (x : ℕ). (asks_of x).node) (eqb-true o 57 (asks_of_lem (λ x. x.row.asks.universe) true e)))
 
 module _ (b : List ℕ) (d : Decoded) where
   abbrev ts : Tuples

@@ -1,3 +1,4 @@
+#![tactic(auto)]
 // Which condition stops a call: 2, 3, 12 and 4 by the call alone, 5 to 10 by what the store holds.
 ghost use Rattle.std.specs.Prelude.{true, false, not, ◌≡◌, ◌-◌, ltb, length};
 ghost use Rattle.model.specs.Operators.{row_of};

@@ -1,3 +1,4 @@
+#![tactic(auto)]
 // What the D operators remove from a store.
 ghost use Rattle.std.specs.Prelude.{◌≢◌, ◌≡◌, true, ◌≤◌, length, take};
 ghost use Rattle.model.specs.declared.Removal.{Removal};

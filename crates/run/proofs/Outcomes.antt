@@ -77,12 +77,12 @@ module _ (b ws a l : List ℕ) where
 
   pub answers_short : (s : Bool) → s ≡ is_store b → not s ≡ false → length a < words_in_answer * call_count ws → Ran b ws a l 9 b a l
   answers_short s e n h =
-      no_room (sym e ∙ not_no s n) (failed (has_room (calls_in ws) a l) (λ f. omega (arith, h, has_room_answers ws a l f)))
+      no_room_lem (sym e ∙ not_no s n) (failed (has_room (calls_in ws) a l) (λ f. omega (arith, h, has_room_answers ws a l f)))
 
   pub lists_short : (s f : Bool) → s ≡ is_store b → not s ≡ false → f ≡ leb (rooms_of (calls_from ws (call_count ws) 0)) (length l) → not f ≡ true
       → Ran b ws a l 9 b a l
   lists_short s f e n ef nf =
-      no_room (sym e ∙ not_no s n) (failed (has_room (calls_in ws) a l) (λ g. clash (has_room_lists ws a l g) (sym ef ∙ not_yes f nf)))
+      no_room_lem (sym e ∙ not_no s n) (failed (has_room (calls_in ws) a l) (λ g. clash (has_room_lists ws a l g) (sym ef ∙ not_yes f nf)))
 
   -- 0: all calls were made
   pub all_run : (s f : Bool) (b' a' l' : List ℕ) → s ≡ is_store b → not s ≡ false → words_in_answer * call_count ws ≤ length a

@@ -1,3 +1,4 @@
+#![tactic(auto)]
 // A whole list of calls, from words to words: the store is checked once and then known by proof.
 ghost use Rattle.std.specs.Prelude.{true, ◌≡◌, ◌+◌, ◌*◌, ◌≤◌, leb, length};
 ghost use Rattle.model.specs.OneCall.{list_count};

@@ -210,7 +210,7 @@ module _ (b₀ l₀ : List ℕ) (script : Text) (from : ℕ) (out₀ : Text) whe
       → BlockRun (run_lines (length out₀) (tuples_of b₀) l₀ (lines_of (drop from script))) b₀ l₀ script from out₀ (record { next = at; length = size }) b l out
   run_short b l at size out S h =
       let short : length out₀ - size < most_line = omega (arith, run_sized b l at size out S) in
-      run_end b l at size out S (no_room (length out₀ - size) (tuples_of b) l (lines_of (drop at script)) short)
+      run_end b l at size out S (no_room_lem (length out₀ - size) (tuples_of b) l (lines_of (drop at script)) short)
       (λ some room. moved from at size short room S.onward S.unmoved)
 
   -- .. or where the script ends

@@ -1,3 +1,4 @@
+#![tactic(auto)]
 // A script run line by line on a store that is known to be one; what it prints goes to lent bytes.
 ghost use Rattle.std.specs.Prelude.{◌≡◌, ◌+◌, ◌≤◌, leb, length, drop};
 ghost use Rattle.model.specs.Steps.{refusal};

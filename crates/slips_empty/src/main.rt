@@ -1,3 +1,4 @@
+#![tactic(auto)]
 // slips: runs a script of calls on a fresh store and prints the answers.
 fn main() {
     program::run();

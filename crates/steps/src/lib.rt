@@ -1,3 +1,4 @@
+#![tactic(auto)]
 // What V, X, B and C do to a store.
 ghost use Rattle.std.specs.Prelude.{◌≡◌, length, [], ◌∷◌};
 ghost use Rattle.model.specs.Keys.{edge_key};

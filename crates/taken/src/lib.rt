@@ -1,3 +1,4 @@
+#![tactic(auto)]
 // Which tuples a removal takes.
 ghost use Rattle.std.specs.Prelude.{◌||◌, ◌≡◌, eqb};
 ghost use Rattle.model.specs.Pairs.{pair, out_pair, in_pair, pairs_at, any_pair};

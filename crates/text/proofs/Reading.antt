@@ -69,8 +69,8 @@ pub same_text_lem : (x y : Text) → same_text x y ≡ true → x ≡ y
 unfolding same_text
 same_text_lem [] [] e = refl
 same_text_lem [] (b ∷ y) e = absurd (false≢true e)
-same_text (a ∷ x) [] e = absurd (false≢true e)
-same_text (a ∷ x) (b ∷ y) e = go (eqb a b) refl e (same_text_lem x y)
+same_text_lem (a ∷ x) [] e = absurd (false≢true e)
+same_text_lem (a ∷ x) (b ∷ y) e = go (eqb a b) refl e (same_text_lem x y)
   where
     go : (t : Bool) → eqb a b ≡ t → (t && same_text x y) ≡ true → (same_text x y ≡ true → x ≡ y) → ◌≡◌ {A = Text} (a ∷ x) (b ∷ y)
     go true f g later =

@@ -56,7 +56,7 @@ module _ (b : List ℕ) where
   pub first_good : (h n : ℕ) → UsedEnds b → h ≡ word b 1 → h ≢ 0 → n ≡ next b h → same_key (key_at b h) (space_key 0) ≡ true → EveryLeft good_key b n
   first_good h n U e h≢ f t =
       every_next good_key b h n U.walkable (every_start good_key b h U e) h≢ f
-      (ap good_key (same_key (key_at b h) (space_key 0) t) ∙ (unfold good_key small_key shaped_key no_edge_without_node edge_has_end in refl))
+      (ap good_key (same_key_lem (key_at b h) (space_key 0) t) ∙ (unfold good_key small_key shaped_key no_edge_without_node edge_has_end in refl))
 
 module _ (b : List ℕ) (U : UsedEnds b) where
   pub keyed_start : (h n : ℕ) → h ≡ word b 1 → h ≢ 0 → n ≡ next b h → (k : Key) → k ≡ key_at b h → same_key k (space_key 0) ≡ true

@@ -45,8 +45,8 @@ module _ (b : List ℕ) where
       → walked_on b (record { at = n; left = left - 1; last = at }) ≡ walked_on b (record { at = at; left = left; last = last })
   unfolding walked_on walk steps last_met
   walked_on_lem zero at last n at≢ left≢ few high e = absurd (left≢ refl)
-  walked_on (suc left) zero last n at≢ left≢ few high e = absurd (at≢ refl)
-  walked_on (suc left) (suc i) last n at≢ left≢ few high e =
+  walked_on_lem (suc left) zero last n at≢ left≢ few high e = absurd (at≢ refl)
+  walked_on_lem (suc left) (suc i) last n at≢ left≢ few high e =
       let z : suc left - 1 ≡ left = omega arith in
       let S : ℕ = steps (next b) left (next b (suc i)) in
       let q : (capacity_of b - left) + S ≡ (capacity_of b - suc left) + suc S = omega arith in
@@ -135,7 +135,7 @@ module _ (b : List ℕ) where
           let in_it = run_told at e in
           let z : suc left - 1 ≡ left = omega arith in (
             ap (walked_on b) w ∙ rest.0 ∙ ap (λ (k : ℕ). walked_on b (record { at = at + 1; left = k; last = at })) (sym z)
-                ∙ walked_on (suc left) at last (at + 1) in_it.0 (λ e. absurd (omega (arith, e))) few in_it.1 in_it.2,
+                ∙ walked_on_lem (suc left) at last (at + 1) in_it.0 (λ e. absurd (omega (arith, e))) few in_it.1 in_it.2,
             omega (arith, ap (λ (x : Walk). x.left) w, rest.1),
           )
 

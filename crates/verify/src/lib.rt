@@ -1,3 +1,4 @@
+#![tactic(auto)]
 // The exact check of a store.
 mod chains;
 mod keys;

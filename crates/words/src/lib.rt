@@ -1,3 +1,4 @@
+#![tactic(auto)]
 // One word or one record of the buffer: read and written.
 ghost use Rattle.std.specs.Prelude.{◌≡◌, ◌+◌, ◌≤◌, ◌<◌, length, set};
 ghost use Rattle.layouts.specs.Buffer.{word, head_words, record_words, fits_length, capacity_of, record_start, word_of, next, key_at, tuple_at};
