@@ -12,7 +12,7 @@ use model::{Direction, Key};
 const ABOVE_RECORDS: usize = 4096;
 
 // A place in the used chain: a record and the one after it; 0 for none.
-#[derive(Drop)]
+#[derive(Clone, Copy)]
 pub struct Place {
     pub before: usize,
     pub at: usize,

@@ -16,7 +16,7 @@ ghost use Rattle.entries.specs.Queries.{Readable, pairs_start, start_key, start_
 use model::{Direction, Key};
 
 // What is listed of a pair.
-#[derive(Drop)]
+#[derive(Clone, Copy)]
 pub enum Part {
     Both,
     Edge,
@@ -24,7 +24,7 @@ pub enum Part {
 }
 
 // The pairs of node n in space s, with edge g and node m (0: any).
-#[derive(Drop)]
+#[derive(Clone, Copy)]
 pub struct PairQuery {
     pub d: Direction,
     pub s: u32,
@@ -34,7 +34,7 @@ pub struct PairQuery {
     pub part: Part,
 }
 
-#[derive(Drop)]
+#[derive(Clone, Copy)]
 pub enum Query {
     Pairs(PairQuery),
     // The nodes of a space.
@@ -46,7 +46,7 @@ pub enum Query {
 }
 
 // An entry of a list, by its edge and its node, where it is there; else there is none.
-#[derive(Drop)]
+#[derive(Clone, Copy)]
 pub struct Entry {
     pub there: bool,
     pub edge: u32,
@@ -55,7 +55,7 @@ pub struct Entry {
 
 // A stream of entries: the one that it stands before, and where the walk for those behind it goes on.
 // Where pairs are found edge by edge, the walk has met this least edge behind the present one.
-#[derive(Drop)]
+#[derive(Clone, Copy)]
 pub struct Stream {
     pub at: usize,
     pub entry: Entry,
@@ -63,21 +63,21 @@ pub struct Stream {
 }
 
 // One side of a cursor: where its walks begin, and its stream.
-#[derive(Drop)]
+#[derive(Clone, Copy)]
 pub struct Side {
     pub start: usize,
     pub stream: Stream,
 }
 
 // A cursor over the entries of a query: of adjacent pairs it has an outpointing and an inpointing side, else the second has ended.
-#[derive(Drop)]
+#[derive(Clone, Copy)]
 pub struct Cursor {
     pub out: Side,
     pub into: Side,
 }
 
 // How far a list has come: the cursor, the entry that it gave last (none at first and at the end), and how many it gave.
-#[derive(Drop)]
+#[derive(Clone, Copy)]
 pub struct Progress {
     pub cursor: Cursor,
     pub given: Entry,

@@ -10,7 +10,7 @@ use letters::same;
 use model::{Space, SpaceName};
 
 // What reading a space finds.
-#[derive(Drop)]
+#[derive(Clone, Copy)]
 pub enum SpaceArgument {
     // The space, and where its word ends.
     Given(Space, usize),

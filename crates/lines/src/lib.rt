@@ -15,7 +15,7 @@ use model::{Call, EdgeName, NodeName, Space};
 use words::end_of;
 
 // What reading an argument finds.
-#[derive(Drop)]
+#[derive(Clone, Copy)]
 pub enum Argument {
     // A number, and where its word ends.
     Number(u32, usize),
@@ -30,7 +30,7 @@ pub enum Argument {
 }
 
 // What reading a line finds.
-#[derive(Drop)]
+#[derive(Clone, Copy)]
 pub enum Reading {
     // A call.
     Read(Call),

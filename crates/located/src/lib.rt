@@ -9,7 +9,7 @@ use model::{Decoded, Fields};
 
 // Where to look in one space for what a call names: used records before the space, node n and node m, or 0.
 // They are hints: searches start behind them where that is right, and answers do not depend on them.
-#[derive(Drop)]
+#[derive(Clone, Copy)]
 pub struct Near {
     pub space: usize,
     pub node: usize,
@@ -95,14 +95,14 @@ fn farther(universe: Near, f: Fields) -> usize
 }
 
 // A key that was sought: the last used record below it, and whether it is there.
-#[derive(Drop)]
+#[derive(Clone, Copy)]
 struct Sought {
     before: usize,
     there: bool,
 }
 
 // What a call names in its space: where that is to be sought, and whether the space is there, and node n and node m in it.
-#[derive(Drop)]
+#[derive(Clone, Copy)]
 pub struct Located {
     pub near: Near,
     pub space: bool,

@@ -5,18 +5,18 @@
 // "Nodes, edges and spaces are named by 1 to 65,535 (16 bits), separately": one type for each sort of name.
 // Those of nodes and edges have the layout of C, for the pairs of a list that C or Rust lends.
 #[repr(C)]
-#[derive(Drop)]
+#[derive(Clone, Copy)]
 pub struct NodeName(pub u16);
 
 #[repr(C)]
-#[derive(Drop)]
+#[derive(Clone, Copy)]
 pub struct EdgeName(pub u16);
 
-#[derive(Drop)]
+#[derive(Clone, Copy)]
 pub struct SpaceName(pub u16);
 
 // "The space of a call is either UNIVERSE or a number", and by request 1 it "gets a third form, nothing".
-#[derive(Drop)]
+#[derive(Clone, Copy)]
 pub enum Space {
     // The universal space, which has no name.
     Universe,
@@ -27,7 +27,7 @@ pub enum Space {
 }
 
 // "Call fields, every name a field of 16 bits: n first node, g edge, m second node, v value, s space."
-#[derive(Drop)]
+#[derive(Clone, Copy)]
 pub struct Call {
     // Any number; 1 to 57 are operators.
     pub operator: u32,
@@ -39,7 +39,7 @@ pub struct Call {
 }
 
 // "The middle letter O, I or A chooses" which pairs of a node are meant.
-#[derive(Drop)]
+#[derive(Clone, Copy)]
 pub enum Direction {
     Outpointing,
     Inpointing,
@@ -47,7 +47,7 @@ pub enum Direction {
 }
 
 // What C, B, V and X work on.
-#[derive(Drop)]
+#[derive(Clone, Copy)]
 pub enum Object {
     // The pair (g,m) of n.
     P(Direction),
@@ -58,7 +58,7 @@ pub enum Object {
 }
 
 // What D removes.
-#[derive(Drop)]
+#[derive(Clone, Copy)]
 pub enum Removal {
     // A pair's edge.
     P(Direction),
@@ -79,7 +79,7 @@ pub enum Removal {
 }
 
 // What S lists.
-#[derive(Drop)]
+#[derive(Clone, Copy)]
 pub enum Listing {
     // The pairs of n.
     P(Direction),
@@ -100,7 +100,7 @@ pub enum Listing {
 }
 
 // What an operator does, and to what.
-#[derive(Drop)]
+#[derive(Clone, Copy)]
 pub enum Operator {
     // C
     Create(Object),
@@ -117,7 +117,7 @@ pub enum Operator {
 }
 
 // "The number fixes the arguments that are read": which fields of a call count.
-#[derive(Drop)]
+#[derive(Clone, Copy)]
 pub struct Reads {
     pub n: bool,
     pub g: bool,
@@ -127,7 +127,7 @@ pub struct Reads {
 }
 
 // What an operator asks for before its step: where it is not there, the call is stopped. It asks for node m where it reads m.
-#[derive(Drop)]
+#[derive(Clone, Copy)]
 pub struct Asks {
     // A selection, be it UNIVERSE or a numbered space (12).
     pub selection: bool,
@@ -144,7 +144,7 @@ pub struct Asks {
 }
 
 // What an operator's number fixes: one row of the table of operators.
-#[derive(Drop)]
+#[derive(Clone, Copy)]
 pub struct Row {
     // Is it an operator's number.
     pub known: bool,
@@ -159,7 +159,7 @@ pub struct Row {
 }
 
 // The fields of a call as numbers; UNIVERSE is 0.
-#[derive(Drop)]
+#[derive(Clone, Copy)]
 pub struct Fields {
     pub n: u32,
     pub g: u32,
@@ -169,7 +169,7 @@ pub struct Fields {
 }
 
 // What the store reads of a call: the row of its number, its operator, and its fields as numbers.
-#[derive(Drop)]
+#[derive(Clone, Copy)]
 pub struct Decoded {
     pub row: Row,
     pub operator: Operator,
@@ -178,7 +178,7 @@ pub struct Decoded {
 
 // "C, B and D return the first argument; V a value; X yes or no; S a count k"; a call that is stopped, its refusal's number.
 // By request 2 an answer "from C or D carries the number of tuples added or removed"; the first argument is a node's name, or a space's (0 for UNIVERSE).
-#[derive(Drop)]
+#[derive(Clone, Copy)]
 pub enum Answer {
     // The number of the condition that stopped the call.
     Refusal(u32),
@@ -197,7 +197,7 @@ pub enum Answer {
 }
 
 // "A tuple has a key (s, n, g, m)": the four key words of a record.
-#[derive(Drop)]
+#[derive(Clone, Copy)]
 pub struct Key {
     pub s: u32,
     pub n: u32,
@@ -207,14 +207,14 @@ pub struct Key {
 
 // "The answer list is a lent list of pairs (edge, node)."
 #[repr(C)]
-#[derive(Drop)]
+#[derive(Clone, Copy)]
 pub struct Pair {
     pub edge: EdgeName,
     pub node: NodeName,
 }
 
 // What preparing answers.
-#[derive(Drop)]
+#[derive(Clone, Copy)]
 pub enum Preparation {
     // The number of the condition that stopped it.
     Refused(u32),

@@ -23,7 +23,7 @@ const FIRST_OTHER: u32 = 45;
 const LIST_TOO_SHORT: u32 = 9;
 
 // What a call comes to: its answer, or a list that is still to be written.
-#[derive(Drop)]
+#[derive(Clone, Copy)]
 pub enum Decision {
     Answered(Answer),
     Listed(Query),

@@ -10,7 +10,7 @@ use super::marks::{edge_shown, mark_edge, mark_node, node_shown, node_there};
 use model::Key;
 
 // What the walk of the used chain finds.
-#[derive(Drop)]
+#[derive(Clone, Copy)]
 pub struct Found {
     // Is all there that the tuples name, but for second ends that are kept.
     pub sure: bool,

@@ -46,7 +46,7 @@ const REMOVED: u32 = 7;
 
 // A call as words, with the layout of C: a word for each field, and for the value and the space one more for its form.
 #[repr(C)]
-#[derive(Drop)]
+#[derive(Clone, Copy)]
 pub struct CallWords {
     // Any number; 1 to 57 are operators.
     pub operator: u32,
@@ -63,7 +63,7 @@ pub struct CallWords {
 
 // An answer as words, with the layout of C: its kind, and what it carries.
 #[repr(C)]
-#[derive(Drop)]
+#[derive(Clone, Copy)]
 pub struct AnswerWords {
     pub kind: u32,
     pub first: u32,

@@ -17,7 +17,7 @@ const MOST_LINE: usize = 24583;
 const MOST_INPUT: usize = 65536;
 
 // What a block of output holds, and where it stopped.
-#[derive(Drop)]
+#[derive(Clone, Copy)]
 pub struct Block {
     // Where the next line starts.
     pub next: usize,

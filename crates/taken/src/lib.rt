@@ -8,7 +8,7 @@ ghost use Rattle.taken.specs.Selections.{passes, taken_by, from_node, span_of, b
 use model::{Direction, Key};
 
 // The edges of pairs of node n in space s (0: in all spaces), with edge g and node m (0: any).
-#[derive(Drop)]
+#[derive(Clone, Copy)]
 pub struct EdgesOf {
     pub d: Direction,
     pub s: u32,
@@ -18,13 +18,13 @@ pub struct EdgesOf {
 }
 
 // Node n of space s (0: of all spaces), with its edges.
-#[derive(Drop)]
+#[derive(Clone, Copy)]
 pub struct NodeOf {
     pub s: u32,
     pub n: u32,
 }
 
-#[derive(Drop)]
+#[derive(Clone, Copy)]
 pub enum Selection {
     Edges(EdgesOf),
     Node(NodeOf),
@@ -33,7 +33,7 @@ pub enum Selection {
 }
 
 // The keys of space s (0: of all spaces) and, in it, of node n (0: of all nodes).
-#[derive(Drop)]
+#[derive(Clone, Copy)]
 pub struct Span {
     pub s: u32,
     pub n: u32,

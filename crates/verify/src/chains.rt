@@ -8,7 +8,7 @@ ghost use Rattle.verify.specs.Checks.{heads_fit, stopped_walk, walked_on, walked
 use words::capacity;
 
 // A walk of a chain over at most C records.
-#[derive(Drop)]
+#[derive(Clone, Copy)]
 pub struct Walk {
     // The record that comes next; 0 where the chain has ended.
     pub at: usize,
@@ -19,7 +19,7 @@ pub struct Walk {
 }
 
 // What a walk of at most C records from a head finds.
-#[derive(Drop)]
+#[derive(Clone, Copy)]
 pub struct Walked {
     // Does the chain end.
     pub ended: bool,

@@ -60,7 +60,7 @@ fn key_follows(key: Key, k: Key) -> bool
 }
 
 // What the walk of the used chain finds.
-#[derive(Drop)]
+#[derive(Clone, Copy)]
 pub struct Used {
     // Does the chain end, with keys that are right.
     pub ended: bool,
