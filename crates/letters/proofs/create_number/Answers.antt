@@ -1,0 +1,30 @@
+use mathlib.Core.Path.{refl}
+use Rattle.text.specs.Bytes.{C}
+use Rattle.letters.specs.OperatorWords.{operator_words}
+use Rattle.letters.specs.Letters.{begins}
+use Rattle.letters.proofs.LookUp.{entry, compared, other, no_operator_lem}
+use Rattle.letters.proofs.create_number.Goals as goal
+
+pub returns-then-same : goal.returns-then-same
+unfolding operator_words begins
+returns-then-same c = search (entry 0 refl)
+
+pub returns-then-same-2 : goal.returns-then-same-2
+unfolding operator_words begins
+returns-then-same-2 c = search (entry 1 refl)
+
+pub returns-then-same-3 : goal.returns-then-same-3
+unfolding operator_words begins
+returns-then-same-3 c = search (entry 2 refl)
+
+pub returns-then-same-4 : goal.returns-then-same-4
+unfolding operator_words begins
+returns-then-same-4 c = search (entry 44 refl)
+
+pub returns-then-same-5 : goal.returns-then-same-5
+unfolding operator_words begins
+returns-then-same-5 c = search (entry 50 refl)
+
+pub returns : goal.returns
+unfolding operator_words begins
+returns c = search (no_operator_lem (begins C), other, compared) depth 14
