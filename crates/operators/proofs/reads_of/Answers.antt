@@ -21,26 +21,26 @@ returns-in-50-to-51 c = c.fields-in-50-to-51.ensures ∙ search reads_50_55
 
 pub returns-in-21-to-23 : goal.returns-in-21-to-23
 returns-in-21-to-23 c =
-    elim c.in-21-to-23.branch [
-      | inl x ↦ c.fields-in-21-to-23.ensures ∙ search reads_21_23
-      | inr x ↦ c.fields-in-21-to-23.ensures ∙ search reads_36_38
+    elim c.in-21-to-23-1.branch [
+      | goal.then-o-lt27+else-o-lt1+else-o-lt4+else-o-lt7+else-o-lt15+else-o-lt18+else-o-lt21+then-o-lt24 x ↦ c.fields-in-21-to-23.ensures ∙ search reads_21_23
+      | goal.else-o-lt27+else-o-lt30+else-o-lt36+then-o-lt39 x ↦ c.fields-in-21-to-23.ensures ∙ search reads_36_38
     ]
 
 pub returns-in-18-to-20 : goal.returns-in-18-to-20
 returns-in-18-to-20 c =
-    elim c.in-18-to-20.branch [
-      | inl x ↦ c.fields-in-18-to-20.ensures ∙ search reads_18_20
-      | inr (inl x) ↦ c.fields-in-18-to-20.ensures ∙ search reads_27_29
-      | inr (inr x) ↦ c.fields-in-18-to-20.ensures ∙ search reads_42_44
+    elim c.in-18-to-20-1.branch [
+      | goal.then-o-lt27+else-o-lt1+else-o-lt4+else-o-lt7+else-o-lt15+else-o-lt18+then-o-lt21 x ↦ c.fields-in-18-to-20.ensures ∙ search reads_18_20
+      | goal.else-o-lt27+then-o-lt30 x ↦ c.fields-in-18-to-20.ensures ∙ search reads_27_29
+      | goal.else-o-lt27+else-o-lt30+else-o-lt36+else-o-lt39+else-o-lt42+then-o-lt45 x ↦ c.fields-in-18-to-20.ensures ∙ search reads_42_44
     ]
 
 pub returns-in-15-to-17 : goal.returns-in-15-to-17
 returns-in-15-to-17 c =
-    elim c.in-15-to-17.branch [
-      | inl x ↦ c.fields-in-15-to-17.ensures ∙ search reads_15_17
-      | inr (inl x) ↦ c.fields-in-15-to-17.ensures ∙ search reads_24_26
-      | inr (inr (inl x)) ↦ c.fields-in-15-to-17.ensures ∙ search reads_30_35
-      | inr (inr (inr x)) ↦ c.fields-in-15-to-17.ensures ∙ search reads_39_41
+    elim c.in-15-to-17-1.branch [
+      | goal.then-o-lt27+else-o-lt1+else-o-lt4+else-o-lt7+else-o-lt15+then-o-lt18 x ↦ c.fields-in-15-to-17.ensures ∙ search reads_15_17
+      | goal.then-o-lt27+else-o-lt1+else-o-lt4+else-o-lt7+else-o-lt15+else-o-lt18+else-o-lt21+else-o-lt24 x ↦ c.fields-in-15-to-17.ensures ∙ search reads_24_26
+      | goal.else-o-lt27+else-o-lt30+then-o-lt36 x ↦ c.fields-in-15-to-17.ensures ∙ search reads_30_35
+      | goal.else-o-lt27+else-o-lt30+else-o-lt36+else-o-lt39+then-o-lt42 x ↦ c.fields-in-15-to-17.ensures ∙ search reads_39_41
     ]
 
 pub returns-in-1-to-3 : goal.returns-in-1-to-3

@@ -1,0 +1,15 @@
+use Rattle.entries.specs.Cursors.{list_of}
+use Rattle.entries.proofs.EntryTests.{in_no_edge, in_other, in_given}
+use Rattle.entries.proofs.in_entry.Goals as goal
+
+pub returns-then-k-eq0 : goal.returns-then-k-eq0
+unfolding list_of
+returns-then-k-eq0 c = in_no_edge _ _ _ c.if-k-eq0.true
+
+pub returns-then-k-q : goal.returns-then-k-q
+unfolding list_of
+returns-then-k-q c = search in_other
+
+pub returns : goal.returns
+unfolding list_of
+returns c = search in_given
