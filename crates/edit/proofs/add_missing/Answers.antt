@@ -14,5 +14,4 @@ insert_after-requires c =
     linking _ _ c.requires.0 (sym c.held_at.ensures ∙ c.if-held_at.false) _ c.seek-place.ensures
 
 pub returns : goal.returns
-returns c =
-    added _ _ c.requires.0 (sym c.held_at.ensures ∙ c.if-held_at.false) _ c.seek-place.ensures _ c.insert_after.ensures
+returns c = let both = added _ _ c.requires.0 (sym c.held_at.ensures ∙ c.if-held_at.false) _ c.seek-place.ensures _ c.insert_after.ensures in record { edited = both.0; hints = both.1 }

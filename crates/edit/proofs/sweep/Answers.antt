@@ -4,11 +4,11 @@ use Rattle.edit.proofs.sweep.Goals as goal
 
 pub next_of-at-requires : goal.next_of-at-requires
 next_of-at-requires c =
-    (sweep_start_lem _ _ _ _ _ c.requires.0 c.requires.2 c.Span-of.ensures c.start_behind-before.ensures refl).0
+    (sweep_start_lem _ _ _ _ _ c.requires.0 c.requires.2 c.span_of-span.ensures c.start_behind-before.ensures refl).0
 
 pub loop-at-init : goal.loop-at-init
 loop-at-init c =
-    (sweep_start_lem _ _ _ _ _ c.requires.0 c.requires.2 c.Span-of.ensures c.start_behind-before.ensures c.next_of-at.ensures).1
+    (sweep_start_lem _ _ _ _ _ c.requires.0 c.requires.2 c.span_of-span.ensures c.start_behind-before.ensures c.next_of-at.ensures).1
 
 pub next_of-after-requires : goal.next_of-after-requires
 next_of-after-requires c = search sweep_inside

@@ -39,7 +39,7 @@ pub returns : goal.returns
 returns c =
     search (
       all_read,
-      c.Reads-of.ensures,
+      c.reads_of-read.ensures,
       c.field_at.ensures,
       c.in-Number.is,
       c.field_at-2.ensures,
