@@ -1,0 +1,21 @@
+use Rattle.steps.proofs.Named.{bind_one, bind_two, main_hint_lem, hint_assigned}
+use Rattle.steps.proofs.bind.Reads as reads
+use Rattle.steps.proofs.bind.Lts as lts
+use Rattle.edit.proofs.assign_value.Reads as assign-value-reads
+use Rattle.steps.proofs.is_adjacent.Reads as is-adjacent-reads
+use Rattle.steps.proofs.main_hint.Reads as main-hint-reads
+use Rattle.steps.proofs.main_key.Reads as main-key-reads
+use Rattle.steps.proofs.reversed_key.Reads as reversed-key-reads
+use Rattle.steps.proofs.bind.Goals as goal
+
+pub assign_value-requires : goal.assign_value-requires
+assign_value-requires c = search main_hint_lem
+
+pub returns-then-not-is_adjacent : goal.returns-then-not-is_adjacent
+returns-then-not-is_adjacent c = search bind_one
+
+pub assign_value-requires-2 : goal.assign_value-requires-2
+assign_value-requires-2 c = search hint_assigned
+
+pub returns : goal.returns
+returns c = search bind_two

@@ -1,0 +1,19 @@
+use Rattle.steps.proofs.Named.{near_kept}
+use Rattle.steps.proofs.Creates.{room_in_space, room_in_universe, created_space, created_both}
+use Rattle.steps.proofs.create.Reads as reads
+use Rattle.steps.proofs.create.Lts as lts
+use Rattle.steps.proofs.add_in.Reads as add-in-reads
+use Rattle.steps.proofs.is_space.Reads as is-space-reads
+use Rattle.steps.proofs.create.Goals as goal
+
+pub add_in-requires : goal.add_in-requires
+add_in-requires c = (search, search, search room_in_space)
+
+pub returns-then-is_space : goal.returns-then-is_space
+returns-then-is_space c = search created_space
+
+pub add_in-requires-2 : goal.add_in-requires-2
+add_in-requires-2 c = (search, search near_kept, search room_in_universe)
+
+pub returns : goal.returns
+returns c = search created_both

@@ -1,0 +1,7 @@
+use borrow.Author.Rules.{rules}
+use Rattle.steps.proofs.reversed_key.Reads as reads
+use Rattle.steps.proofs.reversed_key.Lts as lts
+use Rattle.steps.proofs.reversed_key.Goals as goal
+
+pub returns : goal.returns
+returns c = search rules

@@ -1,0 +1,13 @@
+use Rattle.steps.proofs.Named.{value_named, main_hint_lem}
+use Rattle.steps.proofs.value_of.Reads as reads
+use Rattle.steps.proofs.value_of.Lts as lts
+use Rattle.chain.proofs.value_at.Reads as value-at-reads
+use Rattle.steps.proofs.main_hint.Reads as main-hint-reads
+use Rattle.steps.proofs.main_key.Reads as main-key-reads
+use Rattle.steps.proofs.value_of.Goals as goal
+
+pub value_at-requires : goal.value_at-requires
+value_at-requires c = search main_hint_lem
+
+pub returns : goal.returns
+returns c = search value_named
