@@ -50,15 +50,15 @@ is_at-requires c = (c.loop-end.invariant.seekable.walkable, c.loop-end.invariant
 
 pub next_of-seek-requires : goal.next_of-seek-requires
 next_of-seek-requires c =
-    seek_inside _ _ _ _ c.loop-end.invariant _ c.is_before.ensures (not-false _ c.if-not-is_before.false)
+    seek_inside _ _ _ _ c.loop-end.invariant _ c.is_before.ensures c.if-not-is_before.false
 
 pub loop-end-smaller : goal.loop-end-smaller
 loop-end-smaller c =
-    seek_fewer _ _ _ _ c.loop-end.invariant _ _ c.is_before.ensures (not-false _ c.if-not-is_before.false) c.next_of-seek.ensures
+    seek_fewer _ _ _ _ c.loop-end.invariant _ _ c.is_before.ensures c.if-not-is_before.false c.next_of-seek.ensures
 
 pub loop-end-preserved : goal.loop-end-preserved
 loop-end-preserved c =
-    seek_next _ _ _ _ c.loop-end.invariant _ _ c.is_before.ensures (not-false _ c.if-not-is_before.false) c.next_of-seek.ensures
+    seek_next _ _ _ _ c.loop-end.invariant _ _ c.is_before.ensures c.if-not-is_before.false c.next_of-seek.ensures
 
 pub next_of-at-requires-in-tuples : goal.next_of-at-requires-in-tuples
 next_of-at-requires-in-tuples c =
@@ -74,21 +74,22 @@ tuples-preserved c =
     c.key_of-k.ensures in
     go_on _ _ _ _ _ T _ c.next_of-at-in-tuples.ensures
     (both_ends _ _ _ _ _ T c.if-k-eq0.false _ c.node_key.ensures _ c.holds_from.ensures _
-    c.node_key-end.ensures _ c.loop-end.invariant (not-false _ c.if-not-holds_from.false) _ c.is_at.ensures
-    (not-false _ c.loop-end-test.false))
+    c.node_key-end.ensures _ c.loop-end.invariant c.if-not-holds_from.false _ c.is_at.ensures
+    c.loop-end-test.false)
 
 pub returns : goal.returns
 returns c =
     let w = c.requires.used.walkable in
     let S = c.tuples.invariant in
-    ⊎_elim (λ x. finish _ _ _ S x.0.left)
-    (⊎_elim
-    (λ x.
-    let T = at_tuple _ _ _ _ _ w S x.0.taken x.2.ensures x.1.ensures in
-    leave _ _ _ _ _ T (no_first_end _ _ _ _ _ T x.4.left x.5.result x.5.ensures x.6.result x.6.ensures (not-true _ x.7.taken)))
-    (λ x.
-    let T = at_tuple _ _ _ _ _ w S x.0.taken x.2.ensures x.1.ensures in
-    leave _ _ _ _ _ T
-    (no_second_end _ _ _ _ _ T x.4.left x.5.result x.5.ensures x.6.result x.6.ensures x.8.result x.8.ensures x.9.seek
-    x.9.inv _ _ x.10.ensures (not-true _ x.11.taken) x.12.ensures (not-true _ x.13.taken))))
-    c.tuples-test.branch
+    elim c.tuples-test.branch [
+      | goal.else-tuples-test x ↦ finish _ _ _ S x.tuples-test.false
+      | goal.then-tuples-test+else-k-eq0+then-not-holds_from x ↦
+        let T = at_tuple _ _ _ _ _ w S x.tuples-test.true x.space_start-space.ensures x.key_of-k.ensures in
+        leave _ _ _ _ _ T (no_first_end _ _ _ _ _ T x.if-k-eq0.false x.node_key.result x.node_key.ensures x.holds_from.result x.holds_from.ensures
+          x.if-not-holds_from.true)
+      | goal.then-tuples-test+else-k-eq0+else-not-holds_from+then-loop-end-test+then-not-is_before x ↦
+        let T = at_tuple _ _ _ _ _ w S x.tuples-test.true x.space_start-space.ensures x.key_of-k.ensures in
+        leave _ _ _ _ _ T (no_second_end _ _ _ _ _ T x.if-k-eq0.false x.node_key.result x.node_key.ensures x.holds_from.result x.holds_from.ensures
+          x.node_key-end.result x.node_key-end.ensures x.loop-end.seek x.loop-end.invariant _ _ x.is_at.ensures x.loop-end-test.true
+          x.is_before.ensures x.if-not-is_before.true)
+    ]
