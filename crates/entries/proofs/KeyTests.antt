@@ -84,28 +84,18 @@ module _ (q : PairQuery) (k : Key) where
 -- ---- names and pairs, by the variant that was tested
 
 -- a query whose variant is not that of pairs asks for names
-pub other_names : (q : Query) → OneOf (1 ∷ 2 ∷ 3 ∷ []) (tag_of the_type q) → asks_names q ≡ true
+pub other_names : (q : Query) → ((p : PairQuery) → q ≡ Pairs p → ⊥) → asks_names q ≡ true
 unfolding asks_names
-other_names (Pairs q) k = absurd (go k)
-  where
-    go : OneOf (1 ∷ 2 ∷ 3 ∷ []) 0 → ⊥
-    go (inl e) = omega (arith, e)
-    go (inr (inl e)) = omega (arith, e)
-    go (inr (inr e)) = omega (arith, e)
-other_names (Nodes s) k = refl
-other_names Spaces k = refl
-other_names (SpacesOf n) k = refl
+other_names (Pairs q) h = absurd (h q refl)
+other_names (Nodes s) h = refl
+other_names Spaces h = refl
+other_names (SpacesOf n) h = refl
 
 -- names that are not the nodes of a space are never outside
-pub never_outside : (q : Query) (k : Key) → OneOf (0 ∷ 2 ∷ 3 ∷ []) (tag_of the_type q) → asks_names q ≡ true → false ≡ outside q k
+pub never_outside : (q : Query) (k : Key) → ((s : ℕ) → q ≡ Nodes s → ⊥) → asks_names q ≡ true → false ≡ outside q k
 unfolding asks_names outside
 never_outside (Pairs q) k o h = absurd (false≢true h)
-never_outside (Nodes s) k o h = absurd (go o)
-  where
-    go : OneOf (0 ∷ 2 ∷ 3 ∷ []) 1 → ⊥
-    go (inl e) = omega (arith, e)
-    go (inr (inl e)) = omega (arith, e)
-    go (inr (inr e)) = omega (arith, e)
+never_outside (Nodes s) k o h = absurd (o s refl)
 never_outside Spaces k o h = refl
 never_outside (SpacesOf n) k o h = refl
 

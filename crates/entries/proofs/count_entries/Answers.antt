@@ -1,8 +1,5 @@
 use Rattle.entries.proofs.Listed.{never_roomy}
 use borrow.Author.Rules.{rules}
-use Rattle.entries.proofs.count_entries.Reads as reads
-use Rattle.entries.proofs.count_entries.Lts as lts
-use Rattle.entries.proofs.lists.list_all.Reads as list-all-reads
 use Rattle.entries.proofs.count_entries.Goals as goal
 
 pub list_all-requires : goal.list_all-requires

@@ -4,7 +4,7 @@ use Rattle.entries.proofs.names_end.Goals as goal
 
 pub returns-in_default : goal.returns-in_default
 unfolding outside
-returns-in_default c = search never_outside
+returns-in_default c = never_outside _ _ c.in_default.not-Nodes c.requires
 
 pub returns : goal.returns
 unfolding outside

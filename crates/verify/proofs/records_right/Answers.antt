@@ -1,0 +1,27 @@
+use borrow.Author.Tests.{not-true, not-false}
+use lib.ListN.{length-replicate}
+use Rattle.presence.specs.Presence.{kept_count}
+use Rattle.verify.specs.Checks.{walked_of}
+use Rattle.presence.proofs.Hints.{no_marks_lem}
+use Rattle.verify.proofs.Parts.{right_no_walk, right_walk, right_sorted, right_no_chains, right_named}
+use Rattle.verify.proofs.records_right.Goals as goal
+
+pub walk_used-used-requires : goal.walk_used-used-requires
+walk_used-used-requires c = search (no_marks_lem, length-replicate, kept_count)
+
+pub returns-then-not-used : goal.returns-then-not-used
+returns-then-not-used c = search (right_no_walk, walked_of, not-true)
+
+pub chains_right-requires : goal.chains_right-requires
+chains_right-requires c =
+    (c.requires, right_walk c.args.b.now c.requires (walked_of c.walk_used-used.result) c.walk_used-used.ensures.answer (not-false _ c.if-not-used.false), not-false _ c.if-not-used.false, (c.walk_used-used.ensures.lent (not-false _ c.if-not-used.false)).beside)
+
+pub returns-then-not-chains_right : goal.returns-then-not-chains_right
+returns-then-not-chains_right c = search (right_no_chains, walked_of, not-false, not-true)
+
+pub named_right-requires : goal.named_right-requires
+named_right-requires c =
+    (right_sorted c.args.b.now c.requires (walked_of c.walk_used-used.result) c.walk_used-used.ensures.answer (not-false _ c.if-not-used.false), (c.walk_used-used.ensures.lent (not-false _ c.if-not-used.false)).tuples)
+
+pub returns : goal.returns
+returns c = search (right_named, walked_of, not-false)
