@@ -1,0 +1,15 @@
+use Rattle.listings.proofs.Asked.{pairs_hint_as}
+use Rattle.listings.specs.Lists.{pairs_hint}
+use Rattle.listings.proofs.pairs_hint.Goals as goal
+
+pub returns-in-Outpointing : goal.returns-in-Outpointing
+unfolding pairs_hint
+returns-in-Outpointing c = search pairs_hint_as
+
+pub returns-in-Inpointing : goal.returns-in-Inpointing
+unfolding pairs_hint
+returns-in-Inpointing c = search pairs_hint_as
+
+pub returns-in-Adjacent : goal.returns-in-Adjacent
+unfolding pairs_hint
+returns-in-Adjacent c = search pairs_hint_as

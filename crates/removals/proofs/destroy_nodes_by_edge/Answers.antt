@@ -1,0 +1,11 @@
+use Rattle.model.specs.Steps.{destroyed, listed}
+use Rattle.listings.proofs.Stores.{store_readable}
+use Rattle.removals.proofs.Collects.{nodes_by_edge_of_store}
+use Rattle.removals.proofs.destroy_nodes_by_edge.Goals as goal
+
+pub remove_listed-requires : goal.remove_listed-requires
+remove_listed-requires c = (search store_readable, search, search, search nodes_by_edge_of_store)
+
+pub returns : goal.returns
+unfolding destroyed listed
+returns c = search
