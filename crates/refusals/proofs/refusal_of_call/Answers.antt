@@ -1,0 +1,32 @@
+use Rattle.model.specs.Refusals.{of_call}
+use Rattle.refusals.proofs.Stops.{stops, passes, nothing_left, row_known, row_reads, row_asks}
+use Rattle.refusals.proofs.refusal_of_call.Goals as goal
+
+pub returns-then-not-row : goal.returns-then-not-row
+unfolding of_call
+returns-then-not-row c = search (stops, row_known)
+
+pub zero_name-requires : goal.zero_name-requires
+zero_name-requires c = search row_reads
+
+pub returns-then-zero_name : goal.returns-then-zero_name
+unfolding of_call
+returns-then-zero_name c = search (passes, stops, row_known) depth 14
+
+pub lacks_space-requires : goal.lacks_space-requires
+lacks_space-requires c = (search row_asks, search)
+
+pub returns-then-lacks_space : goal.returns-then-lacks_space
+unfolding of_call
+returns-then-lacks_space c = search (passes, stops, row_known) depth 14
+
+pub destroys_universe-requires : goal.destroys_universe-requires
+destroys_universe-requires c = search row_asks
+
+pub returns-then-destroys_universe : goal.returns-then-destroys_universe
+unfolding of_call
+returns-then-destroys_universe c = search (passes, stops, row_known) depth 14
+
+pub returns : goal.returns
+unfolding of_call
+returns c = search (passes, nothing_left, row_known) depth 14
