@@ -210,16 +210,10 @@ takes_none true most line end a then f n = go (words_behind line end) (λ (x e :
 
 -- what the test on the variant of an argument says
 abbrev pub NoNumber : Argument → Type 0
-NoNumber a = OneOf (1 ∷ 2 ∷ 3 ∷ 4 ∷ []) (tag_of the_type a)
+NoNumber a = (x e : ℕ) → a ≡ Number x e → ⊥
 
 pub no_number : (a : Argument) → NoNumber a → (x e : ℕ) → a ≡ Number x e → ⊥
-no_number a k x e f = go (subst NoNumber f k)
-  where
-    go : OneOf (1 ∷ 2 ∷ 3 ∷ 4 ∷ []) 0 → ⊥
-    go (inl h) = omega arith
-    go (inr (inl h)) = omega arith
-    go (inr (inr (inl h))) = omega arith
-    go (inr (inr (inr h))) = omega arith
+no_number a k = k
 
 -- the words that a space takes
 

@@ -6,33 +6,33 @@ use Rattle.lines.proofs.CallLaws.{stop_at_n, stop_at_g, stop_at_m, stop_at_v, st
 use Rattle.lines.proofs.in_order.Goals as goal
 
 pub returns-in_default : goal.returns-in_default
-returns-in_default c = search stop_at_n
+returns-in_default c = search (stop_at_n, c.in_default.not-Number)
 
 pub returns-in_default-field_at : goal.returns-in_default-field_at
-returns-in_default-field_at c = search stop_at_g
+returns-in_default-field_at c = search (stop_at_g, c.in_default-field_at.not-Number)
 
 pub returns-in_default-field_at-2 : goal.returns-in_default-field_at-2
-returns-in_default-field_at-2 c = search stop_at_m
+returns-in_default-field_at-2 c = search (stop_at_m, c.in_default-field_at-2.not-Number)
 
 pub returns-in_default-field_at-3 : goal.returns-in_default-field_at-3
-returns-in_default-field_at-3 c = search stop_at_v
+returns-in_default-field_at-3 c = search (stop_at_v, c.in_default-field_at-3.not-Number)
 
 pub returns-in_default-space_at : goal.returns-in_default-space_at
-returns-in_default-space_at c = search stop_at_s
+returns-in_default-space_at c = search (stop_at_s)
 
 pub overflow_cast-c : goal.overflow_cast-c
 overflow_cast-c c =
-    let small : c.in-Number.given.0.0 ≤ most_name = search field_fits in
+    let small : c.in-Number.n ≤ most_name = search field_fits in
     record { fits = omega arith }
 
 pub overflow_cast-c-2 : goal.overflow_cast-c-2
 overflow_cast-c-2 c =
-    let small : c.in-Number-field_at.given.0.0 ≤ most_name = search field_fits in
+    let small : c.in-Number-field_at.g ≤ most_name = search field_fits in
     record { fits = omega arith }
 
 pub overflow_cast-c-3 : goal.overflow_cast-c-3
 overflow_cast-c-3 c =
-    let small : c.in-Number-field_at-2.given.0.0 ≤ most_name = search field_fits in
+    let small : c.in-Number-field_at-2.m ≤ most_name = search field_fits in
     record { fits = omega arith }
 
 pub returns : goal.returns

@@ -9,11 +9,11 @@ pub returns-then-end-line : goal.returns-then-end-line
 returns-then-end-line c = search alone
 
 pub returns-in_default : goal.returns-in_default
-returns-in_default c = search no_node
+returns-in_default c = search (no_node, c.in_default.not-Number)
 
 pub overflow_cast-c : goal.overflow_cast-c
 overflow_cast-c c =
-    let small : c.in-Number.given.0.0 ≤ most_name = search name_fits in
+    let small : c.in-Number.n ≤ most_name = search name_fits in
     record { fits = omega arith }
 
 pub returns : goal.returns

@@ -1,8 +1,4 @@
 use Rattle.lines.proofs.ArgumentLaws.{is_universe_lem, is_nothing_lem, is_number}
-use Rattle.lines.proofs.arguments.of_word.Reads as reads
-use Rattle.lines.proofs.arguments.of_word.Lts as lts
-use Rattle.letters.proofs.same.Reads as same_Reads
-use Rattle.lines.proofs.numbers.number_in.Reads as number-in-reads
 use Rattle.lines.proofs.arguments.of_word.Goals as goal
 
 pub returns-then-same : goal.returns-then-same

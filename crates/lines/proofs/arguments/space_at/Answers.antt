@@ -6,7 +6,7 @@ use Rattle.lines.proofs.arguments.space_at.Goals as goal
 
 pub overflow_cast-result : goal.overflow_cast-result
 overflow_cast-result c =
-    let small : c.in-Number.given.0.0 ≤ most_name = search name_fits in
+    let small : c.in-Number.x ≤ most_name = search name_fits in
     record { fits = omega arith }
 
 pub returns-then-optional : goal.returns-then-optional
