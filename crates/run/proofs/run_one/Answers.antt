@@ -1,0 +1,10 @@
+use Rattle.run.proofs.Turns.{count_small, one_run}
+use borrow.Author.Rules.{rules}
+use Rattle.run.proofs.run_one.Goals as goal
+
+pub put_answer-requires : goal.put_answer-requires
+put_answer-requires c =
+    (search rules, search (count_small, c.shared_slice_known-1.given))
+
+pub returns : goal.returns
+returns c = search one_run
