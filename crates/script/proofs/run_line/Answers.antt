@@ -1,0 +1,19 @@
+use native.Mathlib.Omega.{arith}
+use Rattle.script.proofs.LineRuns.{call_printable, call_run, refused_printable, refused_run}
+use borrow.Author.Rules.{rules}
+use Rattle.script.proofs.run_line.Goals as goal
+
+pub put_answer-requires : goal.put_answer-requires
+put_answer-requires c =
+    call_printable _ _ c.args.line.now _ _ _ _ _ _ c.requires.0 c.execute_known-answer.ensures c.execute_known-answer.auto.list
+    (search) (omega (arith, c.requires.1))
+
+pub put_answer-requires-in-Refused : goal.put_answer-requires-in-Refused
+put_answer-requires-in-Refused c = search (rules, refused_printable)
+
+pub returns-in-Read : goal.returns-in-Read
+returns-in-Read c =
+    search (call_run, c.in-Read.is, c.read_line-reading.ensures, c.requires.0, c.requires.1)
+
+pub returns-in-Refused : goal.returns-in-Refused
+returns-in-Refused c = search refused_run
