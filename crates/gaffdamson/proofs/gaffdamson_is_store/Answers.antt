@@ -1,0 +1,4 @@
+use Rattle.gaffdamson.proofs.gaffdamson_is_store.Goals as goal
+
+pub returns : goal.returns
+returns c = cc
