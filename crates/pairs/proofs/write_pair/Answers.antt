@@ -19,4 +19,4 @@ returns c =
     subst (λ (i : ℕ). PairWritten c.args.b.now c.args.d c.args.p c.args.list.now c.next_pair.result (set c.args.list.now i c.pair_given.result))
     (sym c.place_of.ensures)
     (pair_written c.args.b.now c.args.d c.args.p c.requires.1 c.requires.2 c.args.list.now c.pair_given.result c.next_pair.result c.requires.3
-      c.pair_given.ensures c.next_pair.ensures.standing c.next_pair.ensures.written)
+    c.pair_given.ensures c.next_pair.ensures.standing c.next_pair.ensures.written)

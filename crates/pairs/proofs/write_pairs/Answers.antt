@@ -9,8 +9,7 @@ loop-d-init c = (c.first_pair-p.ensures.standing, none_written _ _ _ c.first_pai
 
 pub write_pair-p-requires : goal.write_pair-p-requires
 write_pair-p-requires c =
-    let there : is_there (entry_of c.loop-d.p.given) ≡ true = sym c.is_given.ensures ∙ c.loop-d-test.true in
-    (
+    let there : is_there (entry_of c.loop-d.p.given) ≡ true = sym c.is_given.ensures ∙ c.loop-d-test.true in (
       c.requires.0,
       c.loop-d.invariant.0,
       there,
@@ -24,8 +23,7 @@ loop-d-smaller c =
 
 pub loop-d-preserved : goal.loop-d-preserved
 loop-d-preserved c =
-    let there : is_there (entry_of c.loop-d.p.given) ≡ true = sym c.is_given.ensures ∙ c.loop-d-test.true in
-    (
+    let there : is_there (entry_of c.loop-d.p.given) ≡ true = sym c.is_given.ensures ∙ c.loop-d-test.true in (
       c.write_pair-p.ensures.standing,
       turn_wrote c.args.b.now c.args.d c.args.list.now c.loop-d.list c.loop-d.p c.loop-d.invariant.0 c.loop-d.invariant.1 there _ _ c.write_pair-p.ensures,
     )

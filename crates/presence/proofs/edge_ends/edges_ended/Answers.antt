@@ -84,12 +84,12 @@ returns c =
     elim c.tuples-test.branch [
       | goal.else-tuples-test x ↦ finish _ _ _ S x.tuples-test.false
       | goal.then-tuples-test+else-k-eq0+then-not-holds_from x ↦
-        let T = at_tuple _ _ _ _ _ w S x.tuples-test.true x.space_start-space.ensures x.key_of-k.ensures in
-        leave _ _ _ _ _ T (no_first_end _ _ _ _ _ T x.if-k-eq0.false x.node_key.result x.node_key.ensures x.holds_from.result x.holds_from.ensures
+          let T = at_tuple _ _ _ _ _ w S x.tuples-test.true x.space_start-space.ensures x.key_of-k.ensures in
+          leave _ _ _ _ _ T (no_first_end _ _ _ _ _ T x.if-k-eq0.false x.node_key.result x.node_key.ensures x.holds_from.result x.holds_from.ensures
           x.if-not-holds_from.true)
       | goal.then-tuples-test+else-k-eq0+else-not-holds_from+then-loop-end-test+then-not-is_before x ↦
-        let T = at_tuple _ _ _ _ _ w S x.tuples-test.true x.space_start-space.ensures x.key_of-k.ensures in
-        leave _ _ _ _ _ T (no_second_end _ _ _ _ _ T x.if-k-eq0.false x.node_key.result x.node_key.ensures x.holds_from.result x.holds_from.ensures
+          let T = at_tuple _ _ _ _ _ w S x.tuples-test.true x.space_start-space.ensures x.key_of-k.ensures in
+          leave _ _ _ _ _ T (no_second_end _ _ _ _ _ T x.if-k-eq0.false x.node_key.result x.node_key.ensures x.holds_from.result x.holds_from.ensures
           x.node_key-end.result x.node_key-end.ensures x.loop-end.seek x.loop-end.invariant _ _ x.is_at.ensures x.loop-end-test.true
           x.is_before.ensures x.if-not-is_before.true)
     ]

@@ -10,12 +10,11 @@ pub overflow_sub-j : goal.overflow_sub-j
 overflow_sub-j c = omega (arith, c.loop-j-test.true)
 
 pub end_there-requires : goal.end_there-requires
-end_there-requires c =
-    (
-      c.requires.0,
-      c.requires.1,
-      kept_record _ _ _ _ _ c.loop-j.invariant c.requires.2 c.loop-j-test.true c.record_at-i.ensures,
-    )
+end_there-requires c = (
+  c.requires.0,
+  c.requires.1,
+  kept_record _ _ _ _ _ c.loop-j.invariant c.requires.2 c.loop-j-test.true c.record_at-i.ensures,
+)
 
 pub returns-then-not-end_there : goal.returns-then-not-end_there
 returns-then-not-end_there c = search (ending_no, not-true)
