@@ -12,7 +12,7 @@ use denote.Triple.Clauses.{AtExit}
 use Rattle.model.specs.declared.Preparation.{Preparation}
 use Rattle.model.specs.declared.Preparation.TheVariants.{Capacity}
 use Rattle.model.specs.Tuples.{fresh}
-use Rattle.layouts.specs.Buffer.{head_words, record_words, fits_length, capacity_of, Preparing}
+use Rattle.layouts.specs.Buffer.{head_words, record_words, fits_length, Preparing}
 use Rattle.model.specs.Refusals.{selects_nothing}
 use Rattle.model.specs.NoSelection.{WithoutEffect}
 use Rattle.model.specs.Traces.{Trace}

@@ -3,7 +3,7 @@ use mathlib.Core.Bool.{Bool, true, false, cond, not, ◌||◌, false≢true}
 use mathlib.Core.List.{List, [], ◌∷◌, ◌++◌, map, cons-ne-nil}
 use mathlib.Core.Logic.{◌≢◌}
 use mathlib.Core.Path.{◌≡◌, refl, sym, ap, ◌∙◌, subst}
-use Prim.Native.Nat.{ℕ, ◌+◌, Ordering}
+use Prim.Native.Nat.{ℕ, Ordering}
 use native.Mathlib.Omega.{arith}
 use lib.Dec.{eqb, compare_is_eq}
 use borrow.Author.Tests.{eq-eqb, ne_eqb}

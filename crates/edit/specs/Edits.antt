@@ -1,5 +1,5 @@
 -- What the functions that add, set and remove tuples ask of a buffer.
-use Rattle.std.specs.Prelude.{Bool, true, false, cond, List, ◌≡◌, ℕ, ◌<◌, eqb, length}
+use Rattle.std.specs.Prelude.{false, cond, List, ◌≡◌, ℕ, ◌<◌, eqb, length}
 use Rattle.model.specs.declared.Key.{Key}
 use Rattle.model.specs.Keys.{Value}
 use Rattle.model.specs.Tuples.{present, assign}

@@ -1,5 +1,5 @@
 -- What the order of two keys says of their parts.
-use mathlib.Core.Bool.{true, not, ◌||◌}
+use mathlib.Core.Bool.{true, ◌||◌}
 use mathlib.Core.Logic.{◌⊎◌, inl, inr, ⊎_elim, ◌≢◌}
 use mathlib.Core.Path.{◌≡◌, refl, sym}
 use Prim.Native.Nat.{ℕ, ◌≤◌, ◌<◌, compare, Ordering}
@@ -12,7 +12,7 @@ use Rattle.model.specs.Ordered.{then_by}
 use Rattle.model.specs.Keys.{compare_keys}
 use Rattle.model.specs.Pairs.{edge_of, node_of}
 use Rattle.model.proofs.Bools.{or_cases, and_left, and_right}
-use Rattle.model.proofs.Order.{keys, lt≢gt, compare_eq, compare_lt}
+use Rattle.model.proofs.Order.{lt≢gt, compare_eq, compare_lt}
 use Rattle.taken.specs.Selections.{passes}
 
 -- ---- parts of keys in order

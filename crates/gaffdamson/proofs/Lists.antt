@@ -23,7 +23,7 @@ use Rattle.model.proofs.Demand1.{one_call_demand_1}
 use Rattle.run.specs.Runs.{Ran, RunDemand1, WholeRun}
 use Rattle.run.proofs.Demand.{ran_demand_1, ran_prepared}
 use Rattle.run.specs.declared.AnswerWords.{AnswerWords}
-use Rattle.run.specs.Words.{call_of, kind_of, first_of, second_of, answer_words, answer_in}
+use Rattle.run.specs.Words.{call_of, kind_of, answer_words, answer_in}
 use Rattle.run.proofs.WordLaws.{answer_back}
 use Rattle.gaffdamson.specs.Calls.{preparation_of, preparation_words, PreparedAs}
 use Rattle.gaffdamson.proofs.gaffdamson_prepare.Kinds as prepare_kinds

@@ -1,7 +1,7 @@
 -- The test says yes exactly when the rules of a store hold (specs/Buffer.antt, specs/Chains.antt).
 use mathlib.Core.Bool.{true, false≢true}
 use mathlib.Core.List.{List, ◌++◌, map}
-use mathlib.Core.Logic.{◌↔◌, ◌≢◌}
+use mathlib.Core.Logic.{◌↔◌}
 use mathlib.Core.Option.{Option, none, some}
 use mathlib.Core.Path.{◌≡◌, refl, sym, ap, ap₂, ◌∙◌, subst}
 use Prim.Native.Nat.{ℕ, ◌+◌, ◌≤◌}

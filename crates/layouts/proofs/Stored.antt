@@ -1,6 +1,6 @@
 -- The layout of the store has the laws of a layout.
 use mathlib.Core.Path.{ap, ◌∙◌}
-use Prim.Native.Nat.{ℕ, ◌+◌, ◌-◌}
+use Prim.Native.Nat.{ℕ, ◌+◌}
 use lib.ListN.{length, length-map}
 use Rattle.layouts.specs.Buffer.{tuple_at, used_of, free_of, tuples_of}
 use Rattle.model.specs.Layouts.{Lawful}

@@ -1,4 +1,4 @@
-use Prim.Native.Nat.{◌+◌, ◌-◌}
+use Prim.Native.Nat.{◌+◌}
 use lib.ListN.{length}
 use mathlib.Core.Path.{refl, ap, ◌∙◌}
 use Rattle.fresh.specs.Prepare.{chained}

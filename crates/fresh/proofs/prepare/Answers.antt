@@ -1,6 +1,5 @@
 use Rattle.fresh.proofs.Preparing.{tested_fits, prepared_records, prepares, after_prepared, refuses, after_refused}
 use native.Mathlib.Omega.{arith}
-use borrow.Author.Rules.{rules}
 use Rattle.fresh.proofs.prepare.Goals as goal
 
 pub returns-then-not-fits_length : goal.returns-then-not-fits_length

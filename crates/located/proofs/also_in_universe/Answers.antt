@@ -1,6 +1,4 @@
 use Rattle.located.proofs.Nearby.{also_there, also_apart}
-use Rattle.located.proofs.also_in_universe.Reads as reads
-use Rattle.located.proofs.also_in_universe.Lts as lts
 use Rattle.located.proofs.also_in_universe.Goals as goal
 
 pub returns-then-s-eq0 : goal.returns-then-s-eq0

@@ -1,6 +1,4 @@
 use Rattle.located.proofs.Nearby.{farther_second, farther_node}
-use Rattle.located.proofs.farther.Reads as reads
-use Rattle.located.proofs.farther.Lts as lts
 use Rattle.located.proofs.farther.Goals as goal
 
 pub returns-then-f : goal.returns-then-f

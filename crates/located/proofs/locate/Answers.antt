@@ -1,11 +1,4 @@
 use Rattle.located.proofs.Nearby.{farther_hint, sought_hint, located_unread, located_absent, located_both, located_alone, located_node_lem}
-use Rattle.located.proofs.locate.Reads as reads
-use Rattle.located.proofs.locate.Lts as lts
-use Rattle.located.proofs.farther.Reads as farther-reads
-use Rattle.located.proofs.locate_nodes.Reads as locate-nodes-reads
-use Rattle.located.proofs.seek_node.Reads as seek-node-reads
-use Rattle.located.proofs.space_alone.Reads as space-alone-reads
-use Rattle.located.proofs.with_node.Reads as with-node-reads
 use Rattle.located.proofs.locate.Goals as goal
 
 pub returns-then-not-reads : goal.returns-then-not-reads

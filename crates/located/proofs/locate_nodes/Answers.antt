@@ -1,8 +1,4 @@
 use Rattle.located.proofs.Nearby.{sought_hint, nodes_located}
-use Rattle.located.proofs.locate_nodes.Reads as reads
-use Rattle.located.proofs.locate_nodes.Lts as lts
-use Rattle.located.proofs.seek_node.Reads as seek-node-reads
-use Rattle.located.proofs.with_nodes.Reads as with-nodes-reads
 use Rattle.located.proofs.locate_nodes.Goals as goal
 
 pub seek_node-second-requires : goal.seek_node-second-requires

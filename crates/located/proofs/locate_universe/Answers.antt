@@ -1,9 +1,5 @@
 use Rattle.chain.proofs.Hints.{no_hint}
 use Rattle.located.proofs.Nearby.{universe_none, universe_spared, universe_too}
-use Rattle.located.proofs.locate_universe.Reads as reads
-use Rattle.located.proofs.locate_universe.Lts as lts
-use Rattle.located.proofs.near_nodes.Reads as near-nodes-reads
-use Rattle.located.proofs.nowhere.Reads as nowhere-reads
 use Rattle.located.proofs.locate_universe.Goals as goal
 
 pub returns-then-f-eq0 : goal.returns-then-f-eq0

@@ -1,7 +1,4 @@
 use Rattle.located.proofs.Nearby.{before_hint, nodes_told}
-use Rattle.located.proofs.near_nodes.Reads as reads
-use Rattle.located.proofs.near_nodes.Lts as lts
-use Rattle.located.proofs.before_node.Reads as before-node-reads
 use Rattle.located.proofs.near_nodes.Goals as goal
 
 pub before_node-second-requires : goal.before_node-second-requires

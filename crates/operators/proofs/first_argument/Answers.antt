@@ -1,7 +1,4 @@
 use Rattle.operators.proofs.Decoding.{first_is_space, first_is_node}
-use Rattle.operators.proofs.first_argument.Reads as reads
-use Rattle.operators.proofs.first_argument.Lts as lts
-use Rattle.operators.proofs.space_name.Reads as space-name-reads
 use Rattle.operators.proofs.first_argument.Goals as goal
 
 pub returns-then-row : goal.returns-then-row

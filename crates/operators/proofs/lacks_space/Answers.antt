@@ -1,6 +1,4 @@
 use Rattle.operators.proofs.Decoding.{lacks_none, lacks_asked}
-use Rattle.operators.proofs.lacks_space.Reads as reads
-use Rattle.operators.proofs.lacks_space.Lts as lts
 use Rattle.operators.proofs.lacks_space.Goals as goal
 
 pub returns-then-not-nothing : goal.returns-then-not-nothing

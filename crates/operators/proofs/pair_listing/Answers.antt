@@ -1,6 +1,5 @@
 use Rattle.operators.proofs.Rows.{row_30, row_33, row_36, row_39, row_42}
 use native.Mathlib.Omega.{arith}
-use mathlib.Core.Logic.{inl, inr}
 use borrow.Author.Rules.{rules}
 use Rattle.operators.proofs.pair_listing.Goals as goal
 

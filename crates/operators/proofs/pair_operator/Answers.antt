@@ -1,6 +1,5 @@
 use Rattle.operators.proofs.Rows.{row_1, row_4, row_7, row_9}
 use native.Mathlib.Omega.{arith}
-use mathlib.Core.Logic.{inl, inr}
 use borrow.Author.Rules.{rules}
 use Rattle.operators.proofs.pair_operator.Goals as goal
 

@@ -1,6 +1,5 @@
 use Rattle.operators.proofs.Rows.{row_12, row_15, row_18, row_21, row_24, row_27}
 use native.Mathlib.Omega.{arith}
-use mathlib.Core.Logic.{inl, inr}
 use borrow.Author.Rules.{rules}
 use Rattle.operators.proofs.pair_removal.Goals as goal
 

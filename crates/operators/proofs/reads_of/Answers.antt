@@ -1,6 +1,5 @@
 use Rattle.operators.proofs.Ranges.{reads_0, reads_1_3, reads_4_6, reads_7_14, reads_15_17, reads_18_20, reads_21_23, reads_24_26, reads_27_29}
 use Rattle.operators.proofs.Ranges.{reads_30_35, reads_36_38, reads_39_41, reads_42_44, reads_45, reads_46, reads_from_47, reads_50_55, reads_52, reads_from_56, reads_57}
-use mathlib.Core.Logic.{inl, inr}
 use mathlib.Core.Path.{◌∙◌}
 use Rattle.operators.proofs.reads_of.Goals as goal
 

@@ -1,7 +1,4 @@
 use Rattle.operators.proofs.Decoding.{selects_unread, selects_read}
-use Rattle.operators.proofs.selects_nothing.Reads as reads
-use Rattle.operators.proofs.selects_nothing.Lts as lts
-use Rattle.operators.proofs.is_nothing.Reads as is-nothing-reads
 use Rattle.operators.proofs.selects_nothing.Goals as goal
 
 pub returns-then-not-reads : goal.returns-then-not-reads

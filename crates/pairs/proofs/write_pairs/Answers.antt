@@ -1,5 +1,5 @@
 use mathlib.Core.Path.{◌≡◌, sym, ◌∙◌}
-use mathlib.Core.Bool.{true, false}
+use mathlib.Core.Bool.{true}
 use Rattle.entries.specs.Cursors.{entry_of, is_there}
 use Rattle.pairs.proofs.WrittenPairs.{none_written, all_pairs, turn_enough, turn_wrote, turn_falls}
 use Rattle.pairs.proofs.write_pairs.Goals as goal

@@ -1,4 +1,3 @@
-use Prim.Native.Nat.{◌-◌}
 use borrow.Author.Rules.{rules}
 use Rattle.print.proofs.Entries.{enter_start, enter_length, enter_room, enter_more, enter_end}
 use Rattle.print.proofs.put_entries.Goals as goal

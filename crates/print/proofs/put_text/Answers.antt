@@ -1,4 +1,3 @@
-use Prim.Native.Nat.{◌-◌}
 use native.Mathlib.Omega.{arith}
 use Rattle.print.proofs.Copying.{copy_start, copy_length, copy_more, copy_end}
 use Rattle.print.proofs.put_text.Goals as goal

@@ -1,6 +1,5 @@
 use Rattle.chain.proofs.Hints.{no_hint}
 use Rattle.removals.proofs.Collects.{removing_none, removing_linked, removing_next, removing_all}
-use Prim.Native.Nat.{◌-◌}
 use Rattle.removals.proofs.remove_each.Goals as goal
 
 pub loop-i-init : goal.loop-i-init

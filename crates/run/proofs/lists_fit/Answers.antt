@@ -1,4 +1,3 @@
-use Prim.Native.Nat.{◌-◌}
 use Rattle.run.proofs.Fits.{fit_start, fit_short, fit_next, fit_end}
 use Rattle.run.proofs.lists_fit.Goals as goal
 

@@ -1,5 +1,4 @@
 use native.Mathlib.Omega.{arith}
-use Prim.Native.Nat.{◌-◌}
 use borrow.Author.Rules.{rules}
 use Rattle.run.proofs.Turns.{run_start, run_end, room_fits, part_sized, run_turn}
 use Rattle.run.proofs.run_all.Goals as goal

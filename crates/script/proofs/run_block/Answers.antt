@@ -1,6 +1,5 @@
 use Rattle.lines.proofs.LineLaws.{line_within}
 use Rattle.script.proofs.Turns.{run_start, run_next_line, run_sized, run_short, run_whole, next_of}
-use Prim.Native.Nat.{◌-◌}
 use native.Mathlib.Omega.{arith}
 use borrow.Author.Rules.{rules}
 use Rattle.script.proofs.run_block.Goals as goal

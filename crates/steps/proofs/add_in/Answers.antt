@@ -1,12 +1,5 @@
 use Rattle.steps.proofs.Named.{main_hint_lem}
 use Rattle.steps.proofs.Creates.{adding_first, adding_second, added_one, added_two, kept_twice, second_kept}
-use Rattle.steps.proofs.add_in.Reads as reads
-use Rattle.steps.proofs.add_in.Lts as lts
-use Rattle.edit.proofs.add_missing.Reads as add-missing-reads
-use Rattle.steps.proofs.is_adjacent.Reads as is-adjacent-reads
-use Rattle.steps.proofs.main_hint.Reads as main-hint-reads
-use Rattle.steps.proofs.main_key.Reads as main-key-reads
-use Rattle.steps.proofs.reversed_key.Reads as reversed-key-reads
 use Rattle.steps.proofs.add_in.Goals as goal
 
 pub add_missing-requires : goal.add_missing-requires

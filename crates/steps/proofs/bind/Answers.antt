@@ -1,11 +1,4 @@
 use Rattle.steps.proofs.Named.{bind_one, bind_two, main_hint_lem, hint_assigned}
-use Rattle.steps.proofs.bind.Reads as reads
-use Rattle.steps.proofs.bind.Lts as lts
-use Rattle.edit.proofs.assign_value.Reads as assign-value-reads
-use Rattle.steps.proofs.is_adjacent.Reads as is-adjacent-reads
-use Rattle.steps.proofs.main_hint.Reads as main-hint-reads
-use Rattle.steps.proofs.main_key.Reads as main-key-reads
-use Rattle.steps.proofs.reversed_key.Reads as reversed-key-reads
 use Rattle.steps.proofs.bind.Goals as goal
 
 pub assign_value-requires : goal.assign_value-requires

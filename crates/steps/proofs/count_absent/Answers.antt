@@ -1,7 +1,4 @@
 use Rattle.steps.proofs.Creates.{one_present, one_absent}
-use Rattle.steps.proofs.count_absent.Reads as reads
-use Rattle.steps.proofs.count_absent.Lts as lts
-use Rattle.chain.proofs.has.Reads as has-reads
 use Rattle.steps.proofs.count_absent.Goals as goal
 
 pub returns-then-has : goal.returns-then-has

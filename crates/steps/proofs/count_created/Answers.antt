@@ -1,8 +1,4 @@
 use Rattle.steps.proofs.Creates.{count_universe, count_space, count_both, two_spaces_sum}
-use Rattle.steps.proofs.count_created.Reads as reads
-use Rattle.steps.proofs.count_created.Lts as lts
-use Rattle.steps.proofs.is_space.Reads as is-space-reads
-use Rattle.steps.proofs.missing_in.Reads as missing-in-reads
 use Rattle.steps.proofs.count_created.Goals as goal
 
 pub returns-then-f-eq0 : goal.returns-then-f-eq0

@@ -1,9 +1,5 @@
 use Rattle.steps.proofs.Named.{near_kept}
 use Rattle.steps.proofs.Creates.{room_in_space, room_in_universe, created_space, created_both}
-use Rattle.steps.proofs.create.Reads as reads
-use Rattle.steps.proofs.create.Lts as lts
-use Rattle.steps.proofs.add_in.Reads as add-in-reads
-use Rattle.steps.proofs.is_space.Reads as is-space-reads
 use Rattle.steps.proofs.create.Goals as goal
 
 pub add_in-requires : goal.add_in-requires

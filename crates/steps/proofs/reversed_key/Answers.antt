@@ -1,6 +1,4 @@
 use borrow.Author.Rules.{rules}
-use Rattle.steps.proofs.reversed_key.Reads as reads
-use Rattle.steps.proofs.reversed_key.Lts as lts
 use Rattle.steps.proofs.reversed_key.Goals as goal
 
 pub returns : goal.returns

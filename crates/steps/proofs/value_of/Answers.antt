@@ -1,9 +1,4 @@
 use Rattle.steps.proofs.Named.{value_named, main_hint_lem}
-use Rattle.steps.proofs.value_of.Reads as reads
-use Rattle.steps.proofs.value_of.Lts as lts
-use Rattle.chain.proofs.value_at.Reads as value-at-reads
-use Rattle.steps.proofs.main_hint.Reads as main-hint-reads
-use Rattle.steps.proofs.main_key.Reads as main-key-reads
 use Rattle.steps.proofs.value_of.Goals as goal
 
 pub value_at-requires : goal.value_at-requires

@@ -1,4 +1,4 @@
-use Rattle.model.proofs.Bools.{or_first_lem, or_second, and_second, and_first, not_no, not_yes}
+use Rattle.model.proofs.Bools.{or_first_lem, or_second, and_second, and_first}
 use Rattle.model.specs.Steps.{node_taken}
 use borrow.Author.Tests.{eq-eqb, ne_eqb}
 use mathlib.Core.Path.{◌∙◌, sym}

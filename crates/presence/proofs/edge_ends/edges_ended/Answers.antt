@@ -1,5 +1,3 @@
-use borrow.Author.Tests.{not-true, not-false}
-use mathlib.Core.Logic.{⊎_elim}
 use Rattle.presence.proofs.EdgeEnds.{spanning_start, at_tuple, own_space, no_edge, no_first_end, no_second_end, both_ends, go_on, leave, finish}
 use Rattle.presence.proofs.Support.{head_some}
 use Rattle.presence.proofs.Rest.{record_inside, on_head, fewer, seek_start, seek_inside, seek_next, seek_fewer}

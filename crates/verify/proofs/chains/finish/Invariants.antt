@@ -1,5 +1,5 @@
 use mathlib.Core.Path.{◌≡◌}
-use Prim.Native.Nat.{◌≤◌, ◌-◌}
+use Prim.Native.Nat.{◌≤◌}
 use Rattle.layouts.specs.Buffer.{capacity_of}
 use Rattle.verify.specs.Checks.{walked_on}
 use Rattle.verify.proofs.chains.finish.Given as goal

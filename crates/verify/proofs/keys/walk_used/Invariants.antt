@@ -1,4 +1,3 @@
-use Prim.Native.Nat.{◌-◌}
 use mathlib.Core.Path.{◌≡◌}
 use Rattle.layouts.specs.Buffer.{capacity_of}
 use Rattle.verify.specs.Checks.{used_run, used_run_of}
