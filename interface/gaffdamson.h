@@ -1,8 +1,8 @@
 /*
  * Gaffdamson: the graph store of a knitting pattern compiler, for C99 and C++.
  *
- * Link with libgaffdamson.a, which `rt staticlib gaffdamson` writes to
- * target/staticlib. The functions keep nothing between calls and allocate
+ * Link with libgaffdamson.a, which `rt lib` in crates/gaffdamson writes to
+ * crates/gaffdamson/out. The functions keep nothing between calls and allocate
  * nothing; of the C library they need memset and the like alone. All that a
  * graph has stands in a buffer of words that the caller lends to each call.
  * docs/STORE.md says what each word of it means, and exactly what each

@@ -3,7 +3,7 @@
 use std::env;
 use std::path::PathBuf;
 
-/// The folder that has the library, if it is not that of `rt staticlib`.
+/// The folder that has the library, if it is not that of `rt lib`.
 const FOLDER: &str = "GAFFDAMSON_LIBRARY";
 
 fn main() {
@@ -17,12 +17,12 @@ fn main() {
         println!("cargo::rustc-link-lib=static=gaffdamson");
     } else {
         println!(
-            "cargo::error=there is no {}: make it with `rt staticlib gaffdamson`, or name its folder in {FOLDER}",
+            "cargo::error=there is no {}: make it with `rt lib` in crates/gaffdamson, or name its folder in {FOLDER}",
             library.display()
         );
     }
 }
 
 fn default_folder() -> PathBuf {
-    PathBuf::from(env!("CARGO_MANIFEST_DIR")).join("../../target/staticlib")
+    PathBuf::from(env!("CARGO_MANIFEST_DIR")).join("../../crates/gaffdamson/out")
 }

@@ -1,4 +1,4 @@
-//! The inputs of the program crates: scripts whose output `rt check` compares.
+//! The inputs of the program crates: scripts whose output `rt ci` compares.
 //! Those here are long, or hold bytes that a text doesn't show.
 
 mod blocks;

@@ -52,7 +52,7 @@ fn main() -> ExitCode {
 fn options() -> Option<Options> {
     let mut options = Options {
         repetitions: REPETITIONS,
-        slips: Path::new(env!("CARGO_MANIFEST_DIR")).join("../target/bin/slips"),
+        slips: Path::new(env!("CARGO_MANIFEST_DIR")).join("../crates/slips/out/slips"),
     };
     let words: Vec<String> = env::args().skip(1).collect();
     for two in words.chunks(2) {

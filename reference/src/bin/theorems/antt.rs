@@ -27,18 +27,16 @@ const MODULES: [&str; 12] = [
 
 /// What the theorems name besides the definitions that unfold.
 const OPENING: &str = "\
-use mathlib.Core.Bool.{true, false}
-use mathlib.Core.List.{List, [], _∷_}
-use mathlib.Core.Path.{_≡_, refl}
-use Prim.Native.Nat.{ℕ}
-use lib.ListN.{length, replicate}
-use Rattle·model·specs.specs.declared.Space.{Space}
-use Rattle·model·specs.specs.declared.Space.the-variants.{Universe, Numbered, Nothing}
-use Rattle·model·specs.specs.Keys.{Tuple}
-use Rattle·model·specs.specs.Tuples.{Tuples, fresh}
-use Rattle·model·specs.specs.Pairs.{pair}
-use Rattle·model·specs.specs.Steps.{Reply, refusal, name, added, removed, valued, yesNo, pairs}
-use Rattle·model·specs.specs.Machine.{Request, calling}
+use Rattle.std.specs.Prelude.{true, false, List, [], ◌∷◌, ◌≡◌, ℕ, length}
+use Rattle.std.proofs.Common.{refl}
+use Rattle.std.proofs.Math.ListN.{replicate}
+use Rattle.model.specs.declared.Space.{Space}
+use Rattle.model.specs.declared.Space.TheVariants.{Universe, Numbered, Nothing}
+use Rattle.model.specs.Keys.{Tuple}
+use Rattle.model.specs.Tuples.{Tuples, fresh}
+use Rattle.model.specs.Pairs.{pair}
+use Rattle.model.specs.Steps.{Reply, refusal, name, added, removed, valued, yes_no, pairs}
+use Rattle.model.specs.Machine.{Request, calling}
 ";
 
 const ABBREVIATIONS: &str = "
@@ -72,7 +70,7 @@ impl Definitions {
             let names = unfoldable_names(&text);
             if !names.is_empty() {
                 let listed = names.join(", ");
-                uses += &format!("use Rattle·model·specs.specs.{module}.{{{listed}}}\n");
+                uses += &format!("use Rattle.model.specs.{module}.{{{listed}}}\n");
                 unfolding += &format!(" {}", names.join(" "));
             }
         }
@@ -102,10 +100,10 @@ impl Definitions {
         let theorems = [
             ("answers", format!("answers {given}"), answers.clone()),
             ("state", format!("final {given}"), tuples),
-            ("added", format!("allAdded {answers}"), added.to_string()),
+            ("added", format!("all_added {answers}"), added.to_string()),
             (
                 "removed",
-                format!("allRemoved {answers}"),
+                format!("all_removed {answers}"),
                 removed.to_string(),
             ),
         ];
@@ -120,7 +118,7 @@ impl Definitions {
         let name = format!("buffer-{place}");
         let given = format!("{name}-words");
         let is_store = buffer::is_store(words);
-        let test = format!("isStore {given}");
+        let test = format!("is_store {given}");
         let mut text = abbreviation(&given, "List ℕ", &listed(words.iter()))
             + &self.theorem(&format!("{name}-test"), &test, &is_store.to_string());
         if is_store {
@@ -128,12 +126,12 @@ impl Definitions {
             let free = buffer::free_count(words).to_string();
             text += &self.theorem(
                 &format!("{name}-tuples"),
-                &format!("tuplesOf {given}"),
+                &format!("tuples_of {given}"),
                 &tuples,
             );
             text += &self.theorem(
                 &format!("{name}-free"),
-                &format!("length (freeOf {given})"),
+                &format!("length (free_of {given})"),
                 &free,
             );
         }
@@ -148,13 +146,13 @@ impl Definitions {
         let fits = prepared.is_ok().to_string();
         let mut text = self.theorem(
             &format!("{name}-fits"),
-            &format!("fitsLength {zeros}"),
+            &format!("fits_length {zeros}"),
             &fits,
         );
         if let Ok(capacity) = prepared {
             text += &self.theorem(
                 &format!("{name}-capacity"),
-                &format!("capacityOf {zeros}"),
+                &format!("capacity_of {zeros}"),
                 &capacity.to_string(),
             );
         }
@@ -199,7 +197,7 @@ fn written_answer(answer: &Answer) -> String {
         Answer::Added(name, count) => format!("added {name} {count}"),
         Answer::Removed(name, count) => format!("removed {name} {count}"),
         Answer::Value(value) => format!("valued {value}"),
-        Answer::YesNo(yes) => format!("yesNo {yes}"),
+        Answer::YesNo(yes) => format!("yes_no {yes}"),
         Answer::List(entries) => {
             let pairs = listed(entries.iter().map(|(g, m)| format!("pair {g} {m}")));
             format!("pairs {} {pairs}", entries.len())
