@@ -1,4 +1,4 @@
--- The words after a run of single writes are those of `insertAfter` and `removeAfter`.
+-- The words after a run of single writes are those of `insert_after` and `remove_after`.
 use mathlib.Core.List.{List}
 use mathlib.Core.Path.{◌≡◌, ap}
 use Prim.Native.Nat.{ℕ, ◌+◌, ◌-◌, ◌≤◌}

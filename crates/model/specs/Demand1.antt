@@ -1,5 +1,5 @@
 -- Demand 1 of one call, on any buffer and with any answer list, whether the list is of words or of pairs.
--- That the call ends with the answer that document 01 names, on every buffer and for every number, is `OneCall.noStore` and `OneCall.onStore`.
+-- That the call ends with the answer that document 01 names, on every buffer and for every number, is `OneCall.no_store` and `OneCall.on_store`.
 use Rattle.std.specs.Prelude.{true, false, List, ◌↔◌, ◌≡◌, ℕ}
 use Rattle.model.specs.declared.Call.{Call}
 use Rattle.model.specs.declared.Answer.{Answer}

@@ -152,7 +152,7 @@ after (Destroy r) f ts = destroyed r f ts
 after (Lists l) f ts = ts
 
 -- what the step answers; `first` is the call's first argument.
--- Request 2: "The number is the difference of the tuple counts before and after." (`-` ends at 0; `counts-the-difference` in proofs/Changes.antt shows that nothing is cut off.)
+-- Request 2: "The number is the difference of the tuple counts before and after." (`-` ends at 0; `counts_the_difference` in proofs/Changes.antt shows that nothing is cut off.)
 unfoldable pub reply : Operator → ℕ → Fields → Tuples → Reply
 reply (Create o) first f ts = added first (length (after (Create o) f ts) - length ts)
 reply (Bind o) first f ts = name first

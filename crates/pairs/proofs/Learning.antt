@@ -1,4 +1,4 @@
--- What a caller learns from the contract of a function that is proved by a walk of its MIR: its one clause, a plain fact, read at every model.
+-- What a caller learns from the contract of a function, read from the clause itself: its one clause, a plain fact, read at every model.
 use mathlib.Core.Path.{refl}
 use base.Logic.{emp}
 use borrow.Fn.Claims.{AllOf}

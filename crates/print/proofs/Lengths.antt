@@ -1,4 +1,4 @@
--- No line is longer than `mostLine` bytes: what a caller lends that much for.
+-- No line is longer than `most_line` bytes: what a caller lends that much for.
 use mathlib.Core.Bool.{Bool, true, false}
 use mathlib.Core.List.{List, [], ◌∷◌, map}
 use Prim.Native.Nat.{ℕ, zero, suc, ◌+◌, ◌*◌, ◌/◌, ◌%◌, ◌≤◌}

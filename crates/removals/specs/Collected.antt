@@ -12,7 +12,7 @@ use Rattle.model.specs.Steps.{node_taken}
 abbrev pub edges_of : Direction → Fields → ℕ → ℕ → EdgesOf
 edges_of d f g m = record { d = d; s = f.s; n = f.n; g = g; m = m }
 
--- "each is removed as by DUN" (`removeNodes`, of words)
+-- "each is removed as by DUN" (`remove_nodes`, of words)
 unfoldable pub remove_each : ℕ → List ℕ → Tuples → Tuples
 remove_each s [] ts = ts
 remove_each s (n ∷ ns) ts = remove_each s ns (remove (node_taken s n) ts)

@@ -1,4 +1,4 @@
--- What C, B, V and X work on, key by key (specs/Objects.antt), is what the definitions say (`objectKeys`).
+-- What C, B, V and X work on, key by key (specs/Objects.antt), is what the definitions say (`object_keys`).
 use mathlib.Core.Bool.{Bool, true, false, cond, not, ◌||◌, or-false}
 use mathlib.Core.List.{List, [], ◌∷◌}
 use mathlib.Core.Logic.{◌≢◌}

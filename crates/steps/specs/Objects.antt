@@ -28,13 +28,13 @@ main_hint Object.US near = near.space
 
 -- ---- keys
 
--- the first of a pair's keys in space s (`pairKeys`)
+-- the first of a pair's keys in space s (`pair_keys`)
 unfoldable pub pair_key : Direction → ℕ → Fields → Key
 pair_key Outpointing s f = edge_key s f.n f.g f.m
 pair_key Inpointing s f = edge_key s f.m f.g f.n
 pair_key Adjacent s f = edge_key s f.n f.g f.m
 
--- the first of an object's keys in space s (`objectKeys`)
+-- the first of an object's keys in space s (`object_keys`)
 unfoldable pub main_key : Object → ℕ → Fields → Key
 main_key (Object.P d) s f = pair_key d s f
 main_key Object.UN s f = node_key s f.n
