@@ -1,10 +1,17 @@
 #![tactic(auto)]
 // A script from a reader, its answers to a writer; the program gives it standard input and standard output.
-// What a script prints is in the contracts of crate script. A read that fails counts as the end of the input.
-// Where a write fails, the rest of that block is lost, and the script is run to its end all the same.
-ghost use Rattle.std.specs.Prelude.{◌≤◌, length};
+// A read that fails counts as the end of the input. Where a write fails, the rest of that block is lost, and the script is run to its end all the same.
+ghost use Rattle.std.specs.Prelude.{◌≡◌, ◌≤◌, ◌<◌, ◌+◌, length, take, drop, true, false, IfOk, OnErr, IfSome};
+ghost use Rattle.std.specs.Io.KnownBytes.{Appends, Consumes, IsAtEnd, Keeps};
+ghost use Rattle.model.specs.Steps.{refusal};
+ghost use Rattle.layouts.specs.Stored.{stored};
+ghost use Rattle.lines.specs.Lines.{lines_of};
+ghost use Rattle.print.specs.Answers.{answer_line};
+ghost use Rattle.script.specs.Scripts.{lines_output, script_output, slips_output};
 ghost use Rattle.script.specs.Runs.{RunReady, ScriptRun};
+ghost use Rattle.program.specs.Transfers.{Transferred};
 
+use std::io;
 use std::io::{Read, Write};
 
 // The words of a store with 2,048 records: 4, and 6 for each.
@@ -16,76 +23,135 @@ const INPUT_BYTES: usize = 65537;
 // The bytes of a block of output: room for any line, and for many short ones.
 const OUTPUT_BYTES: usize = 65536;
 
-// Reads until the bytes are full, the input ends or a read fails; says how many of them were read.
-fn read_full<R: Read>(input: &mut R, bytes: &mut [u8]) -> usize
-    ensures { result ≤ length bytes.new }
+// Whether a read or a write of a run failed.
+#[derive(Clone, Copy)]
+pub struct Failures {
+    pub read: bool,
+    pub write: bool,
+}
+
+// What was read: how many bytes, and whether a read failed.
+#[derive(Clone, Copy)]
+struct Filled {
+    length: usize,
+    failed: bool,
+}
+
+// One read, into the bytes from place `at` on.
+fn read_at<R: Read>(input: &mut R, bytes: &mut [u8], at: usize) -> io::Result<usize>
+    requires { at < length bytes.old }
+    ensures front { take at bytes.new ≡ take at bytes.old }
+    ensures fits { IfOk result (λ n. at + n ≤ length bytes.new) }
+    ensures read { IfOk result (λ n. Consumes (R.remaining input.old) (R.remaining input.new) (take n (drop at bytes.new))) }
+    ensures end { IfOk result (λ n. n ≡ 0 → IsAtEnd (R.remaining input.new)) }
+    ensures err { OnErr result (Keeps (R.remaining input.old) (R.remaining input.new)) }
+{
+    input.read(&mut bytes[at..])
+}
+
+// Reads until the bytes are full, the input ends or a read fails; what was read stands at their front.
+fn read_full<R: Read>(input: &mut R, bytes: &mut [u8]) -> Filled
+    ensures within { result.length ≤ length bytes.new }
+    ensures read { Consumes (R.remaining input.old) (R.remaining input.new) (take result.length bytes.new) }
+    ensures end { result.failed ≡ false → result.length < length bytes.new → IsAtEnd (R.remaining input.new) }
 {
     let mut done = 0;
     while done < bytes.len() {
-        let read = match input.read(&mut bytes[done..]) {
-            Ok(count) => count,
-            Err(_) => 0,
-        };
-        if read == 0 {
-            break;
+        match read_at(input, bytes, done) {
+            Ok(0) => {
+                return Filled {
+                    length: done,
+                    failed: false,
+                };
+            }
+            Ok(count) => done += count,
+            Err(_) => {
+                return Filled {
+                    length: done,
+                    failed: true,
+                };
+            }
         }
-        done += read;
     }
-    done
+    Filled {
+        length: done,
+        failed: false,
+    }
 }
 
-// Writes all bytes, or those before the first write that fails or takes none.
-fn write_full<W: Write>(output: &mut W, bytes: &[u8]) {
+// Writes the bytes, up to the first write that fails or takes none; says whether all were written.
+fn write_full<W: Write>(output: &mut W, bytes: &[u8]) -> bool
+    ensures { result ≡ true → Appends (W.contents output.old) (W.contents output.new) bytes.now }
+{
     let mut done = 0;
     while done < bytes.len() {
-        let written = match output.write(&bytes[done..]) {
-            Ok(count) => count,
-            Err(_) => 0,
-        };
-        if written == 0 {
-            return;
+        match output.write(&bytes[done..]) {
+            Ok(0) => return false,
+            Ok(count) => done += count,
+            Err(_) => return false,
         }
-        done += written;
     }
+    true
 }
 
-// Runs the lines of a script and writes what they print, block by block.
-fn run_lines<W: Write>(store: &mut [u32], list: &mut [u32], script: &[u8], output: &mut W)
+// Runs the lines of a script and writes what they print, block by block; says whether all was written.
+fn run_lines<W: Write>(store: &mut [u32], list: &mut [u32], script: &[u8], output: &mut W) -> bool
     requires { RunReady store.old list.old }
-    ensures { ScriptRun store.old list.old script.now store.new list.new }
+    ensures ran { ScriptRun store.old list.old script.now store.new list.new }
+    ensures written { result ≡ true → Appends (W.contents output.old) (W.contents output.new) (lines_output (stored.state_of store.old) (lines_of script.now)) }
 {
     let mut out: [u8; OUTPUT_BYTES] = [0; OUTPUT_BYTES];
     let mut at = 0;
+    let mut all_written = true;
     while at < script.len() {
         let block = script::run_block(store, list, script, at, &mut out);
         let length = block.length;
-        write_full(output, &out[..length]);
+        all_written &= write_full(output, &out[..length]);
         at = block.next;
     }
+    all_written
 }
 
-// Runs a script on a fresh store with 2,048 records and an answer list of 2,048 places.
-fn run_script<W: Write>(script: &[u8], output: &mut W) {
+// Runs a script on a fresh store with 2,048 records and an answer list of 2,048 places; says whether all was written.
+fn run_script<W: Write>(script: &[u8], output: &mut W) -> bool
+    ensures { result ≡ true → Appends (W.contents output.old) (W.contents output.new) (script_output script.now) }
+{
     let mut store: [u32; STORE_WORDS] = [0; STORE_WORDS];
     let mut list: [u32; LIST_PLACES] = [0; LIST_PLACES];
     fresh::prepare(&mut store);
-    run_lines(&mut store, &mut list, script, output);
+    run_lines(&mut store, &mut list, script, output)
 }
 
-// Refuses an input that is too long.
-fn refuse<W: Write>(output: &mut W) {
+// Refuses an input that is too long; says whether the refusal was written.
+fn refuse<W: Write>(output: &mut W) -> bool
+    ensures { result ≡ true → Appends (W.contents output.old) (W.contents output.new) (answer_line (refusal 11)) }
+{
     let mut out: [u8; OUTPUT_BYTES] = [0; OUTPUT_BYTES];
     let length = script::refuse_input(&mut out);
-    write_full(output, &out[..length]);
+    write_full(output, &out[..length])
 }
 
-// The program: reads the input and runs it as a script.
-pub fn run<R: Read, W: Write>(input: &mut R, output: &mut W) {
-    let mut bytes: [u8; INPUT_BYTES] = [0; INPUT_BYTES];
-    let length = read_full(input, &mut bytes);
-    if !script::accepted(length) {
-        refuse(output);
-        return;
+// Runs an input as a script, or refuses it; says whether all was written.
+fn answer<W: Write>(input: &[u8], output: &mut W) -> bool
+    ensures { result ≡ true → Appends (W.contents output.old) (W.contents output.new) (slips_output input.now) }
+{
+    if !script::accepted(input.len()) {
+        return refuse(output);
     }
-    run_script(&bytes[..length], output);
+    run_script(input, output)
+}
+
+// The program: reads its input, at most one byte more than a script may have, and answers it.
+pub fn run<R: Read, W: Write>(input: &mut R, output: &mut W) -> Failures
+    ensures prints { result.read ≡ false → result.write ≡ false → IfSome (R.remaining input.old) (λ bytes. Appends (W.contents output.old) (W.contents output.new) (slips_output bytes)) }
+    ensures transferred { Transferred (R.remaining input.old) (R.remaining input.new) (W.contents output.old) (W.contents output.new) result }
+{
+    let mut bytes: [u8; INPUT_BYTES] = [0; INPUT_BYTES];
+    let filled = read_full(input, &mut bytes);
+    let length = filled.length;
+    let written = answer(&bytes[..length], output);
+    Failures {
+        read: filled.failed,
+        write: !written,
+    }
 }

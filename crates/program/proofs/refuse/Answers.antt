@@ -1,4 +1,8 @@
-use Rattle.std.proofs.Common.{arith, sym, length-take-le}
+use Rattle.std.proofs.Common.{take, length, ap, ◌∙◌, arith, sym, subst, length-take-le, ◌≡◌}
+use Rattle.std.specs.Io.KnownBytes.{Appends}
+use Rattle.model.specs.Steps.{refusal}
+use Rattle.text.proofs.Written.{take_first}
+use Rattle.print.specs.Answers.{answer_line}
 use Rattle.script.proofs.LineRuns.{refusal_length}
 use Rattle.program.proofs.refuse.Goals as goal
 
@@ -7,3 +11,11 @@ slice_bounds-out-end g c = omega (arith, refusal_length, c.refuse_input-length.e
 
 pub slice_bounds-write_full-end : goal.slice_bounds-write_full-end
 slice_bounds-write_full-end g c = sym (length-take-le _ _ (omega (arith, refusal_length, c.refuse_input-length.ensures.place)))
+
+pub returns : goal.returns
+returns g c whole =
+    let out = c.refuse_input-length.new.out in
+    let counted : c.refuse_input-length.result ≡ length (answer_line (refusal 11)) = omega (arith, c.refuse_input-length.ensures.place) in
+    subst (λ bs. Appends (g.W.Write.contents c.args.output.now) (g.W.Write.contents c.write_full.new.output) bs)
+    (ap (λ n. take n out) counted ∙ ap (λ bs. take (length (answer_line (refusal 11))) bs) c.refuse_input-length.ensures.bytes ∙ take_first _ (answer_line (refusal 11)))
+    (c.write_full.ensures whole)
