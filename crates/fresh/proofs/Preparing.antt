@@ -14,7 +14,8 @@ use Rattle.layouts.specs.Buffer.{word, head_words, record_words, next_place, fit
 use Rattle.model.proofs.Bools.{clash, not_yes, not_no}
 use Rattle.layouts.proofs.Sizes.{fits_least, fits_most, some_record, few_records, records_fit}
 use Rattle.words.specs.Words.{Inside, put_next, put_tuple}
-use Rattle.words.proofs.Words.{inside, inside_length, past_head, length_put_word, word_put_word, next_put_next, next_put_next_other, tuple_put_next, past_put_next, length_put_tuple, word_put_tuple, next_put_tuple, tuple_put_tuple, past_put_tuple}
+use Rattle.words.proofs.Words.{inside, inside_length, past_head, length_put_word, word_put_word, next_put_next, next_put_next_other}
+use Rattle.words.proofs.Words.{tuple_put_next, past_put_next, length_put_tuple, word_put_tuple, next_put_tuple, tuple_put_tuple, past_put_tuple}
 use Rattle.fresh.specs.Prepare.{headed, universe_in, chained, prepared_buffer, after_preparing}
 
 -- ---- the chain of free records

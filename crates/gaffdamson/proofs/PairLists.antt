@@ -2,8 +2,8 @@
 -- They rest on what these functions ensure by their own contracts (`Learnt`), so a weaker contract breaks them.
 use mathlib.Core.List.{List, map}
 use Prim.Native.Nat.{ℕ}
-use borrow.Fn.World.{World, ArgsD, ResD}
 use contract.Lifetimes.{Lfts}
+use borrow.Fn.Kinds.{Dens, res_t, ended_of}
 use denote.Triple.Clauses.{AtExit}
 use Rattle.model.specs.declared.Answer.{Answer}
 use Rattle.model.specs.declared.Preparation.TheVariants.{Capacity}
@@ -15,21 +15,17 @@ use Rattle.layouts.proofs.Stored.{stored_lawful}
 use Rattle.model.proofs.Traces.{trace_map}
 use Rattle.model.proofs.CallLists.{MachineStep, whole_prepared}
 use Rattle.pairs.specs.InPairs.{CallInPairs, PairsMade, OneInPairs, exchange_in_pairs}
-use Rattle.pairs.proofs.Learning.{clause, Learns}
 use Rattle.pairs.proofs.Lists.{pairs_machine, pairs_meet_demand_1}
 use Rattle.run.specs.Words.{call_of, answer_in}
 use Rattle.gaffdamson.specs.Calls.{preparation_words}
 use Rattle.gaffdamson.proofs.Lists.{PreparedFromC, c_prepared, read_in_words}
-use Rattle.gaffdamson.specs.contracts.gaffdamson_call_pairs as call_pairs
-
--- what whoever has called `gaffdamson_call_pairs` knows then
-abbrev pub Learnt : (κs : Lfts 2) (a : ArgsD call_pairs.signature κs) (r : ResD call_pairs.signature κs) (e : AtExit call_pairs.ended κs) → Type 0
-Learnt κs a r e = Learns (λ (w : World). (call_pairs.clauses w.𝓛 w.𝓜.mem w.𝓡.run κs a).ensures tt r e) (clause _)
+use Rattle.gaffdamson.proofs.gaffdamson_call_pairs.Kinds as kinds
+use Rattle.gaffdamson.proofs.gaffdamson_call_pairs.Reads as reads
 
 -- a call of `gaffdamson_call_pairs`, from a buffer to a buffer; of the words that it answers, the answer that a caller reads in them
 pub data CalledInPairsFromC : List ℕ → PairsMade → List ℕ → Type 0 where
-  called_from_c : (κs : Lfts 2) (a : ArgsD call_pairs.signature κs) (r : ResD call_pairs.signature κs) (e : AtExit call_pairs.ended κs)
-      → Learnt κs a r e
+  called_from_c : (κs : Lfts 2) (a : Dens κs kinds.ps) (r : (res_t kinds.r κs).Denot) (e : AtExit (ended_of 2 kinds.ps kinds.r) κs)
+      → reads.Learnt κs a r e
       → CalledInPairsFromC a.0.now
       (record {
         call = call_of a.1.0;

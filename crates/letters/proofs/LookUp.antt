@@ -114,7 +114,8 @@ differs_more : (x a : ℕ) (ls : List ℕ) → (x ≡ a → ⊥) → differs x l
 differs_more x a ls n e = and_both _ _ (no_not _ (ne_eqb x a n)) e
 
 -- a word with another first letter is no operator
-pub no_first : (w : Text) → (get_or w 0 0 ≡ C → ⊥) → (get_or w 0 0 ≡ B → ⊥) → (get_or w 0 0 ≡ «V» → ⊥) → (get_or w 0 0 ≡ X → ⊥) → (get_or w 0 0 ≡ D → ⊥) → (get_or w 0 0 ≡ S → ⊥) → 0 ≡ operator_number w
+pub no_first : (w : Text) → (get_or w 0 0 ≡ C → ⊥) → (get_or w 0 0 ≡ B → ⊥) → (get_or w 0 0 ≡ «V» → ⊥) → (get_or w 0 0 ≡ X → ⊥) → (get_or w 0 0 ≡ D → ⊥) → (get_or w 0 0 ≡ S → ⊥)
+    → 0 ≡ operator_number w
 unfolding operator_words
 no_first w c b v x d s =
     no_operator_lem (λ (t : Text). differs (get_or t 0 0) (C ∷ B ∷ «V» ∷ X ∷ D ∷ S ∷ [])) w
@@ -130,7 +131,8 @@ no_first w c b v x d s =
 abbrev pub other_second : ℕ → Text → Bool
 other_second a w = begins a w && differs (get_or w 1 0) (O ∷ I ∷ A ∷ U ∷ [])
 
-pub no_second : (a : ℕ) (w : Text) → begins a w ≡ true → (get_or w 1 0 ≡ O → ⊥) → (get_or w 1 0 ≡ I → ⊥) → (get_or w 1 0 ≡ A → ⊥) → (get_or w 1 0 ≡ U → ⊥) → NoneOf w (passing (other_second a) operator_words) → 0 ≡ operator_number w
+pub no_second : (a : ℕ) (w : Text) → begins a w ≡ true → (get_or w 1 0 ≡ O → ⊥) → (get_or w 1 0 ≡ I → ⊥) → (get_or w 1 0 ≡ A → ⊥) → (get_or w 1 0 ≡ U → ⊥)
+    → NoneOf w (passing (other_second a) operator_words) → 0 ≡ operator_number w
 no_second a w h o i l u n =
     no_operator_lem (other_second a) w
     (and_both (begins a w) _ h

@@ -47,7 +47,8 @@ digits_past most a w h = go (all_digits w) (leb (number_after a w) most) (lt-leb
     go true q e = ap (λ (t : Bool). cond t (some (number_after a w)) none) e
     go false q e = refl
 
-one_digit : (most a d : ℕ) (w : Text) (i : ℕ) → i < length w → digit_zero ≤ get_or w i 0 → get_or w i 0 ≤ digit_zero + 9 → d ≡ get_or w i 0 - digit_zero → read_digits most a (drop i w) ≡ read_digits most (a * 10 + d) (drop (i + 1) w)
+one_digit : (most a d : ℕ) (w : Text) (i : ℕ) → i < length w → digit_zero ≤ get_or w i 0 → get_or w i 0 ≤ digit_zero + 9 → d ≡ get_or w i 0 - digit_zero
+    → read_digits most a (drop i w) ≡ read_digits most (a * 10 + d) (drop (i + 1) w)
 one_digit most a d w i h l u e =
     ap (read_digits most a) (rest w i h)
     ∙ digits_on most a _ _ (digit_yes _ l u)
@@ -79,7 +80,8 @@ module _ (most : ℕ) (w : Text) (end value i : ℕ) (S : read_digits most 0 w �
   pub digit_taken : (d : ℕ) → i < length w → digit_zero ≤ get_or w i 0 → get_or w i 0 ≤ digit_zero + 9 → d ≡ get_or w i 0 - digit_zero → read_digits most 0 w ≡ read_digits most (value * 10 + d) (drop (i + 1) w)
   digit_taken d h l u e = S ∙ one_digit most value d w i h l u e
 
-  pub stop_past : (d limit : ℕ) → i < length w → digit_zero ≤ get_or w i 0 → get_or w i 0 ≤ digit_zero + 9 → d ≡ get_or w i 0 - digit_zero → limit < value * 10 + d → limit ≡ most → Unreadable ≡ as_number (read_digits most 0 w) end
+  pub stop_past : (d limit : ℕ) → i < length w → digit_zero ≤ get_or w i 0 → get_or w i 0 ≤ digit_zero + 9 → d ≡ get_or w i 0 - digit_zero → limit < value * 10 + d → limit ≡ most
+      → Unreadable ≡ as_number (read_digits most 0 w) end
   unfolding as_number
   stop_past d limit h l u e past k = sym (ap (λ (o : Option ℕ). as_number o end) (digit_taken d h l u e ∙ digits_past most (value * 10 + d) (drop (i + 1) w) (omega arith)))
 
@@ -112,5 +114,6 @@ digits_whole most [] n e = absurd (n refl)
 digits_whole most (b ∷ []) n e = ap (λ (t : Bool). cond (t && leb (number_after 0 (b ∷ [])) most) (some (number_after 0 (b ∷ []))) none) (and-true (is_digit b))
 digits_whole most (b ∷ c ∷ bs) n e = rw e
 
-pub digits_read : (most : ℕ) (w : Text) (end : ℕ) (r : Bool) → (length w ≡ 0 → ⊥) → r ≡ leading_zero w → r ≡ false → (x : Argument) → x ≡ as_number (read_digits most 0 w) end → x ≡ as_number (read_number most w) end
+pub digits_read : (most : ℕ) (w : Text) (end : ℕ) (r : Bool) → (length w ≡ 0 → ⊥) → r ≡ leading_zero w → r ≡ false → (x : Argument) → x ≡ as_number (read_digits most 0 w) end
+    → x ≡ as_number (read_number most w) end
 digits_read most w end r n e f x k = k ∙ ap (λ (o : Option ℕ). as_number o end) (digits_whole most w n (sym e ∙ f))

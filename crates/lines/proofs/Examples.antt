@@ -42,7 +42,8 @@ table_read :
     × (read_line (X ∷ U ∷ N ∷ blank ∷ digit 1 ∷ blank ∷ digit 9 ∷ []) ≡ Read (call_of 48 1 0 0 0 (space 9)))
     × (read_line (D ∷ U ∷ S ∷ blank ∷ U ∷ []) ≡ Read (call_of 55 0 0 0 0 Universe))
     × (read_line (C ∷ U ∷ N ∷ blank ∷ digit 0 ∷ []) ≡ Read (call_of 45 0 0 0 0 Universe))
-unfolding read_line read_words words_of in_front arguments operator_number operator_words number_from same_text in_order space_then_value spaces take_number take_space with_number complete read_number plain_digits all_digits is_digit number_after reads_of
+unfolding read_line read_words words_of in_front arguments operator_number operator_words number_from same_text in_order
+    space_then_value spaces take_number take_space with_number complete read_number plain_digits all_digits is_digit number_after reads_of
 table_read = (refl, refl, refl, refl, refl, refl, refl, refl, refl, refl, refl, refl, refl)
 
 -- the longest and the least arguments: `SUS`; `SUS 0`; `SUS 65535`; `BUS U 4294967295`; `BUS 9 0`; `DOGN 1 2 U`
@@ -53,7 +54,8 @@ rules_read :
     × (read_line (B ∷ U ∷ S ∷ blank ∷ U ∷ blank ∷ digit 4 ∷ digit 2 ∷ digit 9 ∷ digit 4 ∷ digit 9 ∷ digit 6 ∷ digit 7 ∷ digit 2 ∷ digit 9 ∷ digit 5 ∷ []) ≡ Read (call_of 52 0 0 0 4294967295 Universe))
     × (read_line (B ∷ U ∷ S ∷ blank ∷ digit 9 ∷ blank ∷ digit 0 ∷ []) ≡ Read (call_of 52 0 0 0 0 (space 9)))
     × (read_line (D ∷ O ∷ G ∷ N ∷ blank ∷ digit 1 ∷ blank ∷ digit 2 ∷ blank ∷ U ∷ []) ≡ Read (call_of 21 1 0 2 0 Universe))
-unfolding read_line read_words words_of in_front arguments operator_number operator_words number_from same_text in_order space_then_value spaces take_number take_space with_number complete read_number plain_digits all_digits is_digit number_after reads_of
+unfolding read_line read_words words_of in_front arguments operator_number operator_words number_from same_text in_order
+    space_then_value spaces take_number take_space with_number complete read_number plain_digits all_digits is_digit number_after reads_of
 rules_read = (refl, refl, refl, refl, refl, refl)
 
 -- lines that read as no call: ``; `CUN`; `CUN U`; `SUS U`; `CUN 01`; `CUN 65536`; `BUS U 4294967296`; `BUS 9`; `CUS`; `VAP 1 5 2`; `CUN 1 `; ` CUN 1`; `CUN  1`; `CUN 1 U 1`
@@ -72,7 +74,8 @@ lines_refused :
     × (read_line (blank ∷ C ∷ U ∷ N ∷ blank ∷ digit 1 ∷ []) ≡ refused)
     × (read_line (C ∷ U ∷ N ∷ blank ∷ blank ∷ digit 1 ∷ []) ≡ refused)
     × (read_line (C ∷ U ∷ N ∷ blank ∷ digit 1 ∷ blank ∷ U ∷ blank ∷ digit 1 ∷ []) ≡ refused)
-unfolding read_line read_words words_of in_front arguments operator_number operator_words number_from same_text in_order space_then_value spaces take_number take_space with_number complete read_number plain_digits all_digits is_digit number_after reads_of
+unfolding read_line read_words words_of in_front arguments operator_number operator_words number_from same_text in_order
+    space_then_value spaces take_number take_space with_number complete read_number plain_digits all_digits is_digit number_after reads_of
 lines_refused = (refl, refl, refl, refl, refl, refl, refl, refl, refl, refl, refl, refl, refl, refl)
 
 -- nothing "written `-` in a script" where s stands: `SUN -`; `CUN 1 -`; `COP 1 5 2 -`; `BUN 1 60 -`; `CUS -`; `BUS - 7`; `VUS -`; `XUS -`; `DUS -`
@@ -86,7 +89,8 @@ nothing_read :
     × (read_line («V» ∷ U ∷ S ∷ blank ∷ hyphen ∷ []) ≡ Read (call_of 53 0 0 0 0 Nothing))
     × (read_line (X ∷ U ∷ S ∷ blank ∷ hyphen ∷ []) ≡ Read (call_of 54 0 0 0 0 Nothing))
     × (read_line (D ∷ U ∷ S ∷ blank ∷ hyphen ∷ []) ≡ Read (call_of 55 0 0 0 0 Nothing))
-unfolding read_line read_words words_of in_front arguments operator_number operator_words number_from same_text in_order space_then_value spaces take_number take_space with_number complete read_number plain_digits all_digits is_digit number_after reads_of
+unfolding read_line read_words words_of in_front arguments operator_number operator_words number_from same_text in_order
+    space_then_value spaces take_number take_space with_number complete read_number plain_digits all_digits is_digit number_after reads_of
 nothing_read = (refl, refl, refl, refl, refl, refl, refl, refl, refl)
 
 -- `-` in place of n, g, m or v, and `SUS -`, whatever follows: no call
@@ -112,5 +116,6 @@ nothing_refused :
     × (read_line (S ∷ U ∷ N ∷ blank ∷ hyphen ∷ digit 1 ∷ []) ≡ refused)
     × (read_line (S ∷ U ∷ N ∷ blank ∷ digit 1 ∷ hyphen ∷ []) ≡ refused)
     × (read_line (S ∷ U ∷ N ∷ blank ∷ hyphen ∷ blank ∷ digit 1 ∷ []) ≡ refused)
-unfolding read_line read_words words_of in_front arguments operator_number operator_words number_from same_text in_order space_then_value spaces take_number take_space with_number complete read_number plain_digits all_digits is_digit number_after reads_of
+unfolding read_line read_words words_of in_front arguments operator_number operator_words number_from same_text in_order
+    space_then_value spaces take_number take_space with_number complete read_number plain_digits all_digits is_digit number_after reads_of
 nothing_refused = (refl, refl, refl, refl, refl, refl, refl, refl, refl, refl, refl, refl)

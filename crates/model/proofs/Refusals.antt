@@ -198,7 +198,8 @@ reply_form P first f ts named added_so removed_so Valued-as said all_listed (Lis
 
 -- what holds of each form holds of every answer of the machine
 pub answer_form : (P : Reply → Type 0) (C : ℕ) (ts : Tuples) (c : Call) (room : ℕ) → ((number : ℕ) → P (refusal number)) → ((x : ℕ) → P (name x))
-    → ((x k : ℕ) → P (added x k)) → ((x k : ℕ) → P (removed x k)) → ((v : Value) → P (valued v)) → ((b : Bool) → P (yes_no b)) → P (pairs 0 []) → ((l : Listing) → P (pairs (length (listed l (fields_of c) ts)) (listed l (fields_of c) ts)))
+    → ((x k : ℕ) → P (added x k)) → ((x k : ℕ) → P (removed x k)) → ((v : Value) → P (valued v)) → ((b : Bool) → P (yes_no b)) → P (pairs 0 [])
+    → ((l : Listing) → P (pairs (length (listed l (fields_of c) ts)) (listed l (fields_of c) ts)))
     → P (machine C ts c room).answer
 unfolding machine outcome_of
 answer_form P C ts c room refused named added_so removed_so Valued-as said none_listed all_listed = go (refusal_of C ts c room)

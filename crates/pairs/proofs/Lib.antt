@@ -1,5 +1,4 @@
 pub mod Decisions
 pub mod WrittenPairs
 pub mod Executed
-pub mod Learning
 pub mod Lists

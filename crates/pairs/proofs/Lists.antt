@@ -6,8 +6,8 @@ use mathlib.Core.Path.{◌≡◌, refl, sym, ap, ap₂, ◌∙◌}
 use Prim.Native.Nat.{ℕ}
 use lib.ListN.{length, drop, length-map}
 use lib.Seq.{take_at}
-use borrow.Fn.World.{World, ArgsD, ResD}
 use contract.Lifetimes.{Lfts}
+use borrow.Fn.Kinds.{Dens, res_t, ended_of}
 use denote.Triple.Clauses.{AtExit}
 use Rattle.model.specs.declared.Call.{Call}
 use Rattle.model.specs.declared.Pair.{Pair}
@@ -26,29 +26,21 @@ use Rattle.model.proofs.CallLists.{MachineStep, whole_prepared}
 use Rattle.model.proofs.NoSelection.{nothing_idle, nothing_form}
 use Rattle.model.proofs.Demand1.{refused_reply, one_call_demand_1}
 use Rattle.calls.proofs.Lists.{PreparedBy, prepared_by}
-use Rattle.pairs.specs.InPairs.{pairs_after, observed_in_pairs, CallInPairs, PairsMade, OneInPairs, exchange_in_pairs}
-use Rattle.pairs.proofs.Learning.{clause, Learns}
-use Rattle.pairs.specs.contracts.execute_pairs as execute_pairs
+use Rattle.pairs.specs.InPairs.{pairs_after, observed_in_pairs, PairsMade, OneInPairs, exchange_in_pairs}
+use Rattle.pairs.proofs.execute_pairs.Kinds as kinds
+use Rattle.pairs.proofs.execute_pairs.Reads as reads
 
 -- ---- what a caller learns
 
--- what whoever has called `execute_pairs` knows then
-abbrev pub Learnt : (κs : Lfts 2) (a : ArgsD execute_pairs.signature κs) (r : ResD execute_pairs.signature κs) (e : AtExit execute_pairs.ended κs) → Type 0
-Learnt κs a r e = Learns (λ (w : World). (execute_pairs.clauses w.𝓛 w.𝓜.mem w.𝓡.run κs a).ensures tt r e) (clause _)
-
--- it is the call in pairs
-learnt_call : (κs : Lfts 2) (a : ArgsD execute_pairs.signature κs) (r : ResD execute_pairs.signature κs) (e : AtExit execute_pairs.ended κs)
-    → Learnt κs a r e → CallInPairs a.0.now a.1.1.0.now a.1.0 r e.0.now e.1.1.0.now
-learnt_call κs a r e L = L
-
 -- a call of `execute_pairs`, from a buffer to a buffer
 pub data ExecutedInPairsBy : List ℕ → PairsMade → List ℕ → Type 0 where
-  executed : (κs : Lfts 2) (a : ArgsD execute_pairs.signature κs) (r : ResD execute_pairs.signature κs) (e : AtExit execute_pairs.ended κs)
-      → Learnt κs a r e
+  executed : (κs : Lfts 2) (a : Dens κs kinds.ps) (r : (res_t kinds.r κs).Denot) (e : AtExit (ended_of 2 kinds.ps kinds.r) κs)
+      → reads.Learnt κs a r e
       → ExecutedInPairsBy a.0.now (record { call = a.1.0; lent = a.1.1.0.now; answer = r; left = e.1.1.0.now }) e.0.now
 
+-- it is the call in pairs
 pub executed_in_pairs : {b b' : List ℕ} {x : PairsMade} → ExecutedInPairsBy b x b' → OneInPairs b x b'
-executed_in_pairs (executed κs a r e L) = learnt_call κs a r e L
+executed_in_pairs (executed κs a r e one) = one
 
 -- ---- an answer in pairs is read as the machine gave it
 

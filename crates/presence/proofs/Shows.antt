@@ -16,7 +16,8 @@ use Rattle.model.specs.Numbers.{every_up_to}
 use Rattle.model.specs.Rules.{small_key, no_edge_without_node, edge_has_end}
 use Rattle.model.proofs.Bools.{and_left, and_right, not_yes}
 use Rattle.presence.specs.declared.ends.Found.{Found}
-use Rattle.presence.specs.Presence.{with_node_mark, with_edge_mark, with_named, node_shown, edge_shown, node_settled, edge_settled, settled, end_there, end_shown, nothing_kept, found_with, list_with, every_end, KeptRecords, good_key, shaped_key}
+use Rattle.presence.specs.Presence.{with_node_mark, with_edge_mark, with_named, node_shown, edge_shown, node_settled, edge_settled, settled}
+use Rattle.presence.specs.Presence.{end_there, end_shown, nothing_kept, found_with, list_with, every_end, KeptRecords, good_key, shaped_key}
 
 -- ---- the words of a good key
 

@@ -79,7 +79,8 @@ pub line_size : (r : Reply) → length (answer_line r) ≡ length (answer_text r
 unfolding answer_line
 line_size r = length-append (answer_text r) (line_feed ∷ [])
 
-pub line_put : (r : Reply) {out o₁ o₂ : Text} {at m₁ end : ℕ} → at + length (answer_line r) ≤ length out → Put (answer_text r) out at m₁ o₁ → Put (line_feed ∷ []) o₁ m₁ end o₂ → Put (answer_line r) out at end o₂
+pub line_put : (r : Reply) {out o₁ o₂ : Text} {at m₁ end : ℕ} → at + length (answer_line r) ≤ length out → Put (answer_text r) out at m₁ o₁ → Put (line_feed ∷ []) o₁ m₁ end o₂
+    → Put (answer_line r) out at end o₂
 unfolding answer_line
 line_put r h p q = put_then (omega arith) p q
 

@@ -30,7 +30,8 @@ pub record AsAll (ts : State) (l : List ℕ) (xs : List Text) (r : Run) : Type 0
 not_run : (ts : State) (l : List ℕ) (xs : List Text) → AsAll ts l xs (unrun ts l xs)
 not_run ts l xs = record { split = refl; output = refl; final = refl; list = refl }
 
-one_more : (ts : State) (l : List ℕ) (x : Text) (xs : List Text) (r : Run) → AsAll (line_outcome ts x).state (line_list ts (read_line x) l) xs r → AsAll ts l (x ∷ xs) (run_before (x ∷ []) (answer_line (line_outcome ts x).answer) r)
+one_more : (ts : State) (l : List ℕ) (x : Text) (xs : List Text) (r : Run) → AsAll (line_outcome ts x).state (line_list ts (read_line x) l) xs r
+    → AsAll ts l (x ∷ xs) (run_before (x ∷ []) (answer_line (line_outcome ts x).answer) r)
 unfolding lines_output lines_final lines_list
 one_more ts l x xs r R =
     record {

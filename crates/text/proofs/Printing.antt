@@ -33,7 +33,8 @@ pow_some zero = omega arith
 pow_some (suc k) = omega (arith, pow-suc 10 k, pow_some k)
 
 -- what holds of numbers below ten, and of a number where it holds of its tenth, holds of all numbers and their digits
-pub by_digits : (P : ℕ → Text → Type 0) → ((x : ℕ) → x < 10 → P x (digit x ∷ [])) → ((x : ℕ) (ds : Text) → 10 ≤ x → P (x / 10) ds → P x (ds ++ (digit (x % 10) ∷ []))) → (k x : ℕ) → x < 10 ^ suc k → P x (printed_in (suc k) x)
+pub by_digits : (P : ℕ → Text → Type 0) → ((x : ℕ) → x < 10 → P x (digit x ∷ [])) → ((x : ℕ) (ds : Text) → 10 ≤ x → P (x / 10) ds → P x (ds ++ (digit (x % 10) ∷ []))) → (k x : ℕ)
+    → x < 10 ^ suc k → P x (printed_in (suc k) x)
 by_digits P one more zero x h = subst (P x) (sym (printed_digit zero x h)) (one x h)
 by_digits P one more (suc k) x h = go (ltb x 10) refl (by_digits P one more k (x / 10) (tenth (suc k) x h))
   where
@@ -42,7 +43,8 @@ by_digits P one more (suc k) x h = go (ltb x 10) refl (by_digits P one more k (x
     go false e ih = subst (P x) (sym (printed_digits (suc k) x (ltb-false x 10 e))) (more x (printed_in (suc k) (x / 10)) (ltb-false x 10 e) ih)
 
 -- a number of 32 bits, printed
-pub of_printed : (P : ℕ → Text → Type 0) → ((x : ℕ) → x < 10 → P x (digit x ∷ [])) → ((x : ℕ) (ds : Text) → 10 ≤ x → P (x / 10) ds → P x (ds ++ (digit (x % 10) ∷ []))) → (x : ℕ) → x ≤ 4294967295 → P x (printed_number x)
+pub of_printed : (P : ℕ → Text → Type 0) → ((x : ℕ) → x < 10 → P x (digit x ∷ [])) → ((x : ℕ) (ds : Text) → 10 ≤ x → P (x / 10) ds → P x (ds ++ (digit (x % 10) ∷ []))) → (x : ℕ)
+    → x ≤ 4294967295 → P x (printed_number x)
 unfolding printed_number
 of_printed P one more x h = by_digits P one more 9 x (omega arith)
 

@@ -18,7 +18,8 @@ use Rattle.model.specs.Rules.{ascends_from_universe, every_key, small_key, no_ed
 use Rattle.model.specs.Numbers.{every_up_to}
 use Rattle.model.proofs.Bools.{and_left, and_right, and_both, not_yes, not_no}
 use Rattle.model.proofs.Tuples.{same_key_lem}
-use Rattle.presence.specs.Presence.{Walkable, ends_within, UsedEnds, Held, Marks, MarksFit, with_named, tuples_from, shaped_key, good_key, supported, settled, end_there, nothing_kept, found_with, list_with, every_end, KeptRecords, kept_count}
+use Rattle.presence.specs.Presence.{Walkable, ends_within, UsedEnds, Held, Marks, MarksFit, with_named, tuples_from, shaped_key}
+use Rattle.presence.specs.Presence.{good_key, supported, settled, end_there, nothing_kept, found_with, list_with, every_end, KeptRecords, kept_count}
 use Rattle.verify.specs.Checks.{walked_on, walked_from, stepped, FreeWalk, UsedFound, keys_right, may_meet, key_follows, stopped_walk, starts_right, used_walk}
 use Rattle.verify.specs.declared.chains.Walk.{Walk}
 use Rattle.presence.specs.declared.ends.Found.{Found}

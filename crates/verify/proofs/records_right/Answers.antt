@@ -14,14 +14,18 @@ returns-then-not-used c = search (right_no_walk, walked_of, not-true)
 
 pub chains_right-requires : goal.chains_right-requires
 chains_right-requires c =
-    (c.requires, right_walk c.args.b.now c.requires (walked_of c.walk_used-used.result) c.walk_used-used.ensures.answer (not-false _ c.if-not-used.false), not-false _ c.if-not-used.false, (c.walk_used-used.ensures.lent (not-false _ c.if-not-used.false)).beside)
+    let walk = c.walk_used-used.ensures in
+    let ended = not-false _ c.if-not-used.false in
+    (c.requires, right_walk c.args.b.now c.requires (walked_of c.walk_used-used.result) walk.answer ended, ended, (walk.lent ended).beside)
 
 pub returns-then-not-chains_right : goal.returns-then-not-chains_right
 returns-then-not-chains_right c = search (right_no_chains, walked_of, not-false, not-true)
 
 pub named_right-requires : goal.named_right-requires
 named_right-requires c =
-    (right_sorted c.args.b.now c.requires (walked_of c.walk_used-used.result) c.walk_used-used.ensures.answer (not-false _ c.if-not-used.false), (c.walk_used-used.ensures.lent (not-false _ c.if-not-used.false)).tuples)
+    let walk = c.walk_used-used.ensures in
+    let ended = not-false _ c.if-not-used.false in
+    (right_sorted c.args.b.now c.requires (walked_of c.walk_used-used.result) walk.answer ended, (walk.lent ended).tuples)
 
 pub returns : goal.returns
 returns c = search (right_named, walked_of, not-false)
