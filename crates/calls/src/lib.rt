@@ -61,6 +61,7 @@ fn look_up(store: &mut [u32], call: Call, d: Decoded, list: &mut [u32]) -> Answe
 }
 
 // One call on a buffer that the caller has proved to be a store: no check is paid.
+// It is for code in Rattle, as runs and scripts are; `execute` is the entry that refuses a buffer which is none.
 pub fn execute_known(store: &mut [u32], call: Call, list: &mut [u32]) -> Answer
     requires { stored.is_store store.old ≡ true }
     ensures { OnStore stored store.old list.old call result store.new list.new }

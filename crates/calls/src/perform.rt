@@ -1,4 +1,5 @@
 // The step of an operator on a store, where nothing stops the call.
+// An inner layer: what its functions require, their callers have shown; only the entry refuses.
 ghost use Rattle.std.specs.Prelude.{true, ◌≡◌, length};
 ghost use Rattle.layouts.specs.Buffer.{tuples_of, is_store};
 ghost use Rattle.model.specs.Steps.{destroyed, idle_reply};

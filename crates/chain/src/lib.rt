@@ -1,5 +1,6 @@
 #![tactic(auto)]
 // The used and free chains of the buffer.
+// An inner layer: what its functions require, their callers have shown; only the entry refuses.
 ghost use Rattle.std.specs.Prelude.{◌≡◌, ◌+◌, ◌≤◌, ◌<◌};
 ghost use Rattle.model.specs.Tuples.{present, value_at};
 ghost use Rattle.layouts.specs.Buffer.{next, used_of, tuples_of, key_at};

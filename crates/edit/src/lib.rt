@@ -1,6 +1,7 @@
 #![tactic(auto)]
 // Tuples counted, added, set and removed.
 // A hint is a used record, or 0: the walk for a key starts behind it where its key is below.
+// An inner layer: what its functions require, their callers have shown; only the entry refuses.
 ghost use Rattle.std.specs.Prelude.{◌≡◌, false, length};
 ghost use Rattle.model.specs.Keys.{space_key};
 ghost use Rattle.model.specs.Tuples.{present, add, remove};

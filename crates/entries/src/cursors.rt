@@ -1,4 +1,5 @@
 // Cursors: the entries of any query one after the other.
+// An inner layer: what its functions require, their callers have shown; only the entry refuses.
 ghost use Rattle.std.specs.Prelude.{true, false, ◌≡◌};
 ghost use Rattle.std.proofs.Math.Option.{none};
 ghost use Rattle.chain.specs.Links.{both_ways, Linked, Hint};

@@ -1,5 +1,6 @@
 #![tactic(auto)]
 // The entries that an S operator lists, counted and written.
+// An inner layer: what its functions require, their callers have shown; only the entry refuses.
 mod cursors;
 pub mod lists;
 mod walks;

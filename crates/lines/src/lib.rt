@@ -1,5 +1,6 @@
 #![tactic(auto)]
 // The lines of a script, read as calls.
+// An inner layer: what its functions require, their callers have shown; only the entry refuses.
 mod arguments;
 mod numbers;
 mod words;

@@ -1,4 +1,5 @@
 // Bytes of a text: where a part ends.
+// An inner layer: what its functions require, their callers have shown; only the entry refuses.
 ghost use Rattle.std.specs.Prelude.{◌≡◌, ◌+◌, ◌≤◌, length, drop};
 ghost use Rattle.text.specs.Bytes.{before};
 

@@ -1,5 +1,6 @@
 #![tactic(auto)]
 // The query of each S operator, and its list.
+// An inner layer: what its functions require, their callers have shown; only the entry refuses.
 ghost use Rattle.std.specs.Prelude.{◌≡◌, length, ◌≤◌, leb};
 ghost use Rattle.layouts.specs.Buffer.{tuples_of};
 ghost use Rattle.model.specs.Steps.{listed};

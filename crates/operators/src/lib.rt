@@ -1,5 +1,6 @@
 #![tactic(auto)]
 // A number's row and its operator, and the refusals that depend on the call alone.
+// An inner layer: what its functions require, their callers have shown; only the entry refuses.
 ghost use Rattle.std.specs.Prelude.{◌≡◌, not, ◌&&◌, ◌||◌, eqb, ◌-◌, ◌<◌, ◌≤◌};
 ghost use Rattle.model.specs.Operators.{within, operator_of, reads_of, asks_of, row_of};
 ghost use Rattle.model.specs.Keys.{most_name};

@@ -1,5 +1,6 @@
 // What tuples name, looked for while the used chain is walked; second ends that come later are kept in a list.
 // Keys ascend, so a tuple's space and an edge's first end are those of the tuple before it.
+// An inner layer: what its functions require, their callers have shown; only the entry refuses.
 ghost use Rattle.std.specs.Prelude.{true, ◌&&◌, cond, ◌≢◌, ◌≡◌, suc, ◌≤◌, ◌<◌, length, get_or, set};
 ghost use Rattle.model.specs.Keys.{most_name};
 ghost use Rattle.layouts.specs.Buffer.{capacity_of, key_at, tuples_of};

@@ -1,6 +1,7 @@
 #![tactic(auto)]
 // Is all there that the tuples of the used chain name.
 // The check of a store has each tuple looked at as it walks the chain (`ends::take`), and asks after the walk.
+// An inner layer: what its functions require, their callers have shown; only the entry refuses.
 mod edge_ends;
 pub mod ends;
 mod marks;

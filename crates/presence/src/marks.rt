@@ -1,6 +1,7 @@
 // Marks: a word for each node tuple and each edge tuple of 0, at a place that its key gives.
 // The mark of node n in s is s × 65,536 + n; that of an edge tuple in record i is i × 65,536, where the record is read. 0 is no mark.
 // What no mark shows is sought by a walk.
+// An inner layer: what its functions require, their callers have shown; only the entry refuses.
 ghost use Rattle.std.specs.Prelude.{◌≢◌, ◌≡◌, ◌≤◌, ◌<◌, length, get_or, set};
 ghost use Rattle.model.specs.Keys.{most_name, node_key};
 ghost use Rattle.model.specs.Tuples.{present};

@@ -1,5 +1,6 @@
 #![tactic(auto)]
 // Answers as lines of text in lent bytes.
+// An inner layer: what its functions require, their callers have shown; only the entry refuses.
 ghost use Rattle.std.specs.Prelude.{[], ◌∷◌, ◌++◌, map, ◌≡◌, ◌≤◌, ◌<◌, length, take};
 ghost use Rattle.model.specs.OneCall.{unpack, observed};
 ghost use Rattle.model.specs.Steps.{pairs};

@@ -1,5 +1,6 @@
 #![tactic(auto)]
 // Which condition stops a call: 2, 3, 12 and 4 by the call alone, 5 to 10 by what the store holds.
+// An inner layer: what its functions require, their callers have shown; only the entry refuses.
 ghost use Rattle.std.specs.Prelude.{true, false, not, ◌≡◌, ◌-◌, ltb, length};
 ghost use Rattle.model.specs.Operators.{row_of};
 ghost use Rattle.model.specs.Tuples.{present, any_present, missing};

@@ -1,5 +1,6 @@
 #![tactic(auto)]
 // What the D operators remove from a store.
+// An inner layer: what its functions require, their callers have shown; only the entry refuses.
 ghost use Rattle.std.specs.Prelude.{◌≢◌, ◌≡◌, true, ◌≤◌, length, take};
 ghost use Rattle.model.specs.declared.Removal.{Removal};
 ghost use Rattle.model.specs.Tuples.{remove};

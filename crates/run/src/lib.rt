@@ -191,7 +191,7 @@ fn words_of(kind: u32, first: u32, second: u32) -> AnswerWords
     }
 }
 
-// An answer as words; the count of a list that a store gives fits.
+// An answer as words; the count of a list that a store gives fits, as the callers, runs and the C functions, have shown.
 pub fn answer_words(a: Answer) -> AnswerWords
     requires { list_count a ≤ 4294967295 }
     ensures { result ≡ answer_words a }

@@ -1,5 +1,6 @@
 #![tactic(auto)]
 // A script run line by line on a store that is known to be one; what it prints goes to lent bytes.
+// An inner layer: what its functions require, their callers have shown; only the entry refuses.
 ghost use Rattle.std.specs.Prelude.{◌≡◌, ◌+◌, ◌≤◌, leb, length, drop};
 ghost use Rattle.model.specs.Steps.{refusal};
 ghost use Rattle.layouts.specs.Stored.{stored};

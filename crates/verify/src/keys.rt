@@ -1,4 +1,5 @@
 // The keys of the used chain: do they ascend, and is each one that a store may hold.
+// An inner layer: what its functions require, their callers have shown; only the entry refuses.
 ghost use Rattle.std.specs.Prelude.{true, ◌≡◌, length};
 ghost use Rattle.layouts.specs.Buffer.{word};
 ghost use Rattle.model.specs.Rules.{small_key};

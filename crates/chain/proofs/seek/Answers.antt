@@ -1,4 +1,3 @@
-use Rattle.model.proofs.Bools.{not_no, not_yes}
 use Rattle.chain.proofs.Walks.{falls}
 use Rattle.chain.proofs.Places.{seek_inside, seek_on, seek_end, seek_found}
 use Rattle.chain.proofs.Hints.{seek_behind, start_hint}
@@ -16,17 +15,14 @@ next_of-next-requires c = search seek_inside
 pub used_key-requires : goal.used_key-requires
 used_key-requires c = search seek_inside
 
-pub key_below-requires : goal.key_below-requires
-key_below-requires c = tt
-
 pub loop-at-smaller : goal.loop-at-smaller
 loop-at-smaller c = search falls
 
 pub loop-at-preserved : goal.loop-at-preserved
-loop-at-preserved c = search (seek_on, not_no)
+loop-at-preserved c = search seek_on
 
 pub returns-after-loop-at : goal.returns-after-loop-at
 returns-after-loop-at c = search seek_end
 
 pub returns-then-not-key_below : goal.returns-then-not-key_below
-returns-then-not-key_below c = search (seek_found, not_yes)
+returns-then-not-key_below c = search seek_found

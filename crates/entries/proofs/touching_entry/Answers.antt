@@ -1,12 +1,7 @@
 use Rattle.entries.specs.Cursors.{list_of}
 use Rattle.entries.proofs.EntryTests.{apart_first}
-use borrow.Author.Rules.{rules}
 use Rattle.entries.proofs.touching_entry.Goals as goal
 
 pub returns-then-not-touches : goal.returns-then-not-touches
 unfolding list_of
 returns-then-not-touches c = search apart_first
-
-pub returns : goal.returns
-unfolding list_of
-returns c = search rules

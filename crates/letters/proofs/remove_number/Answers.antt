@@ -1,7 +1,6 @@
 use Rattle.letters.specs.OperatorWords.{operator_words}
 use Rattle.letters.specs.Letters.{begins}
 use Rattle.letters.proofs.LookUp.{compared, no_short, no_second, begins_with_two}
-use borrow.Author.Rules.{rules}
 use Rattle.letters.proofs.remove_number.Goals as goal
 
 pub returns-then-word-lt2 : goal.returns-then-word-lt2
@@ -23,22 +22,6 @@ removes_adjacent-requires c = search begins_with_two
 pub removes_one-requires : goal.removes_one-requires
 unfolding operator_words begins
 removes_one-requires c = search begins_with_two
-
-pub returns-in-79 : goal.returns-in-79
-unfolding operator_words begins
-returns-in-79 c = search rules
-
-pub returns-in-73 : goal.returns-in-73
-unfolding operator_words begins
-returns-in-73 c = search rules
-
-pub returns-in-65 : goal.returns-in-65
-unfolding operator_words begins
-returns-in-65 c = search rules
-
-pub returns-in-85 : goal.returns-in-85
-unfolding operator_words begins
-returns-in-85 c = search rules
 
 pub returns-in_default : goal.returns-in_default
 unfolding operator_words begins

@@ -1,16 +1,14 @@
 use borrow.Author.Tests.{not-true, not-false}
-use lib.ListN.{length-replicate}
-use Rattle.presence.specs.Presence.{kept_count}
 use Rattle.verify.specs.Checks.{walked_of}
 use Rattle.presence.proofs.Hints.{no_marks_lem}
 use Rattle.verify.proofs.Parts.{right_no_walk, right_walk, right_sorted, right_no_chains, right_named}
 use Rattle.verify.proofs.records_right.Goals as goal
 
 pub walk_used-used-requires : goal.walk_used-used-requires
-walk_used-used-requires c = search (no_marks_lem, length-replicate, kept_count)
+walk_used-used-requires c = search no_marks_lem
 
 pub returns-then-not-used : goal.returns-then-not-used
-returns-then-not-used c = search (right_no_walk, walked_of, not-true)
+returns-then-not-used c = search (right_no_walk, not-true)
 
 pub chains_right-requires : goal.chains_right-requires
 chains_right-requires c =
@@ -19,7 +17,7 @@ chains_right-requires c =
     (c.requires, right_walk c.args.b.now c.requires (walked_of c.walk_used-used.result) walk.answer ended, ended, (walk.lent ended).beside)
 
 pub returns-then-not-chains_right : goal.returns-then-not-chains_right
-returns-then-not-chains_right c = search (right_no_chains, walked_of, not-false, not-true)
+returns-then-not-chains_right c = search (right_no_chains, not-false)
 
 pub named_right-requires : goal.named_right-requires
 named_right-requires c =
@@ -28,4 +26,4 @@ named_right-requires c =
     (right_sorted c.args.b.now c.requires (walked_of c.walk_used-used.result) walk.answer ended, (walk.lent ended).tuples)
 
 pub returns : goal.returns
-returns c = search (right_named, walked_of, not-false)
+returns c = search (right_named, not-false)

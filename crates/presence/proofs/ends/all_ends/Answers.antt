@@ -1,5 +1,4 @@
 use native.Mathlib.Omega.{arith}
-use borrow.Author.Tests.{not-true, not-false}
 use Rattle.presence.proofs.Shows.{kept_record, ending_start, ending_no, ending_next, ending_end}
 use Rattle.presence.proofs.ends.all_ends.Goals as goal
 
@@ -17,10 +16,10 @@ end_there-requires c = (
 )
 
 pub returns-then-not-end_there : goal.returns-then-not-end_there
-returns-then-not-end_there c = search (ending_no, not-true)
+returns-then-not-end_there c = search ending_no
 
 pub loop-j-preserved : goal.loop-j-preserved
-loop-j-preserved c = search (ending_next, not-false)
+loop-j-preserved c = search ending_next
 
 pub returns : goal.returns
 returns c = search ending_end

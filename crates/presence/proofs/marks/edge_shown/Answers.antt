@@ -2,16 +2,10 @@ use Rattle.presence.specs.Presence.{edge_slot, edge_shown}
 use Rattle.presence.proofs.Hints.{edge_slot_below, look_start, look_found, look_none, look_next, look_end, at_mark, mark_record}
 use Rattle.presence.proofs.marks.edge_shown.Goals as goal
 
-pub edge_slot-at-requires : goal.edge_slot-at-requires
-edge_slot-at-requires c = tt
-
 pub loop-left-init : goal.loop-left-init
 unfolding edge_slot
 loop-left-init c =
     look_start _ _ _ _ c.edge_slot-at.ensures (edge_slot_below c.args.k)
-
-pub edge_record-requires : goal.edge_record-requires
-edge_record-requires c = tt
 
 pub is_at-requires : goal.is_at-requires
 is_at-requires c = search mark_record

@@ -2,9 +2,6 @@ use Rattle.presence.specs.Presence.{node_shown}
 use Rattle.presence.proofs.Hints.{node_slot_below, look_start, look_found, look_none, look_next, look_end, is_mark, other_mark}
 use Rattle.presence.proofs.marks.node_shown.Goals as goal
 
-pub node_slot-at-requires : goal.node_slot-at-requires
-node_slot-at-requires c = tt
-
 pub loop-left-init : goal.loop-left-init
 loop-left-init c = look_start _ _ _ _ c.node_slot-at.ensures (node_slot_below _ _)
 

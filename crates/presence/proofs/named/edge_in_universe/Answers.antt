@@ -1,4 +1,3 @@
-use Rattle.layouts.specs.Buffer.{tuples_of}
 use Rattle.presence.proofs.Support.{from_head, head_says, edge_none, edge_some}
 use Rattle.presence.proofs.named.edge_in_universe.Goals as goal
 
@@ -9,4 +8,4 @@ pub holds_from-requires : goal.holds_from-requires
 holds_from-requires c = search from_head
 
 pub returns : goal.returns
-returns c = search (edge_some, tuples_of, head_says)
+returns c = search (edge_some, head_says)

@@ -1,5 +1,3 @@
-use borrow.Author.Tests.{not-true, not-false}
-use Rattle.layouts.specs.Buffer.{tuples_of}
 use Rattle.presence.proofs.Support.{from_head, head_says, node_nameless, node_edge, node_no_space, node_rest}
 use Rattle.presence.proofs.named.node_supported.Goals as goal
 
@@ -13,10 +11,10 @@ pub holds_from-requires : goal.holds_from-requires
 holds_from-requires c = search from_head
 
 pub returns-then-not-holds_from : goal.returns-then-not-holds_from
-returns-then-not-holds_from c = search (node_no_space, tuples_of, head_says, not-true)
+returns-then-not-holds_from c = search (node_no_space, head_says)
 
 pub holds_from-requires-2 : goal.holds_from-requires-2
 holds_from-requires-2 c = search from_head
 
 pub returns : goal.returns
-returns c = search (node_rest, tuples_of, head_says, not-false)
+returns c = search (node_rest, head_says)

@@ -31,8 +31,8 @@ loop-at-preserved c =
     let I = c.loop-at.invariant in
     let within : c.loop-at.at ≤ capacity_of c.args.b.now = omega (arith, I.0, c.if-at-c.false) in
     let run =
-        walked_run _ c.loop-at.left c.loop-at.at c.loop-at.last _ _ c.loop-at-test.true c.if-left-eq0.false I.1 within c.next_of.ensures
-        c.along_run-on.ensures in
+    walked_run _ c.loop-at.left c.loop-at.at c.loop-at.last _ _ c.loop-at-test.true c.if-left-eq0.false I.1 within c.next_of.ensures
+    c.along_run-on.ensures in
     (I.0, omega (arith, I.1, run.1), run.0 ∙ I.2)
 
 pub returns : goal.returns

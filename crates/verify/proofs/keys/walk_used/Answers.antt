@@ -1,4 +1,3 @@
-use borrow.Author.Tests.{not-false}
 use native.Mathlib.Omega.{arith}
 use Prim.Native.Nat.{ℕ, ◌-◌}
 use mathlib.Core.Bool.{true, false≢true}
@@ -38,7 +37,7 @@ next_of-at-requires c =
     (head_some c.args.b.now _ c.starts_right.ensures c.if-not-starts_right.false _ head)
 
 pub loop-at-init : goal.loop-at-init
-loop-at-init c = search (using_start, not-false, run_started)
+loop-at-init c = search (using_start, run_started)
 
 pub returns-then-not-may_meet : goal.returns-then-not-may_meet
 returns-then-not-may_meet c =
@@ -96,8 +95,7 @@ take-found-requires c =
     let I = c.loop-at.invariant in
     let some = c.loop-at-test.true in
     let met = c.may_meet.ensures in
-    let yes = c.if-not-may_meet.false in
-    (
+    let yes = c.if-not-may_meet.false in (
       c.requires.0,
       I.1.fit,
       I.1.listed.size,
@@ -137,14 +135,13 @@ loop-at-preserved c =
     let told = c.key_follows.ensures in
     let follows = c.if-not-key_follows.false in
     let taken = c.take-found.ensures in
-    let more = using_left _ c.requires.0 _ _ _ _ _ _ _ I.1 some _ I.0 _ met yes in
-    (
+    let more = using_left _ c.requires.0 _ _ _ _ _ _ _ I.1 some _ I.0 _ met yes in (
       I.0,
       using_next _ c.requires.0 _ _ _ _ _ _ _ I.1 some _ I.0 _ met yes _ k _ key _ told follows _ taken.answer _ taken.marked _ taken.listed _
           c.next_of-after.ensures _ c.step-free.ensures,
       run_on _ _ _ _ _ _ _ _ some _ I.0 _ met yes _ k _ key _ told follows more _ taken.answer _ taken.marked _ taken.listed _
           c.next_of-after.ensures _ c.step-free.ensures
-      ∙ I.2,
+          ∙ I.2,
     )
 
 pub returns : goal.returns
