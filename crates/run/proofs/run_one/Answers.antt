@@ -3,8 +3,7 @@ use borrow.Author.Rules.{rules}
 use Rattle.run.proofs.run_one.Goals as goal
 
 pub put_answer-requires : goal.put_answer-requires
-put_answer-requires c =
-    (search rules, search (count_small, c.shared_slice_known-1.given))
+put_answer-requires c = (search rules, search count_small)
 
 pub returns : goal.returns
 returns c = search one_run
