@@ -1,22 +1,23 @@
 #![tactic(auto)]
 // The types of the store that its callers see: names, the space of a call, a call, an answer, a pair of the answer list.
-// The definitions over them, in the order of document 01, are in specs/. There is no code here.
+// The definitions over them, in the order of document 01, are in specs/.
+ghost use Rattle.std.specs.Prelude.{◌≡◌};
 
 // "Nodes, edges and spaces are named by 1 to 65,535 (16 bits), separately": one type for each sort of name.
 // Those of nodes and edges have the layout of C, for the pairs of a list that C or Rust lends.
 #[repr(C)]
-#[derive(Clone, Copy)]
+#[derive(Clone, Copy, PartialEq, Eq, PartialOrd, Ord)]
 pub struct NodeName(pub u16);
 
 #[repr(C)]
-#[derive(Clone, Copy)]
+#[derive(Clone, Copy, PartialEq, Eq, PartialOrd, Ord)]
 pub struct EdgeName(pub u16);
 
-#[derive(Clone, Copy)]
+#[derive(Clone, Copy, PartialEq, Eq)]
 pub struct SpaceName(pub u16);
 
 // "The space of a call is either UNIVERSE or a number", and by request 1 it "gets a third form, nothing".
-#[derive(Clone, Copy)]
+#[derive(Clone, Copy, PartialEq, Eq)]
 pub enum Space {
     // The universal space, which has no name.
     Universe,
@@ -39,7 +40,7 @@ pub struct Call {
 }
 
 // "The middle letter O, I or A chooses" which pairs of a node are meant.
-#[derive(Clone, Copy)]
+#[derive(Clone, Copy, PartialEq, Eq)]
 pub enum Direction {
     Outpointing,
     Inpointing,
@@ -176,6 +177,45 @@ pub struct Decoded {
     pub fields: Fields,
 }
 
+// "Where a call is stopped": the conditions, by their numbers.
+#[derive(Clone, Copy, PartialEq, Eq)]
+pub enum Refusal {
+    // The buffer is no store; of preparing, its length is none that a store has.
+    NotAStore = 1,
+    // The operator is none of 1 to 57.
+    NoOperator = 2,
+    // A name that is read is 0.
+    ZeroName = 3,
+    // 55 on UNIVERSE.
+    UniverseDestroyed = 4,
+    // The space is absent.
+    SpaceAbsent = 5,
+    // Node n is absent.
+    NodeAbsent = 6,
+    // Node m is absent.
+    SecondAbsent = 7,
+    // There is no such edge.
+    EdgeAbsent = 8,
+    // The answer list is too short.
+    ListTooShort = 9,
+    // There are too few free records.
+    Full = 10,
+    // A line of a script that does not read as a call, or a script that is too long.
+    Unreadable = 11,
+    // The operator asks for a selection, and there is none.
+    NoSelection = 12,
+}
+
+impl From<Refusal> for u32 {
+    ghost use Rattle.model.specs.Numbered.{number_of};
+
+    ghost from_gives = { λ refusal number. number ≡ number_of refusal };
+
+    fn from(refusal: Refusal) -> u32 {
+        refusal as u32
+    }
+}
+
 // "C, B and D return the first argument; V a value; X yes or no; S a count k"; a call that is stopped, its refusal's number.
 // By request 2 an answer "from C or D carries the number of tuples added or removed"; the first argument is a node's name, or a space's (0 for UNIVERSE).
 #[derive(Clone, Copy)]
@@ -197,7 +237,7 @@ pub enum Answer {
 }
 
 // "A tuple has a key (s, n, g, m)": the four key words of a record.
-#[derive(Clone, Copy)]
+#[derive(Clone, Copy, PartialEq, Eq, PartialOrd, Ord)]
 pub struct Key {
     pub s: u32,
     pub n: u32,
@@ -207,7 +247,7 @@ pub struct Key {
 
 // "The answer list is a lent list of pairs (edge, node)."
 #[repr(C)]
-#[derive(Clone, Copy)]
+#[derive(Clone, Copy, PartialEq, Eq, PartialOrd, Ord)]
 pub struct Pair {
     pub edge: EdgeName,
     pub node: NodeName,

@@ -1,0 +1,19 @@
+-- Document 01, "Where a call is stopped": the number of each condition.
+use Rattle.std.specs.Prelude.{ℕ}
+use Rattle.model.specs.declared.Refusal.{Refusal}
+use Rattle.model.specs.declared.Refusal.TheVariants.{NotAStore, NoOperator, ZeroName, UniverseDestroyed, SpaceAbsent, NodeAbsent, SecondAbsent, EdgeAbsent, ListTooShort, Full, Unreadable, NoSelection}
+
+-- "its number is answered": the numbers of the conditions; request 1 adds 12
+unfoldable pub number_of : Refusal → ℕ
+number_of NotAStore = 1
+number_of NoOperator = 2
+number_of ZeroName = 3
+number_of UniverseDestroyed = 4
+number_of SpaceAbsent = 5
+number_of NodeAbsent = 6
+number_of SecondAbsent = 7
+number_of EdgeAbsent = 8
+number_of ListTooShort = 9
+number_of Full = 10
+number_of Unreadable = 11
+number_of NoSelection = 12
