@@ -167,30 +167,12 @@ pub fn put_tuple(b: &mut [u32], i: usize, k: Key, v: u32)
 pub fn key_below(a: Key, b: Key) -> bool
     ensures { result ≡ is_less (compare_keys a b) }
 {
-    if a.s != b.s {
-        return a.s < b.s;
-    }
-    if a.n != b.n {
-        return a.n < b.n;
-    }
-    if a.g != b.g {
-        return a.g < b.g;
-    }
-    a.m < b.m
+    a < b
 }
 
 // Are the two keys the same.
 pub fn key_same(a: Key, b: Key) -> bool
     ensures { result ≡ same_key a b }
 {
-    if a.m != b.m {
-        return false;
-    }
-    if a.g != b.g {
-        return false;
-    }
-    if a.n != b.n {
-        return false;
-    }
-    a.s == b.s
+    a == b
 }
