@@ -1,7 +1,7 @@
 -- The order and the equality that the fields of a key give, in the order s, n, g, m, are those of the model.
 use Prim.Native.Nat.{ℕ, compare, Ordering}
 use lib.Dec.{compare_is_eq}
-use Rattle.std.proofs.Common.{Bool, true, false, cond, ◌≡◌, refl, sym, ap, ◌∙◌, ◌&&◌, nat_eq, nat_lt, is_lt, Less, Equal, Greater, Some, Option}
+use Rattle.std.proofs.Common.{◌≡◌, refl, sym, ap, ◌∙◌, ◌&&◌, nat_eq, is_lt, Less, Equal, Greater, Some, Option}
 use Rattle.std.specs.Ordering.{nat_cmp, is_some_and, partial_ordering_then}
 use Rattle.std.specs.Cmp.{nat_cmp_is}
 use Rattle.std.specs.declared.cmp.Ordering.{Ordering as Answer}

@@ -40,16 +40,15 @@ pub fn index_of(w: u32) -> usize
 }
 
 // Can a buffer of this length be a store.
+#[tactic(auto, unfolding(layouts::specs::Buffer::fits_length))]
 pub fn fits_length(b: &[u32]) -> bool
     ensures { result ≡ fits_length b.now }
 {
-    if b.len() < LEAST_LENGTH {
-        return false;
-    }
-    b.len() <= MOST_LENGTH
+    LEAST_LENGTH <= b.len() && b.len() <= MOST_LENGTH
 }
 
 // C: how many records the buffer has room for.
+#[tactic(auto, unfolding(layouts::specs::Buffer::capacity_of))]
 pub fn capacity(b: &[u32]) -> usize
     requires { head_words ≤ length b.now }
     ensures { result ≡ capacity_of b.now }
@@ -69,7 +68,7 @@ pub fn head_word(b: &[u32], at: usize) -> usize
     requires { at < length b.now }
     ensures { result ≡ word b.now at }
 {
-    index_of(b[at])
+    b[at] as usize
 }
 
 // One of the words 0 to 3, written.
@@ -89,6 +88,7 @@ fn place_of(b: &[u32], i: usize, place: usize) -> usize
 }
 
 // A word of record i, by its place in the record.
+#[tactic(auto, unfolding(layouts::specs::Buffer::word_of))]
 fn word_of(b: &[u32], i: usize, place: usize) -> u32
     requires { Inside b.now i × (place < record_words) }
     ensures { result ≡ word_of b.now i place }
@@ -98,6 +98,7 @@ fn word_of(b: &[u32], i: usize, place: usize) -> u32
 }
 
 // A word of record i, written.
+#[tactic(auto, unfolding(crate::specs::Words::put_word))]
 fn put_word(b: &mut [u32], i: usize, place: usize, w: u32)
     requires { Inside b.old i × (place < record_words) }
     ensures { b.new ≡ put_word b.old i place w }
@@ -107,14 +108,16 @@ fn put_word(b: &mut [u32], i: usize, place: usize, w: u32)
 }
 
 // The record that follows record i in its chain; 0 where the chain ends.
+#[tactic(auto, unfolding(layouts::specs::Buffer::next))]
 pub fn next_of(b: &[u32], i: usize) -> usize
     requires { Inside b.now i }
     ensures { result ≡ next b.now i }
 {
-    index_of(word_of(b, i, NEXT))
+    word_of(b, i, NEXT) as usize
 }
 
 // The key of record i.
+#[tactic(auto, unfolding(layouts::specs::Buffer::key_at))]
 pub fn key_of(b: &[u32], i: usize) -> Key
     requires { Inside b.now i }
     ensures { result ≡ key_at b.now i }
@@ -128,6 +131,7 @@ pub fn key_of(b: &[u32], i: usize) -> Key
 }
 
 // The value of record i.
+#[tactic(auto, unfolding(layouts::specs::Buffer::tuple_at))]
 pub fn value_of(b: &[u32], i: usize) -> u32
     requires { Inside b.now i }
     ensures { result ≡ (tuple_at b.now i).value }
@@ -152,6 +156,7 @@ pub fn put_value(b: &mut [u32], i: usize, v: u32)
 }
 
 // The key and value of record i, written: all of its words but next.
+#[tactic(auto, unfolding(crate::specs::Words::put_tuple))]
 pub fn put_tuple(b: &mut [u32], i: usize, k: Key, v: u32)
     requires { Inside b.old i }
     ensures { b.new ≡ put_tuple b.old i k v }

@@ -1,6 +1,0 @@
-use Rattle.words.specs.Words.{put_word}
-use Rattle.words.proofs.put_word.Goals as goal
-
-pub returns : goal.returns
-unfolding put_word
-returns c = cc
