@@ -6,7 +6,7 @@ use mathlib.Core.Path.{◌≡◌, refl, sym, ap, ◌∙◌, subst}
 use Prim.Native.Nat.{ℕ, Ordering}
 use native.Mathlib.Omega.{arith}
 use lib.Dec.{eqb, compare_is_eq}
-use borrow.Author.Tests.{eq-eqb, ne_eqb}
+use borrow.Author.Tests.{eq-eqb, eqb-true, ne_eqb}
 use Rattle.model.specs.declared.Key.{Key}
 use Rattle.model.specs.Ordered.{is_less, holds, Above, Ascending}
 use Rattle.model.specs.Keys.{key_of, compare_keys, same_key}
@@ -18,9 +18,38 @@ use Rattle.layouts.specs.Chains.{Within}
 use Rattle.words.specs.Words.{Inside}
 use Rattle.words.proofs.Words.{inside}
 use Rattle.chain.specs.declared.Place.{Place}
-use Rattle.chain.specs.Links.{Linked, place, place_in, find_in}
+use Rattle.std.specs.Prelude.{Option, Some, None, is_some, unwrap_or}
+use Rattle.chain.specs.Links.{Linked, place, place_in, find_in, record_named}
 use Rattle.chain.proofs.Walks.{used_rest}
 use Rattle.chain.proofs.Paths.{within_right}
+
+-- ---- a record named by a number
+
+pub named_some : (i : ℕ) → is_some (record_named i) ≡ not (eqb i 0)
+unfolding record_named
+named_some i = go (eqb i 0)
+  where
+    go : (t : Bool) → is_some (cond t None (Some i)) ≡ not t
+    go true = refl
+    go false = refl
+
+pub named_record : (i j : ℕ) → record_named i ≡ Some j → (j ≡ i) × (j ≢ 0)
+unfolding record_named
+named_record i j e = go (eqb i 0) refl e
+  where
+    go : (t : Bool) → eqb i 0 ≡ t → cond t None (Some i) ≡ Some j → (j ≡ i) × (j ≢ 0)
+    go true f e = absurd (false≢true (ap is_some e))
+    go false f e =
+        let same = sym (ap (λ o. unwrap_or o 0) e) in
+        (same, λ z. false≢true (sym f ∙ eq-eqb i 0 (sym same ∙ z)))
+
+pub named_none : (i : ℕ) → record_named i ≡ None → i ≡ 0
+unfolding record_named
+named_none i e = go (eqb i 0) refl e
+  where
+    go : (t : Bool) → eqb i 0 ≡ t → cond t None (Some i) ≡ None → i ≡ 0
+    go true f e = eqb-true i 0 f
+    go false f e = absurd (false≢true (sym (ap is_some e)))
 
 -- the last of some records, or `last` where there are none
 abbrev pub last_of : ℕ → List ℕ → ℕ
@@ -222,8 +251,8 @@ module _ (b : List ℕ) (k : Key) where
     place_inside h =
         subst (Inside b) (sym here.head) (head_inside here.post here.within (λ z. h (here.head ∙ z)))
 
-    pub find_none : p.at ≡ 0 → 0 ≡ find_in (key_at b) k (used_of b)
-    find_none z =
+    none_found : p.at ≡ 0 → 0 ≡ find_in (key_at b) k (used_of b)
+    none_found z =
         sym (find_at p.before p.at here (same_key k (key_at b p.at)) refl
         ∙ ap (λ (t : Bool). cond t 0 (cond (same_key k (key_at b p.at)) p.at 0)) (eq-eqb p.at 0 z))
 
@@ -233,11 +262,21 @@ module _ (b : List ℕ) (k : Key) where
         sym (find_at p.before p.at here t (et ∙ ap (same_key k) ek)
         ∙ ap (λ (u : Bool). cond u 0 (cond t p.at 0)) (ne_eqb p.at 0 h))
 
-    pub find_yes : p.at ≢ 0 → (key : Key) (t : Bool) → key ≡ key_at b p.at → t ≡ same_key k key → t ≡ true → p.at ≡ find_in (key_at b) k (used_of b)
-    find_yes h key t ek et is = sym (ap (λ (u : Bool). cond u p.at 0) is) ∙ find_some h key t ek et
+    pub find_none : p.at ≡ 0 → None ≡ record_named (find_in (key_at b) k (used_of b))
+    unfolding record_named
+    find_none z = ap record_named (none_found z)
 
-    pub find_no : p.at ≢ 0 → (key : Key) (t : Bool) → key ≡ key_at b p.at → t ≡ same_key k key → t ≡ false → 0 ≡ find_in (key_at b) k (used_of b)
-    find_no h key t ek et is = sym (ap (λ (u : Bool). cond u p.at 0) is) ∙ find_some h key t ek et
+    pub find_yes : p.at ≢ 0 → (key : Key) (t : Bool) → key ≡ key_at b p.at → t ≡ same_key k key → t ≡ true
+        → Some p.at ≡ record_named (find_in (key_at b) k (used_of b))
+    unfolding record_named
+    find_yes h key t ek et is =
+        sym (ap (λ (u : Bool). cond u None (Some p.at)) (ne_eqb p.at 0 h))
+        ∙ ap record_named (sym (ap (λ (u : Bool). cond u p.at 0) is) ∙ find_some h key t ek et)
+
+    pub find_no : p.at ≢ 0 → (key : Key) (t : Bool) → key ≡ key_at b p.at → t ≡ same_key k key → t ≡ false
+        → None ≡ record_named (find_in (key_at b) k (used_of b))
+    unfolding record_named
+    find_no h key t ek et is = ap record_named (sym (ap (λ (u : Bool). cond u p.at 0) is) ∙ find_some h key t ek et)
 
   find_within : (is : List ℕ) → Within (capacity_of b) is → find_in (key_at b) k is ≢ 0 → Inside b (find_in (key_at b) k is)
   unfolding find_in
@@ -249,24 +288,29 @@ module _ (b : List ℕ) (k : Key) where
       go true ih d = inside b i w.0 w.1
       go false ih d = ih d
 
-  module _ (at : ℕ) (L : Linked b) (e : at ≡ find_in (key_at b) k (used_of b)) where
-    pub found_inside : at ≢ 0 → Inside b at
+  module _ (found : Option ℕ) (L : Linked b) (e : found ≡ record_named (find_in (key_at b) k (used_of b))) where
+    pub has_found : (t : Bool) → t ≡ is_some found → t ≡ present k (tuples_of b)
+    has_found t is = is ∙ ap is_some e ∙ named_some (find_in (key_at b) k (used_of b)) ∙ sym (present_found L)
+
+    pub found_record : (at : ℕ) → found ≡ Some at → (at ≡ find_in (key_at b) k (used_of b)) × (at ≢ 0)
+    found_record at is = named_record (find_in (key_at b) k (used_of b)) at (sym e ∙ is)
+
+    pub found_inside : (at : ℕ) → found ≡ Some at → Inside b at
     unfolding used_rest
-    found_inside h = subst (Inside b) (sym e) (find_within (used_of b) (used_rest b L.chains).within (λ z. h (e ∙ z)))
+    found_inside at is =
+        let r = found_record at is in
+        subst (Inside b) (sym r.0) (find_within (used_of b) (used_rest b L.chains).within (λ z. r.1 (r.0 ∙ z)))
 
-    pub has_found : not (eqb at 0) ≡ present k (tuples_of b)
-    has_found = ap (λ (i : ℕ). not (eqb i 0)) e ∙ sym (present_found L)
+    pub value_none : found ≡ None → 0 ≡ value_at k (tuples_of b)
+    value_none is =
+        let z = named_none (find_in (key_at b) k (used_of b)) (sym e ∙ is) in
+        sym (value_found L ∙ ap (λ (i : ℕ). cond (eqb i 0) 0 (tuple_at b i).value) z)
 
-    pub value_none : at ≡ 0 → 0 ≡ value_at k (tuples_of b)
-    value_none z =
-        sym (value_found L
-        ∙ ap (λ (i : ℕ). cond (eqb i 0) 0 (tuple_at b i).value) (sym e)
-        ∙ ap (λ (t : Bool). cond t 0 (tuple_at b at).value) (eq-eqb at 0 z))
-
-    pub value_some : at ≢ 0 → (v : ℕ) → v ≡ (tuple_at b at).value → v ≡ value_at k (tuples_of b)
+    pub value_some : (at : ℕ) → found ≡ Some at → (v : ℕ) → v ≡ (tuple_at b at).value → v ≡ value_at k (tuples_of b)
     unfolding tuple_at
-    value_some h v ev =
+    value_some at is v ev =
+        let r = found_record at is in
         ev
         ∙ sym (value_found L
-        ∙ ap (λ (i : ℕ). cond (eqb i 0) 0 (tuple_at b i).value) (sym e)
-        ∙ ap (λ (t : Bool). cond t 0 (tuple_at b at).value) (ne_eqb at 0 h))
+        ∙ ap (λ (i : ℕ). cond (eqb i 0) 0 (tuple_at b i).value) (sym r.0)
+        ∙ ap (λ (t : Bool). cond t 0 (tuple_at b at).value) (ne_eqb at 0 r.1))

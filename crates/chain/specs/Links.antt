@@ -1,5 +1,5 @@
 -- The chains of a buffer: what the functions of this crate ask of it, where a key's place is, and the words after a tuple is linked or unlinked.
-use Rattle.std.specs.Prelude.{Bool, true, false, cond, List, [], ◌∷◌, ◌++◌, ◌≢◌, ◌≡◌, ℕ, ◌+◌, ◌-◌, ◌≤◌, eqb, length, set}
+use Rattle.std.specs.Prelude.{Bool, true, false, cond, Option, Some, None, List, [], ◌∷◌, ◌++◌, ◌≢◌, ◌≡◌, ℕ, ◌+◌, ◌-◌, ◌≤◌, eqb, length, set}
 use Rattle.std.proofs.Math.Option.{some}
 use Rattle.model.specs.declared.Direction.{Direction}
 use Rattle.model.specs.declared.Direction.TheVariants.{Outpointing, Inpointing, Adjacent}
@@ -60,6 +60,10 @@ place_in key k last (i ∷ is) = cond (is_less (compare_keys (key i) k)) (place_
 unfoldable pub find_in : (ℕ → Key) → Key → List ℕ → ℕ
 find_in key k [] = 0
 find_in key k (i ∷ is) = cond (same_key k (key i)) i (find_in key k is)
+
+-- the record of a number; none for 0
+unfoldable pub record_named : ℕ → Option ℕ
+record_named i = cond (eqb i 0) None (Some i)
 
 -- the buffer after an edit: it holds these tuples, and has the same length and the same words past record C.
 -- Left to the builder: which record holds a tuple, and with it the order of the free chain; the words of free records besides next.

@@ -5,12 +5,15 @@ ghost use Rattle.std.specs.Prelude.{◌≡◌, ◌+◌, ◌≤◌, ◌<◌};
 ghost use Rattle.model.specs.Tuples.{present, value_at};
 ghost use Rattle.layouts.specs.Buffer.{next, used_of, tuples_of, key_at};
 ghost use Rattle.words.specs.Words.{Inside};
-ghost use Rattle.chain.specs.Links.{both_ways, Linked, Hint, start_of, after_in, place_in, find_in, Linking, insert_after, Unlinking, remove_after};
+ghost use Rattle.chain.specs.Links.{both_ways, Linked, Hint, start_of, after_in, place_in, find_in, record_named, Linking, insert_after, Unlinking, remove_after};
 
 use model::{Direction, Key};
 
 // A power of two above the number of every record: the remainder by it is the number itself.
 const ABOVE_RECORDS: usize = 4096;
+
+// The value that is none.
+const NIL: u32 = 0;
 
 // A place in the used chain: a record and the one after it; 0 for none.
 #[derive(Clone, Copy)]
@@ -20,14 +23,11 @@ pub struct Place {
 }
 
 // Has a pair two keys, one for the edge each way: adjacent pairs.
+#[tactic(auto, unfolding(crate::specs::Links::both_ways))]
 pub fn both_ways(d: Direction) -> bool
     ensures { result ≡ both_ways d }
 {
-    match d {
-        Direction::Outpointing => false,
-        Direction::Inpointing => false,
-        Direction::Adjacent => true,
-    }
+    matches!(d, Direction::Adjacent)
 }
 
 // The record that follows a record in its chain; 0 where the chain ends. Every walk along a chain goes on by this function.
@@ -88,10 +88,7 @@ pub fn seek(b: &[u32], hint: usize, k: Key) -> Place
         before = at;
         at = next;
     }
-    Place {
-        before: before,
-        at: at,
-    }
+    Place { before, at }
 }
 
 // A free record is taken, written whole, and linked after record `before`.
@@ -125,20 +122,19 @@ pub fn remove_after(b: &mut [u32], before: usize)
     words::put_head_word(b, 3, used - 1);
 }
 
-// The record that holds a key; 0 for none.
-pub fn find(b: &[u32], hint: usize, k: Key) -> usize
+// The record that holds a key.
+pub fn find(b: &[u32], hint: usize, k: Key) -> Option<usize>
     requires { Linked b.now × Hint b.now hint }
-    ensures { result ≡ find_in (key_at b.now) k (used_of b.now) }
+    ensures { result ≡ record_named (find_in (key_at b.now) k (used_of b.now)) }
 {
-    let place = seek(b, hint, k);
-    let at = place.at;
+    let at = seek(b, hint, k).at;
     if at == 0 {
-        return 0;
+        return None;
     }
     if words::key_same(k, used_key(b, at)) {
-        return at;
+        return Some(at);
     }
-    0
+    None
 }
 
 // Is there a tuple with this key.
@@ -146,7 +142,7 @@ pub fn has(b: &[u32], hint: usize, k: Key) -> bool
     requires { Linked b.now × Hint b.now hint }
     ensures { result ≡ present k (tuples_of b.now) }
 {
-    find(b, hint, k) != 0
+    find(b, hint, k).is_some()
 }
 
 // The value at a key; NIL where the key is missing.
@@ -154,9 +150,8 @@ pub fn value_at(b: &[u32], hint: usize, k: Key) -> u32
     requires { Linked b.now × Hint b.now hint }
     ensures { result ≡ value_at k (tuples_of b.now) }
 {
-    let at = find(b, hint, k);
-    if at == 0 {
-        return 0;
+    match find(b, hint, k) {
+        Some(at) => words::value_of(b, at),
+        None => NIL,
     }
-    words::value_of(b, at)
 }
