@@ -1,28 +1,26 @@
 -- The span of a selection: no key below its start and none from a key beyond it on is taken.
-use mathlib.Core.Bool.{Bool, true, false, cond, ◌||◌, false≢true}
+use mathlib.Core.Bool.{Bool, true, false, cond, ◌&&◌, ◌||◌, false≢true}
 use mathlib.Core.Logic.{◌⊎◌, inl, inr, ⊎_elim}
-use mathlib.Core.Path.{◌≡◌, refl, sym, ap, ◌∙◌}
+use mathlib.Core.Path.{◌≡◌, refl, sym, ◌∙◌}
 use Prim.Native.Nat.{ℕ, ◌<◌, ◌≤◌, compare, Ordering}
 use native.Mathlib.Omega.{arith}
 use lib.Dec.{eqb, ltb}
-use borrow.Author.Tests.{eq-eqb, ne_eqb, eqb-true, eqb-false, ltb-true}
+use borrow.Author.Tests.{eq-eqb, eqb-true, eqb-false, ltb-true}
 use Rattle.model.specs.declared.Direction.{Direction}
 use Rattle.model.specs.declared.Direction.TheVariants.{Outpointing, Inpointing, Adjacent}
 use Rattle.model.specs.declared.Key.{Key}
 use Rattle.model.specs.declared.Pair.{Pair}
 use Rattle.model.specs.Ordered.{then_by}
-use Rattle.model.specs.Keys.{node_key, compare_keys}
-use Rattle.model.specs.Pairs.{out_pair, pairs_at, any_pair}
+use Rattle.model.specs.Keys.{is_edge, node_key, compare_keys}
+use Rattle.model.specs.Pairs.{pair, out_pair, pairs_at, any_pair}
 use Rattle.model.specs.Steps.{reaches, edges_taken, node_taken, space_taken}
-use Rattle.model.proofs.Bools.{or_cases, or_right, and_left, and_right, and_both, failed, clash}
+use Rattle.model.proofs.Bools.{or_cases, or_right, and_left, and_right, and_both, failed}
 use Rattle.model.proofs.Order.{lt≢gt, compare_lt, compare_eq}
-use Rattle.taken.specs.declared.EdgesOf.{EdgesOf}
-use Rattle.taken.specs.declared.NodeOf.{NodeOf}
 use Rattle.taken.specs.declared.Selection.{Selection}
 use Rattle.taken.specs.declared.Selection.TheVariants.{Edges, Node, Space}
 use Rattle.taken.specs.declared.Span.{Span}
 use Rattle.taken.specs.Selections.{passes, taken_by, from_node, span_of, in_span, span_start, beyond}
-use Rattle.taken.proofs.Tests.{out_no_edge, out_other}
+use Rattle.taken.proofs.Tests.{any_out}
 
 -- ---- the names of keys that ascend
 
@@ -119,12 +117,8 @@ module _ (a : Span) where
 -- ---- what a selection takes lies in its span
 
 out_node : (p : Pair → Bool) (n : ℕ) (k : Key) → any_pair p (out_pair n k) ≡ true → k.n ≡ n
-out_node p n k e = go (eqb k.g 0) refl (eqb k.n n) refl
-  where
-    go : (t : Bool) → eqb k.g 0 ≡ t → (u : Bool) → eqb k.n n ≡ u → k.n ≡ n
-    go true z u y = absurd (clash e (sym (out_no_edge p n k (eqb-true k.g 0 z))))
-    go false z true y = eqb-true k.n n y
-    go false z false y = absurd (clash e (sym (out_other p n k (eqb-false k.g 0 z) (eqb-false k.n n y))))
+out_node p n k e =
+    eqb-true k.n n (and_right (is_edge k) (eqb k.n n) (and_left (is_edge k && eqb k.n n) (p (pair k.g k.m)) (sym (any_out p n k) ∙ e)))
 
 from_node_lem : (p : Pair → Bool) (d : Direction) (n : ℕ) (k : Key) → any_pair p (pairs_at d n k) ≡ true
     → (eqb (from_node d n) 0 || eqb k.n (from_node d n)) ≡ true
@@ -161,42 +155,3 @@ module _ (sel : Selection) where
       (λ h. later_out (span_of sel) k l.0 (later_on (span_of sel) j k less l.1) (taken_inside sel k h))
 
 -- ---- the answers of `span_of` and `is_beyond`
-
-module _ (sel : Selection) where
-  pub span_edges : (e : EdgesOf) (n : ℕ) → sel ≡ Edges e → n ≡ from_node e.d e.n → record { s = e.s; n = n } ≡ span_of sel
-  unfolding span_of
-  span_edges e n case f = (λ i. record { s = e.s; n = f i }) ∙ ap span_of (sym case)
-
-  pub span_node : (x : NodeOf) → sel ≡ Node x → record { s = x.s; n = 0 } ≡ span_of sel
-  unfolding span_of
-  span_node x case = ap span_of (sym case)
-
-  pub span_space : (s : ℕ) → sel ≡ Space s → record { s = s; n = 0 } ≡ span_of sel
-  unfolding span_of
-  span_space s case = ap span_of (sym case)
-
-module _ (a : Span) (k : Key) where
-  abbrev node_test : Bool
-  node_test = cond (eqb a.n 0) false (ltb a.n k.n)
-
-  pub never_beyond : a.s ≡ 0 → false ≡ beyond a k
-  unfolding beyond
-  never_beyond z = ap (λ (t : Bool). cond t false (cond (eqb k.s a.s) node_test (ltb a.s k.s))) (sym (eq-eqb a.s 0 z))
-
-  pub beyond_space : (a.s ≡ 0 → ⊥) → (k.s ≡ a.s → ⊥) → ltb a.s k.s ≡ beyond a k
-  unfolding beyond
-  beyond_space z d =
-      ap (λ (t : Bool). cond t node_test (ltb a.s k.s)) (sym (ne_eqb k.s a.s d))
-      ∙ ap (λ (t : Bool). cond t false (cond (eqb k.s a.s) node_test (ltb a.s k.s))) (sym (ne_eqb a.s 0 z))
-
-  same_space : (a.s ≡ 0 → ⊥) → k.s ≡ a.s → node_test ≡ beyond a k
-  unfolding beyond
-  same_space z e =
-      ap (λ (t : Bool). cond t node_test (ltb a.s k.s)) (sym (eq-eqb k.s a.s e))
-      ∙ ap (λ (t : Bool). cond t false (cond (eqb k.s a.s) node_test (ltb a.s k.s))) (sym (ne_eqb a.s 0 z))
-
-  pub in_same_space : (a.s ≡ 0 → ⊥) → k.s ≡ a.s → a.n ≡ 0 → false ≡ beyond a k
-  in_same_space z e n = ap (λ (t : Bool). cond t false (ltb a.n k.n)) (sym (eq-eqb a.n 0 n)) ∙ same_space z e
-
-  pub beyond_node : (a.s ≡ 0 → ⊥) → k.s ≡ a.s → (a.n ≡ 0 → ⊥) → ltb a.n k.n ≡ beyond a k
-  beyond_node z e n = ap (λ (t : Bool). cond t false (ltb a.n k.n)) (sym (ne_eqb a.n 0 n)) ∙ same_space z e

@@ -40,102 +40,67 @@ pub struct Span {
 }
 
 // Does removing from space s reach the key's space.
+#[tactic(auto, unfolding(model::specs::Steps::reaches))]
 fn reaches_space(s: u32, k: Key) -> bool
     ensures { result ≡ reaches s k }
 {
-    if s == 0 {
-        return true;
-    }
-    k.s == s
+    s == 0 || k.s == s
 }
 
-// Is this the name that is asked for; 0 asks for none in particular.
-fn asked(want: u32, name: u32) -> bool
-    ensures { result ≡ (eqb want 0 || eqb name want) }
-{
-    if want == 0 {
-        return true;
-    }
-    name == want
-}
-
-// Is this the edge and node that are asked for.
+// Is this the edge and node that are asked for; 0, which is no name, asks for none in particular.
+#[tactic(auto, unfolding(crate::specs::Selections::passes))]
 pub fn passes_pair(g: u32, m: u32, edge: u32, node: u32) -> bool
     ensures { result ≡ passes g m (pair edge node) }
 {
-    if asked(g, edge) {
-        return asked(m, node);
-    }
-    false
+    (g == 0 || edge == g) && (m == 0 || node == m)
 }
 
 // Is the key an edge from node n that is asked for.
+#[tactic(auto, using(crate::proofs::Tests::any_out))]
 fn out_taken(n: u32, g: u32, m: u32, k: Key) -> bool
     ensures { result ≡ any_pair (passes g m) (out_pair n k) }
 {
-    if k.g == 0 {
-        return false;
-    }
-    if k.n != n {
-        return false;
-    }
-    passes_pair(g, m, k.g, k.m)
+    k.g != 0 && k.n == n && passes_pair(g, m, k.g, k.m)
 }
 
 // Is the key an edge to node n that is asked for.
+#[tactic(auto, using(crate::proofs::Tests::any_in))]
 fn in_taken(n: u32, g: u32, m: u32, k: Key) -> bool
     ensures { result ≡ any_pair (passes g m) (in_pair n k) }
 {
-    if k.g == 0 {
-        return false;
-    }
-    if k.m != n {
-        return false;
-    }
-    passes_pair(g, m, k.g, k.n)
+    out_taken(n, g, m, words::reversed(k))
 }
 
 // Is the key, in whatever space, one of the edges.
+#[tactic(auto, using(crate::proofs::Tests::any_append), unfolding(model::specs::Pairs::pairs_at))]
 fn pair_taken(e: EdgesOf, k: Key) -> bool
     ensures { result ≡ any_pair (passes e.g e.m) (pairs_at e.d e.n k) }
 {
-    let d = e.d;
-    match d {
+    match e.d {
         Direction::Outpointing => out_taken(e.n, e.g, e.m, k),
         Direction::Inpointing => in_taken(e.n, e.g, e.m, k),
-        Direction::Adjacent => {
-            if out_taken(e.n, e.g, e.m, k) {
-                return true;
-            }
-            in_taken(e.n, e.g, e.m, k)
-        }
+        Direction::Adjacent => out_taken(e.n, e.g, e.m, k) || in_taken(e.n, e.g, e.m, k),
     }
 }
 
 // Is the key one of the edges.
+#[tactic(auto, unfolding(model::specs::Steps::edges_taken))]
 fn edges_taken(e: EdgesOf, k: Key) -> bool
     ensures { result ≡ edges_taken e.d e.s e.n (passes e.g e.m) k }
 {
-    if reaches_space(e.s, k) {
-        return pair_taken(e, k);
-    }
-    false
+    reaches_space(e.s, k) && pair_taken(e, k)
 }
 
 // Is the key that of the node, or of one of its edges.
+#[tactic(auto, unfolding(model::specs::Steps::node_taken))]
 fn node_taken(x: NodeOf, k: Key) -> bool
     ensures { result ≡ node_taken x.s x.n k }
 {
-    if !reaches_space(x.s, k) {
-        return false;
-    }
-    if k.n == x.n {
-        return true;
-    }
-    k.m == x.n
+    reaches_space(x.s, k) && (k.n == x.n || k.m == x.n)
 }
 
 // Does the selection take the tuple with this key.
+#[tactic(auto, unfolding(crate::specs::Selections::taken_by, model::specs::Steps::space_taken))]
 pub fn takes(sel: Selection, k: Key) -> bool
     ensures { result ≡ taken_by sel k }
 {
@@ -147,26 +112,26 @@ pub fn takes(sel: Selection, k: Key) -> bool
 }
 
 // The node that all edges of this direction start at; 0 for none in particular.
+#[tactic(auto, unfolding(crate::specs::Selections::from_node))]
 fn from_node(d: Direction, n: u32) -> u32
     ensures { result ≡ from_node d n }
 {
     match d {
         Direction::Outpointing => n,
-        Direction::Inpointing => 0,
-        Direction::Adjacent => 0,
+        Direction::Inpointing | Direction::Adjacent => 0,
     }
 }
 
 // The span in which all keys lie that the selection takes.
+#[tactic(auto, unfolding(crate::specs::Selections::span_of))]
 pub fn span_of(sel: Selection) -> Span
     ensures { result ≡ span_of sel }
 {
     match sel {
         Selection::Edges(e) => {
-            let d = e.d;
             Span {
                 s: e.s,
-                n: from_node(d, e.n),
+                n: from_node(e.d, e.n),
             }
         }
         Selection::Node(x) => Span { s: x.s, n: 0 },
@@ -175,6 +140,7 @@ pub fn span_of(sel: Selection) -> Span
 }
 
 // Does neither this key nor any above it lie in the span.
+#[tactic(auto, unfolding(crate::specs::Selections::beyond))]
 pub fn is_beyond(span: Span, k: Key) -> bool
     ensures { result ≡ beyond span k }
 {

@@ -1,7 +1,7 @@
 -- Single words and single records of a buffer: where they are, and the buffer with one of them written.
 use Rattle.std.specs.Prelude.{List, ℕ, ◌+◌, ◌≤◌, length, set}
 use Rattle.model.specs.declared.Key.{Key}
-use Rattle.model.specs.Keys.{Value}
+use Rattle.model.specs.Keys.{Value, edge_key}
 use Rattle.layouts.specs.Buffer.{record_words, record_start, next_place, value_place}
 
 -- numbers of records that are written as words and counted on from are at most this; a store has half as many records
@@ -28,3 +28,7 @@ put_value b i v = put_word b i value_place v
 -- the buffer with the key and value of record i written
 unfoldable pub put_tuple : List ℕ → ℕ → Key → Value → List ℕ
 put_tuple b i k v = put_word (put_word (put_word (put_word (put_word b i 1 k.s) i 2 k.n) i 3 k.g) i 4 k.m) i value_place v
+
+-- the key of the edge the other way
+abbrev pub reversed : Key → Key
+reversed k = edge_key k.s k.m k.g k.n

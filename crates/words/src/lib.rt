@@ -5,7 +5,7 @@ ghost use Rattle.std.specs.Prelude.{◌≡◌, ◌+◌, ◌≤◌, ◌<◌, leng
 ghost use Rattle.layouts.specs.Buffer.{word, head_words, record_words, fits_length, capacity_of, record_start, word_of, next, key_at, tuple_at};
 ghost use Rattle.model.specs.Ordered.{is_less};
 ghost use Rattle.model.specs.Keys.{node_key, compare_keys, same_key};
-ghost use Rattle.words.specs.Words.{most_index, Inside, put_word, put_next, put_value, put_tuple};
+ghost use Rattle.words.specs.Words.{most_index, Inside, put_word, put_next, put_value, put_tuple, reversed};
 
 use model::Key;
 
@@ -61,6 +61,17 @@ pub fn node_key(s: u32, n: u32) -> Key
     ensures { result ≡ node_key s n }
 {
     Key { s, n, g: 0, m: 0 }
+}
+
+// The key of the edge the other way.
+pub fn reversed(k: Key) -> Key
+    ensures { result ≡ reversed k }
+{
+    Key {
+        n: k.m,
+        m: k.n,
+        ..k
+    }
 }
 
 // One of the words 0 to 3.
