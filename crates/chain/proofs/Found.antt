@@ -51,6 +51,10 @@ named_none i e = go (eqb i 0) refl e
     go true f e = eqb-true i 0 f
     go false f e = absurd (false≢true (sym (ap is_some e)))
 
+pub none_of : (o : Option ℕ) → ((i : ℕ) → o ≡ Some i → ⊥) → o ≡ None
+none_of (Some i) other = absurd (other i refl)
+none_of None other = refl
+
 -- the last of some records, or `last` where there are none
 abbrev pub last_of : ℕ → List ℕ → ℕ
 last_of last [] = last

@@ -40,6 +40,7 @@ pub fn next_of(b: &[u32], at: usize) -> usize
 
 // The key of a used record, for walks. The remainder is the number itself: with it the place of the key is computed apart from
 // the place of next, and a walk waits for one operation less between a link and the following one.
+#[tactic(auto, using(crate::proofs::Places::same_inside, crate::proofs::Places::same_key_at))]
 pub fn used_key(b: &[u32], at: usize) -> Key
     requires { Linked b.now × Inside b.now at }
     ensures { result ≡ key_at b.now at }
@@ -138,6 +139,7 @@ pub fn find(b: &[u32], hint: usize, k: Key) -> Option<usize>
 }
 
 // Is there a tuple with this key.
+#[tactic(auto, using(crate::proofs::Found::has_found))]
 pub fn has(b: &[u32], hint: usize, k: Key) -> bool
     requires { Linked b.now × Hint b.now hint }
     ensures { result ≡ present k (tuples_of b.now) }

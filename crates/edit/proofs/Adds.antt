@@ -47,9 +47,10 @@ module _ (b : List ℕ) (k : Key) (L : Linked b) (at : ℕ) (e : at ≡ (place_i
       (find_at b k the_place.before the_place.at (at_place b k the_place L refl) t (et ∙ ap (λ (i : ℕ). same_key k (key_at b i)) e)
       ∙ ap (λ (i : ℕ). cond (eqb i 0) 0 (cond t i 0)) (sym e))
 
-  pub held_none : at ≡ 0 → false ≡ present k (tuples_of b)
+  pub held_none : at ≡ 0 → not (eqb at 0) ≡ present k (tuples_of b)
   held_none z =
-      sym (present_at (same_key k (key_at b at)) refl
+      ap not (eq-eqb at 0 z)
+      ∙ sym (present_at (same_key k (key_at b at)) refl
       ∙ ap (λ (t : Bool). not (eqb (cond t 0 (cond (same_key k (key_at b at)) at 0)) 0)) (eq-eqb at 0 z))
 
   pub held_same : at ≢ 0 → (key : Key) (t : Bool) → key ≡ key_at b at → t ≡ same_key k key → t ≡ present k (tuples_of b)

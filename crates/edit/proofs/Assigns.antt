@@ -24,9 +24,10 @@ use Rattle.layouts.proofs.Chains.{chain_within, chain_agree}
 use Rattle.words.specs.Words.{Inside, put_word, put_value}
 use Rattle.words.proofs.Words.{length_put_value, word_put_value, next_put_value, key_put_value, value_put_value, value_put_value_other, past_put_value}
 use Rattle.layouts.proofs.Sizes.{capacity_length}
-use Rattle.chain.specs.Links.{Linked, KeepsHints, find_in, Edited}
+use Rattle.std.specs.Prelude.{Option, Some}
+use Rattle.chain.specs.Links.{Linked, KeepsHints, find_in, record_named, Edited}
 use Rattle.layouts.proofs.Store.{used_of_lem}
-use Rattle.chain.proofs.Found.{present_found, found_inside}
+use Rattle.chain.proofs.Found.{found_inside, found_record, named_none, none_of, present_found}
 use Rattle.chain.proofs.Paths.{counted_within}
 use Rattle.edit.specs.Edits.{assign_in, Assigned}
 use Rattle.edit.proofs.Built.{edited, unedited}
@@ -146,31 +147,33 @@ hints_kept b k v at I L i H h =
       split = used_of_lem (put_value b at v) (used_of b) (free_of b) (value_rules b k v at I (used_of b) (free_of b) L.chains) ∙ R.split;
     }
 
--- the value of a key that a record holds is set ..
-pub value_set : (b : List ℕ) (k : Key) (v : Value) (at : ℕ) (b' : List ℕ) → Linked b → at ≡ find_in (key_at b) k (used_of b) → at ≢ 0 → b' ≡ put_value b at v
-    → Assigned b k v b'
-unfolding assign_in
-value_set b k v at b' L e d same =
-    let I = found_inside b k at L e d in
-    let held : eqb at 0 ≡ false = ne_eqb at 0 d in
-    subst (Assigned b k v) (sym same)
-    (record {
-      words = ap (λ (t : Bool). cond t b (put_value b at v)) (sym held) ∙ ap (λ (i : ℕ). cond (eqb i 0) b (put_value b i v)) e;
-      edited = value_put b k v at I L e d;
-      hints = hints_kept b k v at I L;
-    })
+module _ (b : List ℕ) (k : Key) (v : Value) (found : Option ℕ) (L : Linked b) (e : found ≡ record_named (find_in (key_at b) k (used_of b))) where
+  -- the value of a key that a record holds is set ..
+  pub value_set : (at : ℕ) (b' : List ℕ) → found ≡ Some at → b' ≡ put_value b at v → Assigned b k v b'
+  unfolding assign_in
+  value_set at b' is same =
+      let I = found_inside b k found L e at is in
+      let r = found_record b k found L e at is in
+      let held : eqb at 0 ≡ false = ne_eqb at 0 r.1 in
+      subst (Assigned b k v) (sym same)
+      (record {
+        words = ap (λ (t : Bool). cond t b (put_value b at v)) (sym held) ∙ ap (λ (i : ℕ). cond (eqb i 0) b (put_value b i v)) r.0;
+        edited = value_put b k v at I L r.0 r.1;
+        hints = hints_kept b k v at I L;
+      })
 
--- .. and nothing is set where the key is missing
-pub value_unset : (b : List ℕ) (k : Key) (v : Value) (at : ℕ) → Linked b → at ≡ find_in (key_at b) k (used_of b) → at ≡ 0 → Assigned b k v b
-unfolding assign_in
-value_unset b k v at L e z =
-    record {
-      words = sym (ap (λ (i : ℕ). cond (eqb i 0) b (put_value b i v)) (sym e ∙ z));
-      edited =
-          unedited b (assign k v (tuples_of b)) L
-          (sym (assign_absent k v (tuples_of b) (present_found b k L ∙ ap (λ (i : ℕ). not (eqb i 0)) (sym e) ∙ ap not (eq-eqb at 0 z))));
-      hints = λ i H. H;
-    }
+  -- .. and nothing is set where the key is missing
+  pub value_unset : ((at : ℕ) → found ≡ Some at → ⊥) → Assigned b k v b
+  unfolding assign_in
+  value_unset other =
+      let z = named_none (find_in (key_at b) k (used_of b)) (sym e ∙ none_of found other) in
+      record {
+        words = sym (ap (λ (i : ℕ). cond (eqb i 0) b (put_value b i v)) z);
+        edited =
+            unedited b (assign k v (tuples_of b)) L
+            (sym (assign_absent k v (tuples_of b) (present_found b k L ∙ ap not (eq-eqb _ 0 z))));
+        hints = λ i H. H;
+      }
 
 -- no word but the value word of the record found is another afterwards
 pub assigned_other : (b : List ℕ) (k : Key) (v : Value) (b' : List ℕ) (i : ℕ) → Assigned b k v b'

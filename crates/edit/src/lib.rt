@@ -14,6 +14,7 @@ use model::Key;
 use taken::{Selection, Span};
 
 // How many tuples there are: word 3.
+#[tactic(auto, using(crate::proofs::Built::tuples_counted, crate::proofs::Built::count_fits))]
 pub fn tuple_count(b: &[u32]) -> u32
     requires { Linked b.now }
     ensures { result ≡ length (tuples_of b.now) }
@@ -26,11 +27,11 @@ pub fn held_at(b: &[u32], k: Key, at: usize) -> bool
     requires { Linked b.now × (at ≡ (place_in (key_at b.now) k 0 (used_of b.now)).at) }
     ensures { result ≡ present k (tuples_of b.now) }
 {
-    if at == 0 {
-        return false;
-    }
-    words::key_same(k, chain::used_key(b, at))
+    at != 0 && words::key_same(k, chain::used_key(b, at))
 }
+
+// The value that is none.
+const NIL: u32 = 0;
 
 // Adds a tuple, NIL, where its key is missing; a present one keeps its value.
 pub fn add_missing(b: &mut [u32], hint: usize, k: Key)
@@ -42,7 +43,7 @@ pub fn add_missing(b: &mut [u32], hint: usize, k: Key)
     if held_at(b, k, place.at) {
         return;
     }
-    chain::insert_after(b, place.before, k, 0);
+    chain::insert_after(b, place.before, k, NIL);
 }
 
 // Sets the value of a key; a key that is missing stays so. No word is written but the value word of the record that holds the key.
@@ -50,14 +51,13 @@ pub fn assign_value(b: &mut [u32], hint: usize, k: Key, v: u32)
     requires { Linked b.old × Hint b.old hint }
     ensures { Assigned b.old k v b.new }
 {
-    let at = chain::find(b, hint, k);
-    if at == 0 {
-        return;
+    if let Some(at) = chain::find(b, hint, k) {
+        words::put_value(b, at, v);
     }
-    words::put_value(b, at, v);
 }
 
 // The tuple of record `at`, whose key is k, is removed where the selection takes it; the answer is the record that then stands before the next.
+#[tactic(auto, using(crate::proofs::Sweeps::turned_taken, crate::proofs::Sweeps::turned_left))]
 fn keep_or_remove(b: &mut [u32], sel: Selection, before: usize, at: usize, k: Key) -> usize
     requires { Unlinking b.old before × (at ≡ next b.old before) × (k ≡ key_at b.old at) }
     ensures { Turned b.old sel before at result b.new }
@@ -70,6 +70,7 @@ fn keep_or_remove(b: &mut [u32], sel: Selection, before: usize, at: usize, k: Ke
 }
 
 // The record that a sweep of a span starts behind: the last one below it; the first one where none is below.
+#[tactic(auto, using(crate::proofs::Sweeps::behind_first, crate::proofs::Sweeps::behind_placed))]
 fn start_behind(b: &[u32], hint: usize, span: Span) -> usize
     requires { Linked b.now × Hint b.now hint }
     ensures { result ≡ sweep_start b.now span }

@@ -29,12 +29,7 @@ fn edge_key(s: u32, f: Fields) -> Key
 fn reversed_key(s: u32, f: Fields) -> Key
     ensures { result ≡ edge_key s f.m f.g f.n }
 {
-    Key {
-        s,
-        n: f.m,
-        g: f.g,
-        m: f.n,
-    }
+    words::reversed(edge_key(s, f))
 }
 
 // The key that a pair has in space s; for an adjacent pair, that of the edge from n.
@@ -42,9 +37,8 @@ fn pair_key(d: Direction, s: u32, f: Fields) -> Key
     ensures { result ≡ pair_key d s f }
 {
     match d {
-        Direction::Outpointing => edge_key(s, f),
+        Direction::Outpointing | Direction::Adjacent => edge_key(s, f),
         Direction::Inpointing => reversed_key(s, f),
-        Direction::Adjacent => edge_key(s, f),
     }
 }
 
@@ -54,18 +48,8 @@ fn main_key(o: Object, s: u32, f: Fields) -> Key
 {
     match o {
         Object::P(d) => pair_key(d, s, f),
-        Object::UN => Key {
-            s,
-            n: f.n,
-            g: 0,
-            m: 0,
-        },
-        Object::US => Key {
-            s,
-            n: 0,
-            g: 0,
-            m: 0,
-        },
+        Object::UN => words::node_key(s, f.n),
+        Object::US => words::node_key(s, 0),
     }
 }
 
@@ -74,9 +58,8 @@ fn pair_hint(d: Direction, near: Near) -> usize
     ensures { result ≡ pair_hint d near }
 {
     match d {
-        Direction::Outpointing => near.node,
+        Direction::Outpointing | Direction::Adjacent => near.node,
         Direction::Inpointing => near.second,
-        Direction::Adjacent => near.node,
     }
 }
 
@@ -97,8 +80,7 @@ fn is_adjacent(o: Object) -> bool
 {
     match o {
         Object::P(d) => chain::both_ways(d),
-        Object::UN => false,
-        Object::US => false,
+        Object::UN | Object::US => false,
     }
 }
 
@@ -115,13 +97,8 @@ pub fn exists(b: &[u32], near: Near, o: Object, f: Fields) -> bool
     requires { Linked b.now × NearIn b.now near }
     ensures { result ≡ any_present (object_keys o f.s f) (tuples_of b.now) }
 {
-    if chain::has(b, main_hint(o, near), main_key(o, f.s, f)) {
-        return true;
-    }
-    if is_adjacent(o) {
-        return chain::has(b, near.second, reversed_key(f.s, f));
-    }
-    false
+    chain::has(b, main_hint(o, near), main_key(o, f.s, f))
+        || is_adjacent(o) && chain::has(b, near.second, reversed_key(f.s, f))
 }
 
 // B: sets the value of what the call names; of two edges, whichever are present. No word is written but their value words.
@@ -130,10 +107,9 @@ pub fn bind(b: &mut [u32], near: Near, o: Object, f: Fields)
     ensures { Bound b.old (object_keys o f.s f) f.v b.new }
 {
     edit::assign_value(b, main_hint(o, near), main_key(o, f.s, f), f.v);
-    if !is_adjacent(o) {
-        return;
+    if is_adjacent(o) {
+        edit::assign_value(b, near.second, reversed_key(f.s, f), f.v);
     }
-    edit::assign_value(b, near.second, reversed_key(f.s, f), f.v);
 }
 
 // How many tuples a key would add.
@@ -141,10 +117,7 @@ fn count_absent(b: &[u32], hint: usize, k: Key) -> usize
     requires { Linked b.now × Hint b.now hint }
     ensures { result ≡ length (missing (k ∷ []) (tuples_of b.now)) }
 {
-    if chain::has(b, hint, k) {
-        return 0;
-    }
-    1
+    usize::from(!chain::has(b, hint, k))
 }
 
 // How many tuples an object would add in space s; a loop has one edge.
@@ -153,10 +126,7 @@ fn missing_in(b: &[u32], near: Near, o: Object, s: u32, f: Fields) -> usize
     ensures { result ≡ length (missing (object_keys o s f) (tuples_of b.now)) }
 {
     let first = count_absent(b, main_hint(o, near), main_key(o, s, f));
-    if !is_adjacent(o) {
-        return first;
-    }
-    if f.n == f.m {
+    if !is_adjacent(o) || f.n == f.m {
         return first;
     }
     first + count_absent(b, near.second, reversed_key(s, f))
@@ -166,11 +136,7 @@ fn missing_in(b: &[u32], near: Near, o: Object, s: u32, f: Fields) -> usize
 fn is_space(o: Object) -> bool
     ensures { result ≡ is_space o }
 {
-    match o {
-        Object::P(d) => false,
-        Object::UN => false,
-        Object::US => true,
-    }
+    matches!(o, Object::US)
 }
 
 // C: how many tuples it would add.
@@ -179,10 +145,7 @@ pub fn count_created(b: &[u32], near: Near, universe: Near, o: Object, f: Fields
     ensures { result ≡ length (missing (created o f) (tuples_of b.now)) }
 {
     let here = missing_in(b, near, o, f.s, f);
-    if f.s == 0 {
-        return here;
-    }
-    if is_space(o) {
+    if f.s == 0 || is_space(o) {
         return here;
     }
     here + missing_in(b, universe, o, 0, f)
@@ -195,10 +158,9 @@ fn add_in(b: &mut [u32], near: Near, o: Object, s: u32, f: Fields)
     ensures hints { KeepsHints b.old b.new }
 {
     edit::add_missing(b, main_hint(o, near), main_key(o, s, f));
-    if !is_adjacent(o) {
-        return;
+    if is_adjacent(o) {
+        edit::add_missing(b, near.second, reversed_key(s, f));
     }
-    edit::add_missing(b, near.second, reversed_key(s, f));
 }
 
 // C: adds what the call names in s and in 0, where there is room for all of it.
@@ -207,8 +169,7 @@ pub fn create(b: &mut [u32], near: Near, universe: Near, o: Object, f: Fields)
     ensures { Edited b.old b.new (add_all (created o f) (tuples_of b.old)) }
 {
     add_in(b, near, o, f.s, f);
-    if is_space(o) {
-        return;
+    if !is_space(o) {
+        add_in(b, universe, o, 0, f);
     }
-    add_in(b, universe, o, 0, f);
 }
