@@ -3,9 +3,9 @@ use mathlib.Core.Bool.{Bool, true, false, cond, not, false≢true}
 use mathlib.Core.List.{List}
 use mathlib.Core.Logic.{◌≢◌}
 use mathlib.Core.Path.{◌≡◌, refl, sym, ap, ap₂, ◌∙◌, subst}
-use Prim.Native.Nat.{ℕ, ◌≤◌, ◌<◌}
+use Prim.Native.Nat.{ℕ}
 use lib.Dec.{eqb, leb}
-use borrow.Author.Tests.{le-leb, lt-leb, eq-eqb, ne_eqb}
+use borrow.Author.Tests.{ne_eqb}
 use Rattle.model.specs.declared.Decoded.{Decoded}
 use Rattle.model.specs.declared.Fields.{Fields}
 use Rattle.model.specs.declared.Key.{Key}
@@ -13,8 +13,7 @@ use Rattle.model.specs.declared.Reads.{Reads}
 use Rattle.model.specs.Keys.{node_key}
 use Rattle.model.specs.Tuples.{present}
 use Rattle.layouts.specs.Buffer.{key_at, used_of, tuples_of}
-use Rattle.model.proofs.Bools.{clash, not_yes, not_no, cond_yes, cond_no}
-use Rattle.chain.specs.declared.Place.{Place}
+use Rattle.model.proofs.Bools.{clash}
 use Rattle.chain.specs.Links.{Linked, Hint, place_in}
 use Rattle.chain.proofs.Hints.{no_hint, place_hint}
 use Rattle.located.specs.declared.Near.{Near}
@@ -64,35 +63,9 @@ module _ (b : List ℕ) (L : Linked b) where
 
 -- ---- what each function answers
 
-pub before_told : (b : List ℕ) (k j : Key) (p : Place) → k ≡ j → p ≡ place_in (key_at b) k 0 (used_of b) → p.before ≡ before_key b j
-before_told b k j p K P = ap (λ (q : Place). q.before) P ∙ ap (before_key b) K
-
-pub nodes_told : (b : List ℕ) (space s n m i j : ℕ) → i ≡ before_key b (node_key s n) → j ≡ before_key b (node_key s m) → near space i j ≡ near_nodes b space s n m
-nodes_told b space s n m i j I J = ap₂ (near space) I J
-
-pub also_there : (near u : Near) (s : ℕ) → s ≡ 0 → near ≡ also_in near u s
-unfolding also_in
-also_there near u s e = sym (ap (λ (z : Bool). cond z near u) (eq-eqb s 0 e))
-
-pub also_apart : (near u : Near) (s : ℕ) → s ≢ 0 → u ≡ also_in near u s
-unfolding also_in
-also_apart near u s h = sym (ap (λ (z : Bool). cond z near u) (ne_eqb s 0 h))
-
-pub farther_second : (u : Near) (f : Fields) → f.n ≤ f.m → u.second ≡ farther_of u f
-unfolding farther_of
-farther_second u f h = sym (ap (λ (t : Bool). cond t u.second u.node) (le-leb f.n f.m h))
-
-pub farther_node : (u : Near) (f : Fields) → f.m < f.n → u.node ≡ farther_of u f
-unfolding farther_of
-farther_node u f h = sym (ap (λ (t : Bool). cond t u.second u.node) (lt-leb f.n f.m h))
-
 module _ (b : List ℕ) (d : Decoded) where
   abbrev elsewhere : Near
   elsewhere = cond d.row.both (near_nodes b 0 0 d.fields.n d.fields.m) (near 0 0 0)
-
-  pub universe_none : (u : Near) → d.fields.s ≡ 0 → u ≡ near 0 0 0 → u ≡ near_universe b d
-  unfolding near_universe
-  universe_none u e U = U ∙ sym (ap (λ (z : Bool). cond z (near 0 0 0) elsewhere) (eq-eqb d.fields.s 0 e))
 
   chosen : (t : Bool) → d.fields.s ≢ 0 → d.row.both ≡ t → cond t (near_nodes b 0 0 d.fields.n d.fields.m) (near 0 0 0) ≡ near_universe b d
   unfolding near_universe
@@ -100,70 +73,9 @@ module _ (b : List ℕ) (d : Decoded) where
       ap (λ (y : Bool). cond y (near_nodes b 0 0 d.fields.n d.fields.m) (near 0 0 0)) (sym e)
       ∙ sym (ap (λ (z : Bool). cond z (near 0 0 0) elsewhere) (ne_eqb d.fields.s 0 h))
 
-  pub universe_spared : (u : Near) → d.fields.s ≢ 0 → not d.row.both ≡ true → u ≡ near 0 0 0 → u ≡ near_universe b d
-  universe_spared u h e U = U ∙ chosen false h (not_yes _ e)
-
-  pub universe_too : (u : Near) → d.fields.s ≢ 0 → not d.row.both ≡ false → u ≡ near_nodes b 0 0 d.fields.n d.fields.m → u ≡ near_universe b d
-  universe_too u h e U = U ∙ chosen true h (not_no _ e)
-
--- the record at the place that was sought
-pub sought_at : (b : List ℕ) (k : Key) (p : Place) → p ≡ place_in (key_at b) k 0 (used_of b) → p.at ≡ (place_in (key_at b) k 0 (used_of b)).at
-sought_at b k p P = ap (λ (q : Place). q.at) P
-
-pub sought_told : (b : List ℕ) (k j : Key) (p : Place) (t : Bool) → k ≡ j → p ≡ place_in (key_at b) k 0 (used_of b) → t ≡ present k (tuples_of b)
-    → record { before = p.before; there = t } ≡ sought_in b j
-unfolding sought_in
-sought_told b k j p t K P T =
-    λ i. record { before = before_told b k j p K P i; there = (T ∙ ap (λ (x : Key). present x (tuples_of b)) K) i }
-
 pub nodes_located : (b : List ℕ) (space s n m : ℕ) (x y : Sought) (l : Located) → x ≡ sought_in b (node_key s n) → y ≡ sought_in b (node_key s m)
     → l ≡ located_nodes space x y → l ≡ located_nodes space (sought_in b (node_key s n)) (sought_in b (node_key s m))
 nodes_located b space s n m x y l X Y L = L ∙ ap₂ (located_nodes space) X Y
-
--- ---- what is located, by what the operator reads and whether the space is there
-
-module _ (b : List ℕ) (d : Decoded) where
-  abbrev r : Reads
-  r = d.row.reads
-
-  abbrev f : Fields
-  f = d.fields
-
-  whole : Sought → Located
-  whole space =
-      cond (not r.s) (located_space 0 false)
-      (cond (not space.there) (located_space space.before false)
-      (cond r.m (located_nodes space.before (sought_in b (node_key f.s f.n)) (sought_in b (node_key f.s f.m)))
-      (cond r.n (located_node space.before (sought_in b (node_key f.s f.n))) (located_space space.before true))))
-
-  whole_located : (space : Sought) → space ≡ sought_in b (node_key f.s 0) → whole space ≡ located_in b d
-  unfolding whole located_in
-  whole_located space S = ap whole S
-
-  pub located_unread : (l : Located) → not r.s ≡ true → l ≡ located_space 0 false → l ≡ located_in b d
-  unfolding whole
-  located_unread l e L = L ∙ cond_yes _ _ _ e ∙ whole_located (sought_in b (node_key f.s 0)) refl
-
-  module _ (e : not r.s ≡ false) (space : Sought) (S : space ≡ sought_in b (node_key f.s 0)) where
-    pub located_absent : (l : Located) → not space.there ≡ true → l ≡ located_space space.before false → l ≡ located_in b d
-    unfolding whole
-    located_absent l t L = L ∙ cond_yes _ _ _ t ∙ cond_no _ _ _ e ∙ whole_located space S
-
-    module _ (t : not space.there ≡ false) where
-      pub located_both : (l : Located) → r.m ≡ true
-          → l ≡ located_nodes space.before (sought_in b (node_key f.s f.n)) (sought_in b (node_key f.s f.m)) → l ≡ located_in b d
-      unfolding whole
-      located_both l m L = L ∙ cond_yes _ _ _ m ∙ cond_no _ _ _ t ∙ cond_no _ _ _ e ∙ whole_located space S
-
-      pub located_alone : (l : Located) → r.m ≡ false → not r.n ≡ true → l ≡ located_space space.before true → l ≡ located_in b d
-      unfolding whole
-      located_alone l m n L = L ∙ cond_no _ _ _ (not_yes r.n n) ∙ cond_no _ _ _ m ∙ cond_no _ _ _ t ∙ cond_no _ _ _ e ∙ whole_located space S
-
-      pub located_node_lem : (l : Located) (x : Sought) → r.m ≡ false → not r.n ≡ false → x ≡ sought_in b (node_key f.s f.n)
-          → l ≡ located_node space.before x → l ≡ located_in b d
-      unfolding whole
-      located_node_lem l x m n X L =
-          L ∙ ap (located_node space.before) X ∙ cond_yes _ _ _ (not_no r.n n) ∙ cond_no _ _ _ m ∙ cond_no _ _ _ t ∙ cond_no _ _ _ e ∙ whole_located space S
 
 -- ---- what is located is so
 

@@ -4,78 +4,21 @@
 ghost use Rattle.std.specs.Prelude.{◌≡◌};
 ghost use Rattle.chain.specs.Links.{Linked, Hint};
 ghost use Rattle.model.specs.Keys.{node_key};
-ghost use Rattle.located.specs.Located.{NearIn, before_key, near, near_nodes, near_universe, also_in, farther_of, sought_in, located_space, located_node, located_nodes, located_in};
+ghost use Rattle.located.specs.Located.{NearIn, before_key, near_universe, also_in, farther_of, sought_in, located_space, located_node, located_nodes, located_in};
 
 use model::{Decoded, Fields};
 
 // Where to look in one space for what a call names: used records before the space, node n and node m, or 0.
-// They are hints: searches start behind them where that is right, and answers do not depend on them.
-#[derive(Clone, Copy)]
+// They are hints: searches start behind them where that is right, and answers do not depend on them. By default there are none.
+#[derive(Clone, Copy, Default)]
 pub struct Near {
     pub space: usize,
     pub node: usize,
     pub second: usize,
 }
 
-// The last used record whose key is below that of node n in space s.
-fn before_node(b: &[u32], hint: usize, s: u32, n: u32) -> usize
-    requires { Linked b.now × Hint b.now hint }
-    ensures { result ≡ before_key b.now (node_key s n) }
-{
-    let place = chain::seek(b, hint, words::node_key(s, n));
-    place.before
-}
-
-// Where nodes n and m of space s are to be sought, found in one walk from `space` on: the lesser first.
-fn near_nodes(b: &[u32], space: usize, s: u32, n: u32, m: u32) -> Near
-    requires { Linked b.now × Hint b.now space }
-    ensures { result ≡ near_nodes b.now space s n m }
-{
-    if n <= m {
-        let node = before_node(b, space, s, n);
-        let second = before_node(b, node, s, m);
-        return Near {
-            space,
-            node,
-            second,
-        };
-    }
-    let second = before_node(b, space, s, m);
-    let node = before_node(b, second, s, n);
-    Near {
-        space,
-        node,
-        second,
-    }
-}
-
-// No hints: every search starts at the first record.
-fn nowhere() -> Near
-    ensures { result ≡ near 0 0 0 }
-{
-    Near {
-        space: 0,
-        node: 0,
-        second: 0,
-    }
-}
-
-// Where a C in a numbered space is to look in UNIVERSE; nowhere in particular for other calls.
-pub fn locate_universe(b: &[u32], d: Decoded) -> Near
-    requires { Linked b.now }
-    ensures { result ≡ near_universe b.now d }
-{
-    let f = d.fields;
-    if f.s == 0 {
-        return nowhere();
-    }
-    if !d.row.both {
-        return nowhere();
-    }
-    near_nodes(b, 0, 0, f.n, f.m)
-}
-
 // Where a C is to look in UNIVERSE, once its space is known: on UNIVERSE, as in its space.
+#[tactic(auto, unfolding(crate::specs::Located::also_in))]
 pub fn also_in_universe(near: Near, universe: Near, s: u32) -> Near
     ensures { result ≡ also_in near universe s }
 {
@@ -86,6 +29,7 @@ pub fn also_in_universe(near: Near, universe: Near, s: u32) -> Near
 }
 
 // The farther of two places in UNIVERSE: a walk to a numbered space goes on from there.
+#[tactic(auto, unfolding(crate::specs::Located::farther_of))]
 fn farther(universe: Near, f: Fields) -> usize
     ensures { result ≡ farther_of universe f }
 {
@@ -112,16 +56,16 @@ pub struct Located {
 }
 
 // Node n of space s, sought from a hint on; n = 0: the space.
+#[tactic(auto, unfolding(crate::specs::Located::sought_in))]
 fn seek_node(b: &[u32], hint: usize, s: u32, n: u32) -> Sought
     requires { Linked b.now × Hint b.now hint }
     ensures { result ≡ sought_in b.now (node_key s n) }
 {
     let k = words::node_key(s, n);
     let place = chain::seek(b, hint, k);
-    let at = place.at;
     Sought {
         before: place.before,
-        there: edit::held_at(b, k, at),
+        there: edit::held_at(b, k, place.at),
     }
 }
 
@@ -132,8 +76,7 @@ fn space_alone(before: usize, there: bool) -> Located
     Located {
         near: Near {
             space: before,
-            node: 0,
-            second: 0,
+            ..Near::default()
         },
         space: there,
         node: false,
@@ -174,6 +117,7 @@ fn with_nodes(space: usize, node: Sought, second: Sought) -> Located
 }
 
 // Nodes n and m of a space that is there, found in one walk: the lesser first.
+#[tactic(auto, using(crate::proofs::Nearby::sought_hint, crate::proofs::Nearby::nodes_located))]
 fn locate_nodes(b: &[u32], space: usize, f: Fields) -> Located
     requires { Linked b.now × Hint b.now space }
     ensures { result ≡ located_nodes space (sought_in b.now (node_key f.s f.n)) (sought_in b.now (node_key f.s f.m)) }
@@ -188,7 +132,21 @@ fn locate_nodes(b: &[u32], space: usize, f: Fields) -> Located
     with_nodes(space, node, second)
 }
 
+// Where a C in a numbered space is to look in UNIVERSE; nowhere in particular for other calls.
+#[tactic(auto, unfolding(crate::specs::Located::near_universe, crate::specs::Located::sought_in))]
+pub fn locate_universe(b: &[u32], d: Decoded) -> Near
+    requires { Linked b.now }
+    ensures { result ≡ near_universe b.now d }
+{
+    let f = d.fields;
+    if f.s == 0 || !d.row.both {
+        return Near::default();
+    }
+    locate_nodes(b, 0, Fields { s: 0, ..f }).near
+}
+
 // What a call names in its space, if its operator reads it. No node is sought in a space that is absent.
+#[tactic(auto, unfolding(crate::specs::Located::located_in))]
 pub fn locate(b: &[u32], universe: Near, d: Decoded) -> Located
     requires { Linked b.now × NearIn b.now universe }
     ensures { result ≡ located_in b.now d }
