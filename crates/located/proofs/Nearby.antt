@@ -1,11 +1,9 @@
 -- Where what a call names is to be sought (specs/Located.antt): each place is a hint.
 use mathlib.Core.Bool.{Bool, true, false, cond, not, false≢true}
 use mathlib.Core.List.{List}
-use mathlib.Core.Logic.{◌≢◌}
 use mathlib.Core.Path.{◌≡◌, refl, sym, ap, ap₂, ◌∙◌, subst}
 use Prim.Native.Nat.{ℕ}
 use lib.Dec.{eqb, leb}
-use borrow.Author.Tests.{ne_eqb}
 use Rattle.model.specs.declared.Decoded.{Decoded}
 use Rattle.model.specs.declared.Fields.{Fields}
 use Rattle.model.specs.declared.Key.{Key}
@@ -62,16 +60,6 @@ module _ (b : List ℕ) (L : Linked b) where
       go false = M
 
 -- ---- what each function answers
-
-module _ (b : List ℕ) (d : Decoded) where
-  abbrev elsewhere : Near
-  elsewhere = cond d.row.both (near_nodes b 0 0 d.fields.n d.fields.m) (near 0 0 0)
-
-  chosen : (t : Bool) → d.fields.s ≢ 0 → d.row.both ≡ t → cond t (near_nodes b 0 0 d.fields.n d.fields.m) (near 0 0 0) ≡ near_universe b d
-  unfolding near_universe
-  chosen t h e =
-      ap (λ (y : Bool). cond y (near_nodes b 0 0 d.fields.n d.fields.m) (near 0 0 0)) (sym e)
-      ∙ sym (ap (λ (z : Bool). cond z (near 0 0 0) elsewhere) (ne_eqb d.fields.s 0 h))
 
 pub nodes_located : (b : List ℕ) (space s n m : ℕ) (x y : Sought) (l : Located) → x ≡ sought_in b (node_key s n) → y ≡ sought_in b (node_key s m)
     → l ≡ located_nodes space x y → l ≡ located_nodes space (sought_in b (node_key s n)) (sought_in b (node_key s m))

@@ -29,14 +29,6 @@ use Rattle.steps.proofs.Named.{object_keys_lem, keys_one, keys_two, edited_twice
 
 -- ---- how many of some keys are missing
 
-pub one_present : (k : Key) (ts : Tuples) (x : Bool) → x ≡ present k ts → x ≡ true → 0 ≡ length (missing (k ∷ []) ts)
-unfolding missing
-one_present k ts x X e = ap (λ (b : Bool). length (cond b [] (k ∷ []))) (sym e ∙ X)
-
-pub one_absent : (k : Key) (ts : Tuples) (x : Bool) → x ≡ present k ts → x ≡ false → 1 ≡ length (missing (k ∷ []) ts)
-unfolding missing
-one_absent k ts x X e = ap (λ (b : Bool). length (cond b [] (k ∷ []))) (sym e ∙ X)
-
 -- a second key that is the first adds nothing; any other adds what it would alone
 both_same : (k j : Key) (ts : Tuples) → j ≡ k → length (missing (k ∷ []) ts) ≡ length (missing (k ∷ j ∷ []) ts)
 unfolding missing
@@ -100,18 +92,6 @@ missing_two o s f k j ts a x y K X A e apart same Y =
     let other : same_key j k ≡ false =
     failed (same_key j k) (λ t. apart (sym (ap (λ (i : Key). i.n) (sym same ∙ same_key_lem j k t ∙ K ∙ two_keys o s f (sym A ∙ two))))) in
     ap₂ ◌+◌ X Y ∙ both_apart k j ts other ∙ ap (λ (ks : List Key). length (missing ks ts)) (keys_two o s f k j a K A two same)
-
--- for one key at most one, so that two counts add up without wrapping
-one_at_most : (k : Key) (ts : Tuples) → length (missing (k ∷ []) ts) ≤ 1
-unfolding missing
-one_at_most k ts = go (present k ts)
-  where
-    go : (b : Bool) → length (cond b [] (k ∷ [])) ≤ 1
-    go true = omega arith
-    go false = omega arith
-
-pub two_keys_sum : (k j : Key) (ts : Tuples) (x y : ℕ) → x ≡ length (missing (k ∷ []) ts) → y ≡ length (missing (j ∷ []) ts) → Fits w64 (x + y)
-two_keys_sum k j ts x y X Y = omega (arith, X, Y, one_at_most k ts, one_at_most j ts)
 
 -- ---- in s and in 0
 
@@ -309,24 +289,24 @@ adding_first {b} o s f k L h K =
     let rest : List Key = cond (is_adjacent o) (edge_key s f.m f.g f.n ∷ []) [] in
     subst (Adding b) (sym K) (room_first (main_key o s f) rest L (subst (Room b) (object_keys_lem o s f) h))
 
-pub added_one : {b b' : List ℕ} (o : Object) (s : ℕ) (f : Fields) (k : Key) (a : Bool) → k ≡ main_key o s f → a ≡ is_adjacent o → not a ≡ true
+pub added_one : {b b' : List ℕ} (o : Object) (s : ℕ) (f : Fields) (k : Key) (a : Bool) → k ≡ main_key o s f → a ≡ is_adjacent o → a ≡ false
     → Edited b b' (add k (tuples_of b)) → Edited b b' (add_all (object_keys o s f) (tuples_of b))
 unfolding add_all
-added_one {b} {b'} o s f k a K A e E = subst (λ (ks : List Key). Edited b b' (add_all ks (tuples_of b))) (keys_one o s f k a K A (not_yes a e)) E
+added_one {b} {b'} o s f k a K A e E = subst (λ (ks : List Key). Edited b b' (add_all ks (tuples_of b))) (keys_one o s f k a K A e) E
 
 pub adding_second : {b b' : List ℕ} (o : Object) (s : ℕ) (f : Fields) (k j : Key) (a : Bool) → Linked b → Room b (object_keys o s f)
-    → k ≡ main_key o s f → a ≡ is_adjacent o → not a ≡ false → j ≡ edge_key s f.m f.g f.n
+    → k ≡ main_key o s f → a ≡ is_adjacent o → a ≡ true → j ≡ edge_key s f.m f.g f.n
     → Edited b b' (add k (tuples_of b)) → Adding b' j
 unfolding add_all
 adding_second {b} {b'} o s f k j a L h K A e same E =
-    room_first j [] E.linked (room_rest (k ∷ []) (j ∷ []) L (subst (Room b) (sym (keys_two o s f k j a K A (not_no a e) same)) h) E)
+    room_first j [] E.linked (room_rest (k ∷ []) (j ∷ []) L (subst (Room b) (sym (keys_two o s f k j a K A e same)) h) E)
 
 pub added_two : {b b' b'' : List ℕ} (o : Object) (s : ℕ) (f : Fields) (k j : Key) (a : Bool)
-    → k ≡ main_key o s f → a ≡ is_adjacent o → not a ≡ false → j ≡ edge_key s f.m f.g f.n
+    → k ≡ main_key o s f → a ≡ is_adjacent o → a ≡ true → j ≡ edge_key s f.m f.g f.n
     → Edited b b' (add k (tuples_of b)) → Edited b' b'' (add j (tuples_of b')) → Edited b b'' (add_all (object_keys o s f) (tuples_of b))
 unfolding add_all
 added_two {b} {b'} {b''} o s f k j a K A e same E D =
-    subst (λ (ks : List Key). Edited b b'' (add_all ks (tuples_of b))) (keys_two o s f k j a K A (not_no a e) same) (edited_twice (add j) E D)
+    subst (λ (ks : List Key). Edited b b'' (add_all ks (tuples_of b))) (keys_two o s f k j a K A e same) (edited_twice (add j) E D)
 
 -- hints that stay hints twice
 pub kept_twice : {b b' b'' : List ℕ} → KeepsHints b b' → KeepsHints b' b'' → KeepsHints b b''

@@ -1,5 +1,5 @@
 -- What C, B, V and X work on, key by key (specs/Objects.antt), is what the definitions say (`object_keys`).
-use mathlib.Core.Bool.{Bool, true, false, cond, not, ◌||◌, or-false}
+use mathlib.Core.Bool.{Bool, true, false, cond, ◌||◌, or-false}
 use mathlib.Core.List.{List, [], ◌∷◌}
 use mathlib.Core.Logic.{◌≢◌}
 use mathlib.Core.Path.{◌≡◌, refl, sym, ap, ap₂, ◌∙◌, subst}
@@ -16,7 +16,6 @@ use Rattle.model.specs.Keys.{Value, edge_key}
 use Rattle.model.specs.Tuples.{Tuples, present, any_present, value_at, assign, assign_all}
 use Rattle.layouts.specs.Buffer.{word, record_start, value_place, key_at, used_of, tuples_of}
 use Rattle.model.specs.Steps.{object_keys, first_value}
-use Rattle.model.proofs.Bools.{not_yes, not_no}
 use Rattle.words.specs.Words.{put_word}
 use Rattle.chain.specs.Links.{both_ways, Hint, KeepsHints, find_in, Edited}
 use Rattle.edit.specs.Edits.{assign_in, Assigned}
@@ -57,12 +56,12 @@ value_named o f k ts v K X =
 -- ---- X
 
 pub exists_first : (o : Object) (f : Fields) (k : Key) (ts : Tuples) (x : Bool) → k ≡ main_key o f.s f → x ≡ present k ts → x ≡ true
-    → true ≡ any_present (object_keys o f.s f) ts
+    → x ≡ any_present (object_keys o f.s f) ts
 unfolding any_present
 exists_first o f k ts x K X e =
     let rest : List Key = cond (is_adjacent o) (second_key f.s f ∷ []) [] in
     let first : present (main_key o f.s f) ts ≡ true = ap (λ (j : Key). present j ts) (sym K) ∙ sym X ∙ e in
-    sym (ap (λ (ks : List Key). any_present ks ts) (object_keys_lem o f.s f) ∙ ap (λ (b : Bool). b || any_present rest ts) first)
+    e ∙ sym (ap (λ (ks : List Key). any_present ks ts) (object_keys_lem o f.s f) ∙ ap (λ (b : Bool). b || any_present rest ts) first)
 
 pub exists_second : (o : Object) (f : Fields) (k j : Key) (ts : Tuples) (x a y : Bool) → k ≡ main_key o f.s f → x ≡ present k ts → x ≡ false
     → a ≡ is_adjacent o → a ≡ true → j ≡ second_key f.s f → y ≡ present j ts → y ≡ any_present (object_keys o f.s f) ts
@@ -74,18 +73,18 @@ exists_second o f k j ts x a y K X e A two same Y =
     ∙ ap (λ (ks : List Key). any_present ks ts) (keys_two o f.s f k j a K A two same)
 
 pub exists_none : (o : Object) (f : Fields) (k : Key) (ts : Tuples) (x a : Bool) → k ≡ main_key o f.s f → x ≡ present k ts → x ≡ false
-    → a ≡ is_adjacent o → a ≡ false → false ≡ any_present (object_keys o f.s f) ts
+    → a ≡ is_adjacent o → a ≡ false → a ≡ any_present (object_keys o f.s f) ts
 unfolding any_present
 exists_none o f k ts x a K X e A one =
-    ap (λ (b : Bool). b || false) (sym e ∙ X) ∙ ap (λ (ks : List Key). any_present ks ts) (keys_one o f.s f k a K A one)
+    one ∙ ap (λ (b : Bool). b || false) (sym e ∙ X) ∙ ap (λ (ks : List Key). any_present ks ts) (keys_one o f.s f k a K A one)
 
 -- ---- B
 
 pub bind_one : (o : Object) (f : Fields) (k : Key) (a : Bool) {b b' : List ℕ}
-    → k ≡ main_key o f.s f → a ≡ is_adjacent o → not a ≡ true → Assigned b k f.v b' → Bound b (object_keys o f.s f) f.v b'
+    → k ≡ main_key o f.s f → a ≡ is_adjacent o → a ≡ false → Assigned b k f.v b' → Bound b (object_keys o f.s f) f.v b'
 unfolding assign_all assign_all_in
 bind_one o f k a {b} {b'} K A e E =
-    subst (λ (ks : List Key). Bound b ks f.v b') (keys_one o f.s f k a K A (not_yes a e)) (record { words = E.words; edited = E.edited })
+    subst (λ (ks : List Key). Bound b ks f.v b') (keys_one o f.s f k a K A e) (record { words = E.words; edited = E.edited })
 
 -- two edits, one after the other
 pub edited_twice : {b b' b'' : List ℕ} {ts : Tuples} (change : Tuples → Tuples)
@@ -94,21 +93,17 @@ edited_twice change E D =
     record { linked = D.linked; tuples = D.tuples ∙ ap change E.tuples; size = D.size ∙ E.size; past = D.past ∙ E.past }
 
 pub bind_two : (o : Object) (f : Fields) (k j : Key) (a : Bool) {b b' b'' : List ℕ}
-    → k ≡ main_key o f.s f → a ≡ is_adjacent o → not a ≡ false → j ≡ second_key f.s f
+    → k ≡ main_key o f.s f → a ≡ is_adjacent o → a ≡ true → j ≡ second_key f.s f
     → Assigned b k f.v b' → Assigned b' j f.v b'' → Bound b (object_keys o f.s f) f.v b''
 unfolding assign_all assign_all_in
 bind_two o f k j a {b} {b'} {b''} K A e same E D =
-    subst (λ (ks : List Key). Bound b ks f.v b'') (keys_two o f.s f k j a K A (not_no a e) same)
+    subst (λ (ks : List Key). Bound b ks f.v b'') (keys_two o f.s f k j a K A e same)
     (record {
       words = D.words ∙ ap (λ (x : List ℕ). assign_in x j f.v) E.words;
       edited = edited_twice (assign j f.v) E.edited D.edited;
     })
 
 -- ---- hints
-
--- a hint stays one where a value is set
-pub hint_assigned : {b b' : List ℕ} {k : Key} {v : Value} (near : Near) → Assigned b k v b' → NearIn b near → Hint b' near.second
-hint_assigned near E N = E.hints _ N.second
 
 pub pair_hint_lem : (b : List ℕ) (d : Direction) (near : Near) → NearIn b near → Hint b (pair_hint d near)
 unfolding pair_hint

@@ -33,6 +33,7 @@ fn reversed_key(s: u32, f: Fields) -> Key
 }
 
 // The key that a pair has in space s; for an adjacent pair, that of the edge from n.
+#[tactic(auto, unfolding(crate::specs::Objects::pair_key))]
 fn pair_key(d: Direction, s: u32, f: Fields) -> Key
     ensures { result ≡ pair_key d s f }
 {
@@ -43,6 +44,7 @@ fn pair_key(d: Direction, s: u32, f: Fields) -> Key
 }
 
 // The first key that an object has in space s.
+#[tactic(auto, unfolding(crate::specs::Objects::main_key))]
 fn main_key(o: Object, s: u32, f: Fields) -> Key
     ensures { result ≡ main_key o s f }
 {
@@ -54,6 +56,7 @@ fn main_key(o: Object, s: u32, f: Fields) -> Key
 }
 
 // The hint for the first key of a pair.
+#[tactic(auto, unfolding(crate::specs::Objects::pair_hint))]
 fn pair_hint(d: Direction, near: Near) -> usize
     ensures { result ≡ pair_hint d near }
 {
@@ -64,6 +67,7 @@ fn pair_hint(d: Direction, near: Near) -> usize
 }
 
 // The hint for the first key of an object.
+#[tactic(auto, unfolding(crate::specs::Objects::main_hint))]
 fn main_hint(o: Object, near: Near) -> usize
     ensures { result ≡ main_hint o near }
 {
@@ -75,6 +79,7 @@ fn main_hint(o: Object, near: Near) -> usize
 }
 
 // Has an object a second key.
+#[tactic(auto, unfolding(crate::specs::Objects::is_adjacent))]
 fn is_adjacent(o: Object) -> bool
     ensures { result ≡ is_adjacent o }
 {
@@ -102,6 +107,7 @@ pub fn exists(b: &[u32], near: Near, o: Object, f: Fields) -> bool
 }
 
 // B: sets the value of what the call names; of two edges, whichever are present. No word is written but their value words.
+#[tactic(auto, unfolding(model::specs::Steps::object_keys))]
 pub fn bind(b: &mut [u32], near: Near, o: Object, f: Fields)
     requires { Linked b.old × NearIn b.old near }
     ensures { Bound b.old (object_keys o f.s f) f.v b.new }
@@ -113,6 +119,7 @@ pub fn bind(b: &mut [u32], near: Near, o: Object, f: Fields)
 }
 
 // How many tuples a key would add.
+#[tactic(auto, unfolding(model::specs::Tuples::missing, layouts::specs::Buffer::tuples_of))]
 fn count_absent(b: &[u32], hint: usize, k: Key) -> usize
     requires { Linked b.now × Hint b.now hint }
     ensures { result ≡ length (missing (k ∷ []) (tuples_of b.now)) }
@@ -121,18 +128,23 @@ fn count_absent(b: &[u32], hint: usize, k: Key) -> usize
 }
 
 // How many tuples an object would add in space s; a loop has one edge.
+#[tactic(auto, unfolding(model::specs::Tuples::missing, model::specs::Steps::object_keys, layouts::specs::Buffer::tuples_of))]
 fn missing_in(b: &[u32], near: Near, o: Object, s: u32, f: Fields) -> usize
     requires { Linked b.now × NearIn b.now near }
     ensures { result ≡ length (missing (object_keys o s f) (tuples_of b.now)) }
 {
     let first = count_absent(b, main_hint(o, near), main_key(o, s, f));
-    if !is_adjacent(o) || f.n == f.m {
+    if !is_adjacent(o) {
+        return first;
+    }
+    if f.n == f.m {
         return first;
     }
     first + count_absent(b, near.second, reversed_key(s, f))
 }
 
 // Is a space created, which has no second tuple in 0.
+#[tactic(auto, unfolding(crate::specs::Objects::is_space))]
 fn is_space(o: Object) -> bool
     ensures { result ≡ is_space o }
 {
@@ -145,7 +157,10 @@ pub fn count_created(b: &[u32], near: Near, universe: Near, o: Object, f: Fields
     ensures { result ≡ length (missing (created o f) (tuples_of b.now)) }
 {
     let here = missing_in(b, near, o, f.s, f);
-    if f.s == 0 || is_space(o) {
+    if f.s == 0 {
+        return here;
+    }
+    if is_space(o) {
         return here;
     }
     here + missing_in(b, universe, o, 0, f)

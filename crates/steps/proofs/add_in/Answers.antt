@@ -5,11 +5,11 @@ use Rattle.steps.proofs.add_in.Goals as goal
 pub add_missing-requires : goal.add_missing-requires
 add_missing-requires c = (search adding_first, search main_hint_lem)
 
-pub returns-then-not-is_adjacent : goal.returns-then-not-is_adjacent
-returns-then-not-is_adjacent c = record { edited = search added_one; hints = search }
+pub returns-else-is_adjacent : goal.returns-else-is_adjacent
+returns-else-is_adjacent c = record { edited = search added_one; hints = search }
 
-pub add_missing-requires-2 : goal.add_missing-requires-2
-add_missing-requires-2 c = (search adding_second, search second_kept)
+pub add_missing-requires-then-is_adjacent : goal.add_missing-requires-then-is_adjacent
+add_missing-requires-then-is_adjacent c = (search adding_second, search second_kept)
 
-pub returns : goal.returns
-returns c = record { edited = search added_two; hints = search kept_twice }
+pub returns-then-is_adjacent : goal.returns-then-is_adjacent
+returns-then-is_adjacent c = record { edited = search added_two; hints = search kept_twice }

@@ -5,11 +5,11 @@ use Rattle.steps.proofs.create.Goals as goal
 pub add_in-requires : goal.add_in-requires
 add_in-requires c = (search, search, search room_in_space)
 
-pub returns-then-is_space : goal.returns-then-is_space
-returns-then-is_space c = search created_space
+pub returns-else-not-is_space : goal.returns-else-not-is_space
+returns-else-not-is_space c = search created_space
 
-pub add_in-requires-2 : goal.add_in-requires-2
-add_in-requires-2 c = (search, search near_kept, search room_in_universe)
+pub add_in-requires-then-not-is_space : goal.add_in-requires-then-not-is_space
+add_in-requires-then-not-is_space c = (search, search near_kept, search room_in_universe)
 
-pub returns : goal.returns
-returns c = search created_both
+pub returns-then-not-is_space : goal.returns-then-not-is_space
+returns-then-not-is_space c = search created_both

@@ -10,5 +10,5 @@ returns-then-has c = search exists_first
 pub returns-then-is_adjacent : goal.returns-then-is_adjacent
 returns-then-is_adjacent c = search exists_second
 
-pub returns : goal.returns
-returns c = search exists_none
+pub returns-else-is_adjacent : goal.returns-else-is_adjacent
+returns-else-is_adjacent c = search exists_none

@@ -1,5 +1,5 @@
 use Rattle.steps.proofs.Named.{main_hint_lem}
-use Rattle.steps.proofs.Creates.{missing_one, missing_loop, missing_two, two_keys_sum}
+use Rattle.steps.proofs.Creates.{missing_one, missing_loop, missing_two}
 use Rattle.steps.proofs.missing_in.Goals as goal
 
 pub count_absent-first-requires : goal.count_absent-first-requires
@@ -10,9 +10,6 @@ returns-then-not-is_adjacent c = search missing_one
 
 pub returns-then-f : goal.returns-then-f
 returns-then-f c = search missing_loop
-
-pub overflow_add-result : goal.overflow_add-result
-overflow_add-result c = search two_keys_sum
 
 pub returns : goal.returns
 returns c = search missing_two
