@@ -1,5 +1,4 @@
 pub mod Ranges
 pub mod Refused
 pub mod Rows
-pub mod RowTests
 pub mod Decoding

@@ -6,7 +6,6 @@ use mathlib.Core.Path.{◌≡◌, refl, sym, ap, ◌∙◌}
 use native.Mathlib.Omega.{arith}
 use lib.Dec.{eqb, leb}
 use borrow.Author.Tests.{leb-false}
-use Rattle.model.specs.declared.Asks.{Asks}
 use Rattle.model.specs.declared.Call.{Call}
 use Rattle.model.specs.declared.Reads.{Reads}
 use types.Run.{OneOf}
@@ -14,10 +13,10 @@ use denote.Enum.Declared.{tag_of}
 use Rattle.model.specs.contracts.Space.{the_type}
 use Rattle.model.specs.declared.Space.{Space}
 use Rattle.model.specs.declared.Space.TheVariants.{Universe, Numbered, Nothing}
-use Rattle.model.specs.Operators.{reads_of, asks_of}
+use Rattle.model.specs.Operators.{reads_of}
 use Rattle.model.specs.Steps.{n_of, g_of, m_of}
-use Rattle.model.proofs.Bools.{or_left, or_right, and_never, not_yes, not_no}
-use Rattle.model.specs.Refusals.{zero_space, zero_name, no_operator, is_universe, is_nothing, selects_nothing, destroys_universe}
+use Rattle.model.proofs.Bools.{and_never, not_yes, not_no}
+use Rattle.model.specs.Refusals.{zero_space, zero_name, no_operator, is_nothing, selects_nothing}
 use Rattle.operators.proofs.Ranges.{reads_0, reads_above}
 
 -- the tests of the names, over what is read
@@ -40,21 +39,6 @@ told : (c : Call) (r : Reads) → r ≡ reads_of c.operator → tests c r ≡ ze
 unfolding zero_name
 told c r e = ap (tests c) e
 
-pub zero_n : (c : Call) (r : Reads) (a : Bool) → r ≡ reads_of c.operator → a ≡ (r.n && eqb (n_of c) 0) → a ≡ true → true ≡ zero_name c
-zero_n c r a e p y =
-    sym (or_left (n_test c r || g_test c r || m_test c r) (s_test c r) (or_left (n_test c r || g_test c r) (m_test c r) (or_left (n_test c r) (g_test c r) (sym p ∙ y))))
-    ∙ told c r e
-
-pub zero_g : (c : Call) (r : Reads) (a : Bool) → r ≡ reads_of c.operator → a ≡ (r.g && eqb (g_of c) 0) → a ≡ true → true ≡ zero_name c
-zero_g c r a e p y =
-    sym (or_left (n_test c r || g_test c r || m_test c r) (s_test c r) (or_left (n_test c r || g_test c r) (m_test c r) (or_right (n_test c r) (g_test c r) (sym p ∙ y))))
-    ∙ told c r e
-
-pub zero_m : (c : Call) (r : Reads) (a : Bool) → r ≡ reads_of c.operator → a ≡ (r.m && eqb (m_of c) 0) → a ≡ true → true ≡ zero_name c
-zero_m c r a e p y =
-    sym (or_left (n_test c r || g_test c r || m_test c r) (s_test c r) (or_right (n_test c r || g_test c r) (m_test c r) (sym p ∙ y)))
-    ∙ told c r e
-
 -- the space decides where no other name does
 last : (a b d e : Bool) → a ≡ false → b ≡ false → d ≡ false → e ≡ (a || b || d || e)
 last true b d e p q r = absurd (true≢false p)
@@ -67,25 +51,11 @@ left_to_space : (c : Call) (r : Reads) (a b d : Bool) → r ≡ reads_of c.opera
     → (r.s && zero_space c.s) ≡ zero_name c
 left_to_space c r a b d e p x q y s z = last (n_test c r) (g_test c r) (m_test c r) (s_test c r) (sym p ∙ x) (sym q ∙ y) (sym s ∙ z) ∙ told c r e
 
-pub zero_s : (c : Call) (r : Reads) (a b d t : Bool) → r ≡ reads_of c.operator
-    → a ≡ (r.n && eqb (n_of c) 0) → a ≡ false → b ≡ (r.g && eqb (g_of c) 0) → b ≡ false → d ≡ (r.m && eqb (m_of c) 0) → d ≡ false
-    → r.s ≡ true → t ≡ zero_space c.s → t ≡ zero_name c
-zero_s c r a b d t e p x q y s z given k =
-    k ∙ sym (ap (λ (u : Bool). u && zero_space c.s) given) ∙ left_to_space c r a b d e p x q y s z
-
 pub no_s : (c : Call) (r : Reads) (a b d : Bool) → r ≡ reads_of c.operator
     → a ≡ (r.n && eqb (n_of c) 0) → a ≡ false → b ≡ (r.g && eqb (g_of c) 0) → b ≡ false → d ≡ (r.m && eqb (m_of c) 0) → d ≡ false
     → r.s ≡ false → r.s ≡ zero_name c
 no_s c r a b d e p x q y s z given =
     given ∙ sym (ap (λ (u : Bool). u && zero_space c.s) given) ∙ left_to_space c r a b d e p x q y s z
-
-pub universe_asked : (c : Call) (asks : Asks) (u : Bool) → asks ≡ asks_of c.operator → not asks.number ≡ false → u ≡ is_universe c.s → u ≡ destroys_universe c
-unfolding destroys_universe
-universe_asked c asks u e n f = f ∙ ap (λ (x : Bool). x && is_universe c.s) (sym (not_no _ n) ∙ ap (λ (a : Asks). a.number) e)
-
-pub universe_unasked : (c : Call) (asks : Asks) → asks ≡ asks_of c.operator → not asks.number ≡ true → false ≡ destroys_universe c
-unfolding destroys_universe
-universe_unasked c asks e n = ap (λ (x : Bool). x && is_universe c.s) (sym (not_yes _ n) ∙ ap (λ (a : Asks). a.number) e)
 
 -- ---- nothing
 

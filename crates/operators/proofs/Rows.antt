@@ -1,13 +1,12 @@
 -- The rows of the table of operators.
 use mathlib.Core.Bool.{Bool, true, false}
 use mathlib.Core.Path.{◌≡◌, refl, sym, ap, ◌∙◌}
-use Prim.Native.Nat.{ℕ, zero, suc, ◌-◌, ◌≤◌, ◌<◌}
+use Prim.Native.Nat.{ℕ, suc, ◌-◌, ◌≤◌, ◌<◌}
 use native.Mathlib.Omega.{arith}
 use lib.Dec.{eqb}
 use lib.ListN.{get_or-eq_default}
 use borrow.Author.Tests.{eqb-true, eqb-false}
 use Rattle.model.specs.declared.Direction.{Direction}
-use Rattle.model.specs.declared.Direction.TheVariants.{Adjacent}
 use Rattle.model.specs.declared.Listing.{Listing}
 use Rattle.model.specs.declared.Object.{Object}
 use Rattle.model.specs.declared.Operator.TheVariants.{Create, Bind, Value as Values, Exists, Destroy, List as Lists}
@@ -15,13 +14,6 @@ use Rattle.model.specs.declared.Removal.{Removal}
 use Rattle.model.specs.Operators.{table, operator_of}
 use Rattle.operators.specs.Directions.{turn}
 use Rattle.operators.proofs.Ranges.{every}
-
--- the third place of a row
-pub third : (n : ℕ) → (n ≡ 0 → ⊥) → (n ≡ 1 → ⊥) → Adjacent ≡ turn n
-unfolding turn
-third zero p q = absurd (p refl)
-third (suc zero) p q = absurd (q refl)
-third (suc (suc n)) p q = refl
 
 -- each row, by its directions
 pub row_1 : (o : ℕ) (d : Direction) → 1 ≤ o → o < 4 → d ≡ turn (o - 1) → Create (Object.P d) ≡ operator_of o

@@ -11,6 +11,7 @@ ghost use Rattle.operators.specs.Directions.{turn};
 
 use model::{
     Asks, Call, Decoded, Direction, Fields, Listing, Object, Operator, Reads, Removal, Row, Space,
+    SpaceName,
 };
 
 // For each field, whether it is read.
@@ -21,6 +22,7 @@ fn fields(n: bool, g: bool, m: bool, v: bool, s: bool) -> Reads
 }
 
 // The fields of a call that its operator reads.
+#[tactic(auto, unfolding(model::specs::Operators::reads_of))]
 pub fn reads_of(o: u32) -> Reads
     ensures { result ≡ reads_of o }
 {
@@ -40,33 +42,11 @@ pub fn reads_of(o: u32) -> Reads
 }
 
 // Is a number one of a range, both ends in it.
+#[tactic(auto, unfolding(model::specs::Operators::within))]
 fn is_within(low: u32, high: u32, o: u32) -> bool
     ensures { result ≡ within low high o }
 {
-    if o < low {
-        return false;
-    }
-    o <= high
-}
-
-// Is one of two so.
-fn or(a: bool, b: bool) -> bool
-    ensures { result ≡ (a || b) }
-{
-    if a {
-        return true;
-    }
-    b
-}
-
-// Is the first so and the second not.
-fn without(a: bool, b: bool) -> bool
-    ensures { result ≡ (a && not b) }
-{
-    if !a {
-        return false;
-    }
-    !b
+    low <= o && o <= high
 }
 
 // What an operator asks for; `reads` are the fields that it reads.
@@ -75,10 +55,10 @@ fn asks_of(o: u32, reads: Reads) -> Asks
     ensures { result ≡ asks_of o }
 {
     Asks {
-        selection: or(or(is_within(7, 8, o), o == 47), is_within(51, 55, o)),
+        selection: is_within(7, 8, o) | (o == 47) | is_within(51, 55, o),
         number: o == 55,
-        space: without(reads.s, or(o == 51, is_within(54, 55, o))),
-        node: or(is_within(1, 44, o), is_within(46, 47, o)),
+        space: reads.s & !((o == 51) | is_within(54, 55, o)),
+        node: is_within(1, 44, o) | is_within(46, 47, o),
         universe: o == 57,
         edge: is_within(4, 8, o),
     }
@@ -101,13 +81,14 @@ pub fn row_of(o: u32) -> Row
         known: is_within(1, 57, o),
         reads,
         asks,
-        both: or(is_within(1, 3, o), o == 45),
-        first: or(is_within(51, 52, o), o == 55),
+        both: is_within(1, 3, o) | (o == 45),
+        first: is_within(51, 52, o) | (o == 55),
         optional: space_optional(o),
     }
 }
 
 // Which pairs an operator means, by its place in a row that begins with number first: O, I, A.
+#[tactic(auto, unfolding(crate::specs::Directions::turn))]
 fn direction(first: u32, o: u32) -> Direction
     requires { first ≤ o }
     ensures { result ≡ turn (o - first) }
@@ -120,6 +101,7 @@ fn direction(first: u32, o: u32) -> Direction
 }
 
 // 1 to 11: C, B, V and X of pairs.
+#[tactic(auto, unfolding(model::specs::Operators::operator_of))]
 fn pair_operator(o: u32) -> Operator
     requires { (1 ≤ o) × (o < 12) }
     ensures { result ≡ operator_of o }
@@ -133,6 +115,7 @@ fn pair_operator(o: u32) -> Operator
 }
 
 // 12 to 29: D of edges and nodes of pairs.
+#[tactic(auto, unfolding(model::specs::Operators::operator_of))]
 fn pair_removal(o: u32) -> Operator
     requires { (12 ≤ o) × (o < 30) }
     ensures { result ≡ operator_of o }
@@ -148,6 +131,7 @@ fn pair_removal(o: u32) -> Operator
 }
 
 // 30 to 44: S of pairs.
+#[tactic(auto, unfolding(model::specs::Operators::operator_of))]
 pub fn pair_listing(o: u32) -> Operator
     requires { (30 ≤ o) × (o < 45) }
     ensures { result ≡ operator_of o }
@@ -162,6 +146,7 @@ pub fn pair_listing(o: u32) -> Operator
 }
 
 // From 45 on: the operators of nodes and spaces.
+#[tactic(auto, using(crate::proofs::Rows::no_other), unfolding(model::specs::Operators::operator_of, model::specs::Operators::table))]
 pub fn other_operator(o: u32) -> Operator
     requires { 45 ≤ o }
     ensures { result ≡ operator_of o }
@@ -197,97 +182,63 @@ pub fn operator_of(o: u32) -> Operator
 }
 
 // Is the space a number, and that 0.
+#[tactic(auto, unfolding(model::specs::Refusals::zero_space))]
 fn zero_space(s: Space) -> bool
     ensures { result ≡ zero_space s }
 {
-    match s {
-        Space::Universe => false,
-        Space::Numbered(x) => x.0 == 0,
-        Space::Nothing => false,
-    }
+    s == Space::Numbered(SpaceName(0))
 }
 
 // Is the space UNIVERSE.
+#[tactic(auto, unfolding(model::specs::Refusals::is_universe))]
 fn is_universe(s: Space) -> bool
     ensures { result ≡ is_universe s }
 {
-    match s {
-        Space::Universe => true,
-        Space::Numbered(_) => false,
-        Space::Nothing => false,
-    }
+    s == Space::Universe
 }
 
 // Is the space nothing.
+#[tactic(auto, unfolding(model::specs::Refusals::is_nothing))]
 fn is_nothing(s: Space) -> bool
     ensures { result ≡ is_nothing s }
 {
-    match s {
-        Space::Universe => false,
-        Space::Numbered(x) => false,
-        Space::Nothing => true,
-    }
+    s == Space::Nothing
 }
 
 // Is the space of the call read, and nothing.
+#[tactic(auto, unfolding(model::specs::Refusals::selects_nothing))]
 pub fn selects_nothing(c: Call, row: Row) -> bool
     requires { row ≡ row_of c.operator }
     ensures { result ≡ selects_nothing c }
 {
-    let reads = row.reads;
-    if !reads.s {
-        return false;
-    }
-    let s = c.s;
-    is_nothing(s)
-}
-
-// Is the name read, and 0.
-fn zero_if_read(read: bool, name: u16) -> bool
-    ensures { result ≡ (read && eqb name 0) }
-{
-    read && name == 0
+    row.reads.s && is_nothing(c.s)
 }
 
 // Condition 3: a name that is read is 0.
+#[tactic(auto, unfolding(model::specs::Refusals::zero_name))]
 pub fn zero_name(c: Call, r: Reads) -> bool
     requires { r ≡ reads_of c.operator }
     ensures { result ≡ zero_name c }
 {
-    if zero_if_read(r.n, c.n.0) {
-        return true;
-    }
-    if zero_if_read(r.g, c.g.0) {
-        return true;
-    }
-    if zero_if_read(r.m, c.m.0) {
-        return true;
-    }
-    let s = c.s;
-    r.s && zero_space(s)
+    r.n && c.n.0 == 0 || r.g && c.g.0 == 0 || r.m && c.m.0 == 0 || r.s && zero_space(c.s)
 }
 
 // Condition 12: the operator asks for a selection, and there is none.
+#[tactic(auto, unfolding(model::specs::Refusals::lacks_space))]
 pub fn lacks_space(c: Call, asks: Asks, nothing: bool) -> bool
     requires { (asks ≡ asks_of c.operator) × (nothing ≡ selects_nothing c) }
     ensures { result ≡ lacks_space c }
 {
-    if !nothing {
-        return false;
-    }
-    asks.selection
+    nothing && asks.selection
 }
 
 // Condition 4: the operator asks for a numbered space, and the space is UNIVERSE.
+#[tactic(auto, unfolding(model::specs::Refusals::destroys_universe))]
 pub fn destroys_universe(c: Call, asks: Asks) -> bool
     requires { asks ≡ asks_of c.operator }
     ensures { result ≡ destroys_universe c }
 {
-    if !asks.number {
-        return false;
-    }
-    let s = c.s;
-    is_universe(s)
+    asks.number && is_universe(c.s)
 }
 
 // ---- the fields of a call
@@ -297,17 +248,17 @@ fn name_word(x: u16) -> u32
     ensures value { result ≡ x }
     ensures fit { x ≤ most_name }
 {
-    x as u32
+    u32::from(x)
 }
 
 // The name of a space; 0 for UNIVERSE, and for nothing, without effect: no tuple and no answer is made with it.
+#[tactic(auto, unfolding(model::specs::Steps::space_number))]
 fn space_name(s: Space) -> u16
     ensures { result ≡ space_number s }
 {
     match s {
-        Space::Universe => 0,
         Space::Numbered(x) => x.0,
-        Space::Nothing => 0,
+        Space::Universe | Space::Nothing => 0,
     }
 }
 
@@ -316,13 +267,12 @@ pub fn fields_of(c: Call) -> Fields
     ensures value { result ≡ fields_of c }
     ensures fit { FieldsFit (fields_of c) }
 {
-    let s = c.s;
     Fields {
         n: name_word(c.n.0),
         g: name_word(c.g.0),
         m: name_word(c.m.0),
         v: c.v,
-        s: name_word(space_name(s)),
+        s: name_word(space_name(c.s)),
     }
 }
 
@@ -332,23 +282,18 @@ pub fn decode(c: Call, row: Row) -> Decoded
     ensures value { result ≡ decoded c }
     ensures fit { FieldsFit (fields_of c) }
 {
-    let operator = operator_of(c.operator);
-    let fields = fields_of(c);
     Decoded {
         row,
-        operator,
-        fields,
+        operator: operator_of(c.operator),
+        fields: fields_of(c),
     }
 }
 
 // What C, B and D return.
+#[tactic(auto, unfolding(model::specs::Steps::first_argument))]
 pub fn first_argument(c: Call, row: Row) -> u16
     requires { row ≡ row_of c.operator }
     ensures { result ≡ first_argument (decoded c) }
 {
-    if row.first {
-        let s = c.s;
-        return space_name(s);
-    }
-    c.n.0
+    if row.first { space_name(c.s) } else { c.n.0 }
 }

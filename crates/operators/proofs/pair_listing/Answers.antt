@@ -1,10 +1,6 @@
 use Rattle.operators.proofs.Rows.{row_30, row_33, row_36, row_39, row_42}
 use native.Mathlib.Omega.{arith}
-use borrow.Author.Rules.{rules}
 use Rattle.operators.proofs.pair_listing.Goals as goal
-
-pub direction-requires-in_default : goal.direction-requires-in_default
-direction-requires-in_default c = elim c.in_default.branch [ goal.in_default-via-then-o-lt30 x ↦ absurd (omega arith) | goal.in_default-via-else-o-lt30+else-o-lt33+else-o-lt36+else-o-lt39+else-o-lt42 x ↦ search rules ]
 
 pub returns-in-30-to-32 : goal.returns-in-30-to-32
 returns-in-30-to-32 c = search row_30

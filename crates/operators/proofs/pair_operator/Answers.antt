@@ -1,10 +1,6 @@
 use Rattle.operators.proofs.Rows.{row_1, row_4, row_7, row_9}
 use native.Mathlib.Omega.{arith}
-use borrow.Author.Rules.{rules}
 use Rattle.operators.proofs.pair_operator.Goals as goal
-
-pub direction-requires-in_default : goal.direction-requires-in_default
-direction-requires-in_default c = elim c.in_default.branch [ goal.in_default-via-then-o-lt1 x ↦ absurd (omega arith) | goal.in_default-via-else-o-lt1+else-o-lt4+else-o-lt7+else-o-lt9 x ↦ search rules ]
 
 pub returns-in-1-to-3 : goal.returns-in-1-to-3
 returns-in-1-to-3 c = search row_1

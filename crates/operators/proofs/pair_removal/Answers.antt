@@ -1,10 +1,6 @@
 use Rattle.operators.proofs.Rows.{row_12, row_15, row_18, row_21, row_24, row_27}
 use native.Mathlib.Omega.{arith}
-use borrow.Author.Rules.{rules}
 use Rattle.operators.proofs.pair_removal.Goals as goal
-
-pub direction-requires-in_default : goal.direction-requires-in_default
-direction-requires-in_default c = elim c.in_default.branch [ goal.in_default-via-then-o-lt12 x ↦ absurd (omega arith) | goal.in_default-via-else-o-lt12+else-o-lt15+else-o-lt18+else-o-lt21+else-o-lt24+else-o-lt27 x ↦ search rules ]
 
 pub returns-in-12-to-14 : goal.returns-in-12-to-14
 returns-in-12-to-14 c = search row_12

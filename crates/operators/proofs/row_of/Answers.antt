@@ -1,4 +1,0 @@
-use Rattle.operators.proofs.row_of.Goals as goal
-
-pub returns : goal.returns
-returns c = cc
