@@ -20,9 +20,10 @@ use Rattle.model.proofs.Bools.{and_left, and_right, and_both, not_yes, not_no}
 use Rattle.model.proofs.Tuples.{same_key_lem}
 use Rattle.presence.specs.Presence.{Walkable, ends_within, UsedEnds, Held, Marks, MarksFit, with_named, tuples_from, shaped_key}
 use Rattle.presence.specs.Presence.{good_key, supported, settled, end_there, nothing_kept, found_with, list_with, every_end, KeptRecords, kept_count}
-use Rattle.verify.specs.Checks.{walked_on, walked_from, stepped, FreeWalk, UsedFound, keys_right, may_meet, key_follows, stopped_walk, starts_right, used_walk}
+use Rattle.verify.specs.Checks.{walked_on, walked_from, stepped, FreeWalk, UsedFound, keys_right, may_meet, key_follows, starts_right, used_walk}
 use Rattle.verify.specs.declared.chains.Walk.{Walk}
 use Rattle.presence.specs.declared.ends.Found.{Found}
+use Rattle.std.specs.Prelude.{Some, None}
 use Rattle.layouts.proofs.Sizes.{some_record, few_records}
 use Rattle.presence.proofs.Rest.{ascends_empty, EveryLeft, every_start, every_next, every_no, every_end_lem, every_held, tuples_next, tuples_none}
 use Rattle.presence.proofs.Hints.{named_marks, named_fit, marks_fit}
@@ -228,19 +229,19 @@ module _ (b : List ℕ) (w : Walkable b) where
   used_ends e = record { walkable = w; ended = e }
 
   -- given up: the chain does not end, or its keys are not right
-  pub given_up : (ends_within (capacity_of b) (used_chain b) ≡ true → false ≡ keys_right (tuples_of b)) → stopped_walk ≡ used_walk b
+  pub given_up : (ends_within (capacity_of b) (used_chain b) ≡ true → false ≡ keys_right (tuples_of b)) → None ≡ used_walk b
   unfolding used_walk
-  given_up h = sym (ap (λ (t : Bool). cond t (walked_from b (word b 1)) stopped_walk) (go (ends_within (capacity_of b) (used_chain b)) refl))
+  given_up h = sym (ap (λ (t : Bool). cond t (walked_from b (word b 1)) None) (go (ends_within (capacity_of b) (used_chain b)) refl))
     where
       go : (e : Bool) → ends_within (capacity_of b) (used_chain b) ≡ e → (e && keys_right (tuples_of b)) ≡ false
       go true f = sym (h f)
       go false f = refl
 
-  pub not_started : (r : Bool) → r ≡ starts_right b → r ≡ false → stopped_walk ≡ used_walk b
+  pub not_started : (r : Bool) → r ≡ starts_right b → r ≡ false → None ≡ used_walk b
   unfolding starts_right
   not_started r e f = go (eqb (word b 1) 0) refl (sym e ∙ f)
     where
-      go : (z : Bool) → eqb (word b 1) 0 ≡ z → (not z && same_key (key_at b (word b 1)) (space_key 0)) ≡ false → stopped_walk ≡ used_walk b
+      go : (z : Bool) → eqb (word b 1) 0 ≡ z → (not z && same_key (key_at b (word b 1)) (space_key 0)) ≡ false → None ≡ used_walk b
       go true z t = given_up (λ u. not_ascending b (ascends_empty b (used_ends u) (word b 1) refl (eqb-true (word b 1) 0 z)))
       go false z t =
           given_up (λ u. not_ascending b (ascends_not_first b (used_ends u) (word b 1) refl (eqb-false (word b 1) 0 z) (key_at b (word b 1)) refl t))
@@ -273,7 +274,7 @@ module _ (b : List ℕ) (w : Walkable b) where
     unfolding used_chain
     ended z = sym (found_ends b (word b 1) _ (walked_end b left at last z ∙ W.same))
 
-    pub using_end : at ≡ 0 → record { ended = true; count = capacity_of b - left; last = last } ≡ used_walk b
+    pub using_end : at ≡ 0 → Some (record { count = capacity_of b - left; last = last }) ≡ used_walk b
     unfolding used_walk
     using_end z =
         let u = ended z in
@@ -282,7 +283,7 @@ module _ (b : List ℕ) (w : Walkable b) where
         = both_right b (ascends_end b (used_ends u) (key_at b last) at K.ascends z) (every_end_lem good_key b at K.good z) in
         walked_end b left at last z ∙ W.same
         ∙ sym
-        (ap (λ (t : Bool). cond t (walked_from b (word b 1)) stopped_walk) (and_both (ends_within (capacity_of b) (used_chain b)) _ u (sym k)))
+        (ap (λ (t : Bool). cond t (walked_from b (word b 1)) None) (and_both (ends_within (capacity_of b) (used_chain b)) _ u (sym k)))
 
     pub using_found : at ≡ 0 → UsedFound b ms list f v
     unfolding every_key
@@ -303,16 +304,16 @@ module _ (b : List ℕ) (w : Walkable b) where
         }
 
     -- the chain does not end with records of at most C
-    not_ended : stopped_walk ≡ walked_on b (record { at = at; left = left; last = last }) → stopped_walk ≡ used_walk b
+    not_ended : None ≡ walked_on b (record { at = at; left = left; last = last }) → None ≡ used_walk b
     unfolding used_chain
     not_ended e = given_up (λ u. absurd (false≢true (found_ends b (word b 1) _ (e ∙ W.same) ∙ u)))
 
     module _ (at≢ : at ≢ 0) (C : ℕ) (size : C ≡ capacity_of b) (r : Bool) (may : r ≡ may_meet C left at) where
-      pub using_far : r ≡ false → stopped_walk ≡ used_walk b
+      pub using_far : r ≡ false → None ≡ used_walk b
       unfolding may_meet
       using_far y = go (leb at C) refl (sym may ∙ y)
         where
-          go : (t : Bool) → leb at C ≡ t → (t && not (eqb left 0)) ≡ false → stopped_walk ≡ used_walk b
+          go : (t : Bool) → leb at C ≡ t → (t && not (eqb left 0)) ≡ false → None ≡ used_walk b
           go false e h = not_ended (walked_far b left at last (omega (arith, leb-false at C e)))
           go true e h = not_ended (walked_long b left at last at≢ (eqb-true left 0 (not_no (eqb left 0) h)))
 
@@ -339,7 +340,7 @@ module _ (b : List ℕ) (w : Walkable b) where
           follows : t ≡ key_follows (key_at b last) k
           follows = e ∙ ap (λ (x : Key). key_follows x k) p
 
-          pub using_no : t ≡ false → stopped_walk ≡ used_walk b
+          pub using_no : t ≡ false → None ≡ used_walk b
           unfolding key_follows
           using_no y = given_up (λ u. go (W.keyed u) (used_ends u) (is_less (compare_keys (key_at b last) k)) refl (sym follows ∙ y))
             where
