@@ -120,21 +120,6 @@ pub fn take(
     Found { sure, kept }
 }
 
-// A word of a list as an index.
-fn record_index(w: u16) -> usize
-    ensures { result ≡ w }
-{
-    w as usize
-}
-
-// The record at a place of a list.
-fn record_at(list: &[u16], at: usize) -> usize
-    requires { at < length list.now }
-    ensures { result ≡ get_or list.now at 0 }
-{
-    record_index(list[at])
-}
-
 // Is the second end there of record i; other keys have none.
 fn end_there(b: &[u32], marks: &[u32], i: usize) -> bool
     requires { Sorted b.now × Marks b.now marks.now × ((i ≢ 0) × (i ≤ capacity_of b.now) × (good_key (key_at b.now i) ≡ true)) }
@@ -152,13 +137,10 @@ pub fn all_ends(b: &[u32], marks: &[u32], list: &[u16], kept: usize) -> bool
     requires { Sorted b.now × Marks b.now marks.now × KeptRecords b.now list.now kept }
     ensures { result ≡ every_end b.now list.now kept }
 {
-    let mut j = kept;
-    while j > 0 {
-        let i = record_at(list, j - 1);
-        if !end_there(b, marks, i) {
+    for &i in &list[..kept] {
+        if !end_there(b, marks, usize::from(i)) {
             return false;
         }
-        j -= 1;
     }
     true
 }

@@ -86,24 +86,34 @@ module _ (b : List ℕ) where
   pub run_low : (at : ℕ) → in_run b at ≡ true → at ≤ capacity_of b
   run_low at e = (run_told at e).1
 
-  pub along_stop : (left at last : ℕ) → left ≢ 0 → in_run b at ≡ false → record { at = at; left = left; last = last } ≡ along_run b left at last
-  unfolding along_run
-  along_stop zero at last n e = absurd (n refl)
-  along_stop (suc left) at last n e =
-      sym (ap (λ (t : Bool). cond t (along_run b left (at + 1) at) (record { at = at; left = suc left; last = last })) e)
+  -- a walk that has passed so many of the records that it may meet
+  module _ (most passed at last : ℕ) where
+    module _ (h : passed < most) where
+      more : most - passed ≡ suc (most - (passed + 1))
+      more = omega arith
 
-  pub along_on : (left at last : ℕ) → left ≢ 0 → in_run b at ≡ true → along_run b (left - 1) (at + 1) at ≡ along_run b left at last
-  unfolding along_run
-  along_on zero at last n e = absurd (n refl)
-  along_on (suc left) at last n e =
-      let z : suc left - 1 ≡ left = omega arith in
-      ap (λ (k : ℕ). along_run b k (at + 1) at) z
-      ∙ sym (ap (λ (t : Bool). cond t (along_run b left (at + 1) at) (record { at = at; left = suc left; last = last })) e)
+      along_one : along_run b (most - passed) at last
+          ≡ cond (in_run b at) (along_run b (most - (passed + 1)) (at + 1) at) (record { at = at; left = most - passed; last = last })
+      unfolding along_run
+      along_one =
+          ap (λ (k : ℕ). along_run b k at last) more
+          ∙ ap (λ (k : ℕ). cond (in_run b at) (along_run b (most - (passed + 1)) (at + 1) at) (record { at = at; left = k; last = last })) (sym more)
 
-  pub along_end : (left at last : ℕ) → left ≡ 0 → record { at = at; left = left; last = last } ≡ along_run b left at last
-  unfolding along_run
-  along_end zero at last z = refl
-  along_end (suc left) at last z = absurd (omega (arith, z))
+      pub along_stop : in_run b at ≡ false → record { at = at; left = most - passed; last = last } ≡ along_run b (most - passed) at last
+      along_stop e =
+          sym
+          (along_one
+          ∙ ap (λ (t : Bool). cond t (along_run b (most - (passed + 1)) (at + 1) at) (record { at = at; left = most - passed; last = last })) e)
+
+      pub along_on : in_run b at ≡ true → along_run b (most - (passed + 1)) (at + 1) at ≡ along_run b (most - passed) at last
+      along_on e =
+          sym
+          (along_one
+          ∙ ap (λ (t : Bool). cond t (along_run b (most - (passed + 1)) (at + 1) at) (record { at = at; left = most - passed; last = last })) e)
+
+    pub along_end : most ≤ passed → record { at = at; left = 0; last = last } ≡ along_run b (most - passed) at last
+    unfolding along_run
+    along_end h = let none : most - passed ≡ 0 = omega arith in sym (ap (λ (k : ℕ). along_run b k at last) none)
 
   pub walked_end : (left at last : ℕ) → at ≡ 0
       → Some (record { count = capacity_of b - left; last = last }) ≡ walked_on b (record { at = at; left = left; last = last })

@@ -82,18 +82,20 @@ fn along_run(b: &[u32], c: usize, w: Walk) -> Walk
     requires { Walkable b.now × (c ≡ capacity_of b.now) }
     ensures { result ≡ along_run b.now w.left w.at w.last }
 {
-    let mut left = w.left;
     let mut at = w.at;
     let mut last = w.last;
-    while left != 0 {
+    for passed in 0..w.left {
         if !in_run(b, c, at) {
-            return Walk { at, left, last };
+            return Walk {
+                at,
+                left: w.left - passed,
+                last,
+            };
         }
         last = at;
         at += 1;
-        left -= 1;
     }
-    Walk { at, left, last }
+    Walk { at, left: 0, last }
 }
 
 // Walks on until the chain ends, over at most C records in all; gives up where it does not end so.
