@@ -120,8 +120,8 @@ module _ (b ms : List ℕ) (M : Marks b ms) where
       looked (λ (w : ℕ). eqb w (node_mark s n)) (present (node_key s n) (tuples_of b) ≡ true) mark_tries ms (node_slot s n)
       (λ j t. (M.held j).node s n h l (eqb-true (get_or ms j 0) (node_mark s n) t)) e
 
-  pub shown_node : (s n : ℕ) (r : Bool) → n ≢ 0 → n ≤ most_name → r ≡ node_shown ms s n → r ≡ true → true ≡ present (node_key s n) (tuples_of b)
-  shown_node s n r h l e t = sym (show_node s n h l (sym e ∙ t))
+  pub shown_node : (s n : ℕ) (r : Bool) → n ≢ 0 → n ≤ most_name → r ≡ node_shown ms s n → r ≡ true → r ≡ present (node_key s n) (tuples_of b)
+  shown_node s n r h l e t = t ∙ sym (show_node s n h l (sym e ∙ t))
 
   pub show_edge : (k : Key) → edge_shown b ms k ≡ true → present (edge_key 0 k.n k.g k.m) (tuples_of b) ≡ true
   unfolding edge_shown

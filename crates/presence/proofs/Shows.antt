@@ -8,7 +8,7 @@ use native.Mathlib.Omega.{arith}
 use lib.Dec.{eqb, leb}
 use lib.ListN.{length, get_or, take, set}
 use Rattle.std.proofs.lemmas.List.{length-take-le, get_or-take}
-use borrow.Author.Tests.{eqb-true, eqb-false, eq-eqb, ne_eqb, lt-ltb, le-ltb, leb-true}
+use borrow.Author.Tests.{eqb-true, eqb-false, eq-eqb, ne_eqb, leb-true}
 use Rattle.model.specs.declared.Key.{Key}
 use Rattle.model.specs.Keys.{most_name, node_key}
 use Rattle.model.specs.Tuples.{Tuples, present}
@@ -18,7 +18,7 @@ use Rattle.model.specs.Rules.{small_key, no_edge_without_node, edge_has_end}
 use Rattle.model.proofs.Bools.{and_left, and_right, not_yes, failed, clash}
 use Rattle.model.proofs.Numbers.{every_up_to_lem, up_to_every}
 use Rattle.presence.specs.declared.ends.Found.{Found}
-use Rattle.presence.specs.Presence.{with_node_mark, with_edge_mark, with_named, node_shown, edge_shown, node_settled, edge_settled, settled}
+use Rattle.presence.specs.Presence.{with_node_mark, with_edge_mark, with_named, node_settled, edge_settled, settled}
 use Rattle.presence.specs.Presence.{end_there, end_shown, nothing_kept, found_with, list_with, every_end, KeptRecords, good_key, shaped_key}
 
 -- ---- the words of a good key
@@ -73,67 +73,12 @@ module _ (k : Key) (e : good_key k ≡ true) where
   pub good_end_some : k.g ≢ 0 → k.m ≢ 0
   good_end_some g = good_second k e g
 
--- ---- the tests on one key
-
-module _ (ms : List ℕ) (sure : Bool) (j k : Key) where
-  pub node_not : sure ≡ false → false ≡ (sure && node_settled ms j k)
-  node_not e = sym (ap (λ (t : Bool). t && node_settled ms j k) e)
-
-  module _ (y : sure ≡ true) where
-    pub node_space : k.n ≡ 0 → true ≡ (sure && node_settled ms j k)
-    unfolding node_settled
-    node_space z = simp (y, eq-eqb k.n 0 z)
-
-    module _ (n : k.n ≢ 0) where
-      pub node_apart : k.s ≢ j.s → false ≡ (sure && node_settled ms j k)
-      unfolding node_settled
-      node_apart f = simp (y, ne_eqb k.n 0 n, ne_eqb k.s j.s f)
-
-      module _ (f : k.s ≡ j.s) where
-        pub node_universe : k.s ≡ 0 → true ≡ (sure && node_settled ms j k)
-        unfolding node_settled
-        node_universe z = simp (y, ne_eqb k.n 0 n, eq-eqb k.s j.s f, eq-eqb k.s 0 z)
-
-        pub node_looked : k.s ≢ 0 → (t : Bool) → t ≡ node_shown ms 0 k.n → t ≡ (sure && node_settled ms j k)
-        unfolding node_settled
-        node_looked z t h = h ∙ simp (y, ne_eqb k.n 0 n, eq-eqb k.s j.s f, ne_eqb k.s 0 z)
-
-module _ (b ms : List ℕ) (sure : Bool) (j k : Key) where
-  pub edge_not : sure ≡ false → false ≡ (sure && edge_settled b ms j k)
-  edge_not e = sym (ap (λ (t : Bool). t && edge_settled b ms j k) e)
-
-  module _ (y : sure ≡ true) where
-    pub edge_apart : k.s ≢ j.s → false ≡ (sure && edge_settled b ms j k)
-    unfolding edge_settled
-    edge_apart f = simp (y, ne_eqb k.s j.s f)
-
-    module _ (f : k.s ≡ j.s) where
-      pub edge_other : k.n ≢ j.n → false ≡ (sure && edge_settled b ms j k)
-      unfolding edge_settled
-      edge_other n = simp (y, eq-eqb k.s j.s f, ne_eqb k.n j.n n)
-
-      module _ (n : k.n ≡ j.n) where
-        pub edge_universe : k.s ≡ 0 → true ≡ (sure && edge_settled b ms j k)
-        unfolding edge_settled
-        edge_universe z = simp (y, eq-eqb k.s j.s f, eq-eqb k.n j.n n, eq-eqb k.s 0 z)
-
-        pub edge_looked : k.s ≢ 0 → (t : Bool) → t ≡ edge_shown b ms k → t ≡ (sure && edge_settled b ms j k)
-        unfolding edge_settled
-        edge_looked z t h = h ∙ simp (y, eq-eqb k.s j.s f, eq-eqb k.n j.n n, ne_eqb k.s 0 z)
-
-module _ (ms : List ℕ) (k : Key) where
-  pub end_later : k.n < k.m → false ≡ end_shown ms k
-  unfolding end_shown
-  end_later l = simp (lt-ltb k.n k.m l)
-
-  pub end_looked : k.m ≤ k.n → (t : Bool) → t ≡ node_shown ms k.s k.m → t ≡ end_shown ms k
-  unfolding end_shown
-  end_looked l t h = h ∙ simp (le-ltb k.n k.m l)
+-- ---- the second end of one key
 
 module _ (ts : Tuples) (k : Key) where
-  pub there_none : k.g ≡ 0 → (j : Key) → k ≡ j → true ≡ end_there ts j
+  pub there_none : k.g ≡ 0 → (j : Key) → k ≡ j → eqb k.g 0 ≡ end_there ts j
   unfolding end_there
-  there_none g j e = let own : true ≡ end_there ts k = simp (eq-eqb k.g 0 g) in own ∙ ap (end_there ts) e
+  there_none g j e = let own : true ≡ end_there ts k = simp (eq-eqb k.g 0 g) in eq-eqb k.g 0 g ∙ own ∙ ap (end_there ts) e
 
   pub there_edge : k.g ≢ 0 → (t : Bool) → t ≡ present (node_key k.s k.m) ts → (j : Key) → k ≡ j → t ≡ end_there ts j
   unfolding end_there

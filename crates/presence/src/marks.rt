@@ -173,8 +173,5 @@ pub fn node_there(b: &[u32], marks: &[u32], s: u32, n: u32) -> bool
     requires { Sorted b.now × Marks b.now marks.now × (s ≤ most_name) × (n ≤ most_name) × (n ≢ 0) }
     ensures { result ≡ present (node_key s n) (tuples_of b.now) }
 {
-    if node_shown(marks, s, n) {
-        return true;
-    }
-    holds_from(b, words::head_word(b, 1), node_key(s, n))
+    node_shown(marks, s, n) || holds_from(b, words::head_word(b, 1), node_key(s, n))
 }

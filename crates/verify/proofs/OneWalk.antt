@@ -8,10 +8,10 @@ use native.Mathlib.Omega.{arith}
 use lib.Dec.{eqb, leb}
 use lib.ListN.{length, get_or, set, length-set}
 use lib.Seq.{get_or-set_same, get_or-set_other}
-use borrow.Author.Tests.{eqb-true, eqb-false, eq-eqb, ne_eqb, leb-true, leb-false}
+use borrow.Author.Tests.{eqb-true, eqb-false, leb-true, leb-false}
 use Rattle.model.specs.declared.Key.{Key}
 use Rattle.model.specs.Ordered.{is_less}
-use Rattle.model.specs.Keys.{Tuple, same_key, space_key, node_key, compare_keys}
+use Rattle.model.specs.Keys.{Tuple, same_key, space_key, compare_keys}
 use Rattle.model.specs.Tuples.{Tuples, present}
 use Rattle.layouts.specs.Buffer.{word, capacity_of, next, used_chain, key_at, tuple_at, tuples_of}
 use Rattle.model.specs.Rules.{ascends_from_universe, every_key, small_key, no_edge_without_node, edge_has_end, node_supported, edge_supported}
@@ -203,16 +203,6 @@ pub record Using (b ms list : List ℕ) (f : Found) (left last at : ℕ) (free :
   pub undecided : ends_within (capacity_of b) (used_chain b) ≡ true → f.sure ≡ true → Open b list (key_at b last) at f.kept
 
 module _ (b : List ℕ) where
-  pub starts_none : (h : ℕ) → h ≡ word b 1 → h ≡ 0 → false ≡ starts_right b
-  unfolding starts_right
-  starts_none h e z = simp (eq-eqb (word b 1) 0 (sym e ∙ z))
-
-  pub starts_some : (h : ℕ) → h ≡ word b 1 → h ≢ 0 → (k u : Key) → k ≡ key_at b h → u ≡ node_key 0 0 → (r : Bool) → r ≡ same_key k u → r ≡ starts_right b
-  unfolding starts_right
-  starts_some h e h≢ k u f g r t =
-      let n : word b 1 ≢ 0 = λ z. h≢ (e ∙ z) in
-      t ∙ ap₂ same_key (f ∙ ap (key_at b) e) g ∙ simp (ne_eqb (word b 1) 0 n)
-
   module _ (r : Bool) (e : r ≡ starts_right b) (y : r ≡ true) where
     yes_starts : (not (eqb (word b 1) 0) && same_key (key_at b (word b 1)) (space_key 0)) ≡ true
     unfolding starts_right

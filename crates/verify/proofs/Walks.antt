@@ -9,7 +9,7 @@ use Prim.Native.Nat.{ℕ, zero, suc, ◌+◌, ◌-◌, ◌≤◌, ◌<◌}
 use native.Mathlib.Omega.{arith}
 use lib.Dec.{eqb, leb, ltb}
 use lib.ListN.{length}
-use borrow.Author.Tests.{eqb-true, eqb-false, eq-eqb, ne_eqb, le-leb, lt-leb, leb-true, ltb-true, ltb-false, lt-ltb, le-ltb}
+use borrow.Author.Tests.{eqb-true, eqb-false, eq-eqb, ne_eqb, le-leb, lt-leb, leb-true, ltb-true, ltb-false}
 use Rattle.layouts.specs.Buffer.{word, capacity_of, next, walk, ends, or_nothing, used_chain, free_chain, used_of, free_of, count}
 use Rattle.layouts.specs.Chains.{Chain, Within}
 use Rattle.model.proofs.Bools.{and_left, and_right, and_both}
@@ -66,22 +66,6 @@ module _ (b : List ℕ) where
         leb-true at (capacity_of b) (and_left (leb at (capacity_of b)) _ more),
         sym (eqb-true (next b at) (at + 1) (and_right (leb at (capacity_of b)) _ more)),
       )
-
-  pub run_none : (at : ℕ) → at ≡ 0 → false ≡ in_run b at
-  unfolding in_run
-  run_none at z = sym (ap (λ (t : Bool). t && (leb at (capacity_of b) && eqb (next b at) (at + 1))) (le-ltb 0 at (omega (arith, z))))
-
-  pub run_far : (at : ℕ) → at ≢ 0 → capacity_of b < at → false ≡ in_run b at
-  unfolding in_run
-  run_far at n h =
-      sym
-      (ap₂ (λ (t u : Bool). t && (u && eqb (next b at) (at + 1))) (lt-ltb 0 at (omega (arith, n))) (lt-leb at (capacity_of b) h))
-
-  pub run_here : (at n : ℕ) → at ≢ 0 → at ≤ capacity_of b → n ≡ next b at → eqb n (at + 1) ≡ in_run b at
-  unfolding in_run
-  run_here at n low high e =
-      ap (λ (x : ℕ). eqb x (at + 1)) e
-      ∙ sym (ap₂ (λ (t u : Bool). t && (u && eqb (next b at) (at + 1))) (lt-ltb 0 at (omega (arith, low))) (le-leb at (capacity_of b) high))
 
   pub run_low : (at : ℕ) → in_run b at ≡ true → at ≤ capacity_of b
   run_low at e = (run_told at e).1
@@ -180,23 +164,6 @@ module _ (b : List ℕ) where
 -- ---- the free chain walked beside the used one
 
 module _ (b : List ℕ) (w : Walk) where
-  pub step_ended : w.at ≡ 0 → w ≡ stepped b w
-  unfolding stepped
-  step_ended z = simp (eq-eqb w.at 0 z)
-
-  pub step_far : w.at ≢ 0 → (C : ℕ) → C ≡ capacity_of b → C < w.at → w ≡ stepped b w
-  unfolding stepped
-  step_far n C e h =
-      let k : capacity_of b < w.at = omega arith in
-      simp (ne_eqb w.at 0 n, lt-ltb (capacity_of b) w.at k)
-
-  pub step_on : w.at ≢ 0 → (C : ℕ) → C ≡ capacity_of b → w.at ≤ C → (n : ℕ) → n ≡ next b w.at
-      → record { at = n; left = w.left - 1; last = w.at } ≡ stepped b w
-  unfolding stepped
-  step_on n C e h m f =
-      let k : w.at ≤ capacity_of b = omega arith in
-      ap (λ (i : ℕ). record { at = i; left = w.left - 1; last = w.at }) f ∙ simp (ne_eqb w.at 0 n, le-ltb (capacity_of b) w.at k)
-
   pub free_next : (most : ℕ) → most ≢ 0 → FreeWalk b w most → (v : Walk) → v ≡ stepped b w → FreeWalk b v (most - 1)
   unfolding stepped
   free_next most n F v e = subst (λ (x : Walk). FreeWalk b x (most - 1)) (sym e) (go (eqb w.at 0) (ltb (capacity_of b) w.at) refl refl)
@@ -418,11 +385,11 @@ module _ (b : List ℕ) (w : Walkable b) (u : Walked) (used : Some u ≡ walked_
     with_once true e =
         ap (λ (t : Bool). t && chains_right b) (met_nexts e) ∙ ended ∙ ap (λ (t : Bool). t && eqb (word b 3) (length (used_of b))) e
 
-    pub no_count : (u.count + f.count ≡ C → ⊥) → false ≡ links_right b
-    no_count h = sym (with_once false (once ∙ simp (ne_eqb (u.count + f.count) C h)))
+    pub no_count : (u.count + f.count ≡ C → ⊥) → eqb (u.count + f.count) C ≡ links_right b
+    no_count h = ne_eqb (u.count + f.count) C h ∙ sym (with_once false (once ∙ simp (ne_eqb (u.count + f.count) C h)))
 
-    pub no_last : u.count + f.count ≡ C → u.last ≡ f.last → false ≡ links_right b
-    no_last h k = sym (with_once false (once ∙ simp (eq-eqb (u.count + f.count) C h, eq-eqb u.last f.last k)))
+    pub no_last : u.count + f.count ≡ C → u.last ≡ f.last → not (eqb u.last f.last) ≡ links_right b
+    no_last h k = ap not (eq-eqb u.last f.last k) ∙ sym (with_once false (once ∙ simp (eq-eqb (u.count + f.count) C h, eq-eqb u.last f.last k)))
 
     pub all_right : (n : ℕ) → u.count + f.count ≡ C → (u.last ≡ f.last → ⊥) → n ≡ word b 3 → eqb n u.count ≡ links_right b
     all_right n h k e =

@@ -28,6 +28,7 @@ pub struct Walked {
 }
 
 // Does the length fit, and do words 0 to 2.
+#[tactic(auto, using(crate::proofs::Heads::heads_there), unfolding(crate::specs::Checks::heads_fit))]
 pub fn heads_fit(b: &[u32]) -> bool
     ensures { result ≡ heads_fit b.now }
 {
@@ -35,24 +36,16 @@ pub fn heads_fit(b: &[u32]) -> bool
         return false;
     }
     let c = capacity(b);
-    if words::head_word(b, 0) != c {
-        return false;
-    }
-    if words::head_word(b, 1) > c {
-        return false;
-    }
-    words::head_word(b, 2) <= c
+    words::head_word(b, 0) == c && words::head_word(b, 1) <= c && words::head_word(b, 2) <= c
 }
 
 // One record on; a walk that has ended stays, and so does one that leaves the records.
+#[tactic(auto, using(presence::proofs::Rest::record_inside), unfolding(crate::specs::Checks::stepped))]
 pub fn step(b: &[u32], c: usize, w: Walk) -> Walk
     requires { Walkable b.now × (c ≡ capacity_of b.now) × (w.left ≢ 0) }
     ensures { result ≡ stepped b.now w }
 {
-    if w.at == 0 {
-        return w;
-    }
-    if w.at > c {
+    if w.at == 0 || w.at > c {
         return w;
     }
     Walk {
@@ -63,18 +56,12 @@ pub fn step(b: &[u32], c: usize, w: Walk) -> Walk
 }
 
 // Is the next of a record the one after it in the buffer.
+#[tactic(auto, using(presence::proofs::Rest::record_inside), unfolding(crate::specs::Checks::in_run))]
 fn in_run(b: &[u32], c: usize, at: usize) -> bool
     requires { Walkable b.now × (c ≡ capacity_of b.now) }
     ensures { result ≡ in_run b.now at }
 {
-    if at == 0 {
-        return false;
-    }
-    if at > c {
-        return false;
-    }
-    let after = at + 1;
-    chain::next_of(b, at) == after
+    at != 0 && at <= c && chain::next_of(b, at) == at + 1
 }
 
 // Walks on as far as each next is the record after, as in a fresh store: there no read waits for the one before it.
@@ -142,11 +129,7 @@ pub fn chains_right(b: &[u32], used: Walked, w: Walk) -> bool
     let Some(free) = finish(b, w) else {
         return false;
     };
-    if used.count + free.count != capacity(b) {
-        return false;
-    }
-    if used.last == free.last {
-        return false;
-    }
-    words::head_word(b, 3) == used.count
+    used.count + free.count == capacity(b)
+        && used.last != free.last
+        && words::head_word(b, 3) == used.count
 }

@@ -11,53 +11,39 @@ use model::Key;
 use presence::ends::{Found, take};
 use words::{capacity, node_key};
 
-// Are the words of a key at most 65,535.
+// The greatest name.
+const MOST_NAME: u32 = 65535;
+
+// Are the words of a key names, or 0.
+#[tactic(auto, unfolding(model::specs::Rules::small_key))]
 fn key_small(k: Key) -> bool
     ensures { result ≡ small_key k }
 {
-    if k.s > 65535 {
-        return false;
-    }
-    if k.n > 65535 {
-        return false;
-    }
-    if k.g > 65535 {
-        return false;
-    }
-    k.m <= 65535
+    k.s <= MOST_NAME && k.n <= MOST_NAME && k.g <= MOST_NAME && k.m <= MOST_NAME
 }
 
 // Does n = 0 make g and m 0, and is g 0 exactly when m is.
+#[tactic(auto, unfolding(presence::specs::Presence::shaped_key, model::specs::Rules::no_edge_without_node, model::specs::Rules::edge_has_end))]
 fn key_shaped(k: Key) -> bool
     ensures { result ≡ shaped_key k }
 {
-    if k.g == 0 {
-        return k.m == 0;
-    }
-    if k.n == 0 {
-        return false;
-    }
-    k.m != 0
+    (k.n != 0 || k.g == 0) && (k.g == 0) == (k.m == 0)
 }
 
 // Is a key one that a store may hold.
+#[tactic(auto, unfolding(presence::specs::Presence::good_key))]
 fn key_good(k: Key) -> bool
     ensures { result ≡ good_key k }
 {
-    if !key_small(k) {
-        return false;
-    }
-    key_shaped(k)
+    key_small(k) && key_shaped(k)
 }
 
 // May a key follow another in a store: it is above it, and one that a store may hold.
+#[tactic(auto, unfolding(crate::specs::Checks::key_follows))]
 fn key_follows(key: Key, k: Key) -> bool
     ensures { result ≡ key_follows key k }
 {
-    if !key_good(k) {
-        return false;
-    }
-    words::key_below(key, k)
+    words::key_below(key, k) && key_good(k)
 }
 
 // What the walk of the used chain finds, where the chain ends and its keys are right.
@@ -72,15 +58,13 @@ pub struct Used {
 }
 
 // Is there a first used record, with UNIVERSE's key.
+#[tactic(auto, using(presence::proofs::Rest::record_inside), unfolding(crate::specs::Checks::starts_right))]
 fn starts_right(b: &[u32]) -> bool
     requires { Walkable b.now }
     ensures { result ≡ starts_right b.now }
 {
     let head = words::head_word(b, 1);
-    if head == 0 {
-        return false;
-    }
-    words::key_same(words::key_of(b, head), node_key(0, 0))
+    head != 0 && words::key_same(words::key_of(b, head), node_key(0, 0))
 }
 
 // The walk of the free chain, at its head.
@@ -96,13 +80,11 @@ fn free_start(b: &[u32], c: usize) -> Walk
 }
 
 // May the walk meet a record, with so many to go.
+#[tactic(auto, unfolding(crate::specs::Checks::may_meet))]
 fn may_meet(c: usize, left: usize, at: usize) -> bool
     ensures { result ≡ may_meet c left at }
 {
-    if at > c {
-        return false;
-    }
-    left != 0
+    at <= c && left != 0
 }
 
 // Walks the used chain over at most C records, and the free chain beside it; gives up where its keys do not ascend from (0,0,0,0), a store may not hold one, or a next is above C.

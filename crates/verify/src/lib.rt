@@ -21,18 +21,12 @@ fn records_right(b: &[u32]) -> bool
     let Some(used) = keys::walk_used(b, &mut marks, &mut list) else {
         return false;
     };
-    if !chains::chains_right(b, used.walked, used.free) {
-        return false;
-    }
-    named_right(b, &marks, &list, used.found)
+    chains::chains_right(b, used.walked, used.free) && named_right(b, &marks, &list, used.found)
 }
 
 // Is the buffer, of any length and with any words, a store.
 pub fn is_store(buffer: &[u32]) -> bool
     ensures { result ≡ is_store buffer.now }
 {
-    if !chains::heads_fit(buffer) {
-        return false;
-    }
-    records_right(buffer)
+    chains::heads_fit(buffer) && records_right(buffer)
 }

@@ -15,8 +15,8 @@ chains_right-requires c = (
   c.in-Some.ensures.lent.beside,
 )
 
-pub returns-then-not-chains_right : goal.returns-then-not-chains_right
-returns-then-not-chains_right c = search right_no_chains
+pub returns-else-chains_right : goal.returns-else-chains_right
+returns-else-chains_right c = search right_no_chains
 
 pub named_right-requires : goal.named_right-requires
 named_right-requires c = (
@@ -24,7 +24,7 @@ named_right-requires c = (
   c.in-Some.ensures.lent.tuples,
 )
 
-pub returns : goal.returns
-returns c =
-    right_named c.args.b.now c.requires _ c.walk_used.ensures.answer c.in-Some.used c.in-Some.is _ c.chains_right.ensures c.if-not-chains_right.false _
+pub returns-then-chains_right : goal.returns-then-chains_right
+returns-then-chains_right c =
+    right_named c.args.b.now c.requires _ c.walk_used.ensures.answer c.in-Some.used c.in-Some.is _ c.chains_right.ensures c.if-chains_right.true _
     c.named_right.ensures
