@@ -17,7 +17,7 @@ use Rattle.layouts.specs.Buffer.{capacity_of, key_at, tuples_of}
 use Rattle.model.proofs.Bools.{or_cases, and_left, and_right, not_yes}
 use Rattle.model.proofs.Tuples.{same_key_lem}
 use Rattle.presence.specs.Presence.{is_at, Held, Marked, Marks, MarksFit, mark_count, mark_tries, mark_step, space_factor, edge_factor, second_factor}
-use Rattle.presence.specs.Presence.{node_mark, edge_mark, edge_record, node_slot, edge_slot, with_mark, with_node_mark, with_edge_mark, with_named, look_from, node_shown, edge_shown}
+use Rattle.presence.specs.Presence.{node_mark, edge_mark, edge_record, node_slot, edge_slot, with_mark, with_node_mark, with_edge_mark, with_named, look_from, Tells, LooksFor, node_shown, edge_shown}
 
 -- ---- places
 
@@ -120,8 +120,8 @@ module _ (b ms : List ℕ) (M : Marks b ms) where
       looked (λ (w : ℕ). eqb w (node_mark s n)) (present (node_key s n) (tuples_of b) ≡ true) mark_tries ms (node_slot s n)
       (λ j t. (M.held j).node s n h l (eqb-true (get_or ms j 0) (node_mark s n) t)) e
 
-  pub shown_node : (s n : ℕ) (r : Bool) → n ≢ 0 → n ≤ most_name → r ≡ node_shown ms s n → r ≡ true → true ≡ present (node_key s n) (tuples_of b)
-  shown_node s n r h l e t = sym (show_node s n h l (sym e ∙ t))
+  pub shown_node : (s n : ℕ) (r : Bool) → n ≢ 0 → n ≤ most_name → r ≡ node_shown ms s n → r ≡ true → r ≡ present (node_key s n) (tuples_of b)
+  shown_node s n r h l e t = t ∙ sym (show_node s n h l (sym e ∙ t))
 
   pub show_edge : (k : Key) → edge_shown b ms k ≡ true → present (edge_key 0 k.n k.g k.m) (tuples_of b) ≡ true
   unfolding edge_shown
@@ -132,81 +132,82 @@ module _ (b ms : List ℕ) (M : Marks b ms) where
 pub marks_fit : (b ms : List ℕ) → Marks b ms → MarksFit b ms
 marks_fit b ms M = record { size = M.size; low = λ j. (M.held j).edge.high }
 
--- what is left of looking at the marks, at a place with so many to go
-pub record Looking (p : ℕ → Bool) (ms : List ℕ) (from at left : ℕ) : Type 0 where
-  pub below : at < mark_count
-  pub rest : look_from p left ms at ≡ look_from p mark_tries ms from
+-- what is left of looking at the marks, at a place after so many
+pub record Looking (p : ℕ → Bool) (ms : List ℕ) (from at tried : ℕ) : Type 0 where
+  pub rest : look_from p (mark_tries - tried) ms at ≡ look_from p mark_tries ms from
 
 module _ (p : ℕ → Bool) (ms : List ℕ) (from : ℕ) where
-  pub look_start : (at : ℕ) → at ≡ from → from < mark_count → Looking p ms from at mark_tries
-  look_start at e h = record { below = omega arith; rest = ap (look_from p mark_tries ms) e }
+  pub look_start : Looking p ms from from 0
+  look_start = record { rest = refl }
 
-  module _ (at left : ℕ) (L : Looking p ms from at left) where
-    one : left ≢ 0
-        → cond (p (get_or ms at 0)) true (cond (eqb (get_or ms at 0) 0) false (look_from p (left - 1) ms ((at + mark_step) % mark_count))) ≡ look_from p mark_tries ms from
+  module _ (at tried : ℕ) (L : Looking p ms from at tried) where
+    one : tried < mark_tries
+        → cond (p (get_or ms at 0)) true (cond (eqb (get_or ms at 0) 0) false (look_from p (mark_tries - (tried + 1)) ms ((at + mark_step) % mark_count)))
+        ≡ look_from p mark_tries ms from
     unfolding look_from
-    one h = go left L.rest h
+    one h = go (mark_tries - tried) L.rest (mark_tries - (tried + 1)) (omega arith)
       where
-        pred : (l : ℕ) → suc l - 1 ≡ l
-        pred l = omega arith
-
         same : (x y z : Bool) → cond x true (cond y false z) ≡ (x || (not y && z))
         same true y z = refl
         same false true z = refl
         same false false z = refl
 
-        go : (l : ℕ) → look_from p l ms at ≡ look_from p mark_tries ms from → l ≢ 0
-            → cond (p (get_or ms at 0)) true (cond (eqb (get_or ms at 0) 0) false (look_from p (l - 1) ms ((at + mark_step) % mark_count))) ≡ look_from p mark_tries ms from
-        go zero r h = absurd (h refl)
-        go (suc l) r h =
-            same (p (get_or ms at 0)) (eqb (get_or ms at 0) 0) (look_from p (suc l - 1) ms ((at + mark_step) % mark_count))
-            ∙ ap (λ (x : ℕ). p (get_or ms at 0) || (not (eqb (get_or ms at 0) 0) && look_from p x ms ((at + mark_step) % mark_count))) (pred l) ∙ r
+        go : (l : ℕ) → look_from p l ms at ≡ look_from p mark_tries ms from → (m : ℕ) → l ≡ suc m
+            → cond (p (get_or ms at 0)) true (cond (eqb (get_or ms at 0) 0) false (look_from p m ms ((at + mark_step) % mark_count))) ≡ look_from p mark_tries ms from
+        go l r m e =
+            same (p (get_or ms at 0)) (eqb (get_or ms at 0) 0) (look_from p m ms ((at + mark_step) % mark_count)) ∙ sym (ap (λ (x : ℕ). look_from p x ms at) e) ∙ r
 
-    module _ (left≢ : left ≢ 0) where
+    module _ (h : tried < mark_tries) where
       pub look_found : p (get_or ms at 0) ≡ true → true ≡ look_from p mark_tries ms from
       look_found t =
-          sym (ap (λ (x : Bool). cond x true (cond (eqb (get_or ms at 0) 0) false (look_from p (left - 1) ms ((at + mark_step) % mark_count)))) t) ∙ one left≢
+          sym (ap (λ (x : Bool). cond x true (cond (eqb (get_or ms at 0) 0) false (look_from p (mark_tries - (tried + 1)) ms ((at + mark_step) % mark_count)))) t) ∙ one h
 
       module _ (t : p (get_or ms at 0) ≡ false) (w : ℕ) (e : w ≡ get_or ms at 0) where
-        further : cond (eqb (get_or ms at 0) 0) false (look_from p (left - 1) ms ((at + mark_step) % mark_count)) ≡ look_from p mark_tries ms from
+        further : cond (eqb (get_or ms at 0) 0) false (look_from p (mark_tries - (tried + 1)) ms ((at + mark_step) % mark_count)) ≡ look_from p mark_tries ms from
         further =
-            sym (ap (λ (x : Bool). cond x true (cond (eqb (get_or ms at 0) 0) false (look_from p (left - 1) ms ((at + mark_step) % mark_count)))) t) ∙ one left≢
+            sym (ap (λ (x : Bool). cond x true (cond (eqb (get_or ms at 0) 0) false (look_from p (mark_tries - (tried + 1)) ms ((at + mark_step) % mark_count)))) t) ∙ one h
 
         pub look_none : w ≡ 0 → false ≡ look_from p mark_tries ms from
         look_none z =
-            sym (ap (λ (x : Bool). cond x false (look_from p (left - 1) ms ((at + mark_step) % mark_count))) (eq-eqb (get_or ms at 0) 0 (sym e ∙ z))) ∙ further
+            sym (ap (λ (x : Bool). cond x false (look_from p (mark_tries - (tried + 1)) ms ((at + mark_step) % mark_count))) (eq-eqb (get_or ms at 0) 0 (sym e ∙ z))) ∙ further
 
-        pub look_next : w ≢ 0 → Looking p ms from ((at + mark_step) % mark_count) (left - 1)
+        pub look_next : w ≢ 0 → Looking p ms from ((at + mark_step) % mark_count) (tried + 1)
         look_next n =
             record {
-              below = omega arith;
               rest =
-                  sym (ap (λ (x : Bool). cond x false (look_from p (left - 1) ms ((at + mark_step) % mark_count))) (ne_eqb (get_or ms at 0) 0 (λ z. n (e ∙ z))))
+                  sym (ap (λ (x : Bool). cond x false (look_from p (mark_tries - (tried + 1)) ms ((at + mark_step) % mark_count))) (ne_eqb (get_or ms at 0) 0 (λ z. n (e ∙ z))))
                   ∙ further;
             }
 
-    pub look_end : left ≡ 0 → false ≡ look_from p mark_tries ms from
+    pub look_end : mark_tries ≤ tried → false ≡ look_from p mark_tries ms from
     unfolding look_from
-    look_end z = go left L.rest z
-      where
-        go : (l : ℕ) → look_from p l ms at ≡ look_from p mark_tries ms from → l ≡ 0 → false ≡ look_from p mark_tries ms from
-        go zero r z = r
-        go (suc l) r z = absurd (omega arith)
+    look_end z = let none : mark_tries - tried ≡ 0 = omega arith in sym (ap (λ (x : ℕ). look_from p x ms at) none) ∙ L.rest
 
--- the tests of a mark
-module _ (ms : List ℕ) (at s n w m : ℕ) (e : w ≡ get_or ms at 0) (f : m ≡ node_mark s n) where
-  pub is_mark : w ≡ m → eqb (get_or ms at 0) (node_mark s n) ≡ true
-  is_mark h = eq-eqb (get_or ms at 0) (node_mark s n) (sym e ∙ h ∙ f)
+-- the same by the answers of a call
+pub record LookingFor (told : ℕ → Bool → Type 0) (ms : List ℕ) (from at tried : ℕ) : Type 0 where
+  pub below : at < mark_count
+  pub rest : (p : ℕ → Bool) → Tells told ms p → Looking p ms from at tried
 
-  pub other_mark : w ≢ m → eqb (get_or ms at 0) (node_mark s n) ≡ false
-  other_mark h = ne_eqb (get_or ms at 0) (node_mark s n) (λ z. h (e ∙ z ∙ sym f))
+module _ (told : ℕ → Bool → Type 0) (ms : List ℕ) (from : ℕ) where
+  pub looking_start : from < mark_count → LookingFor told ms from from 0
+  looking_start h = record { below = h; rest = λ p t. look_start p ms from }
 
-pub at_mark : (b ms : List ℕ) (at : ℕ) (k : Key) (w i : ℕ) → w ≡ get_or ms at 0 → i ≡ edge_record w → (j : Key) → j ≡ edge_key 0 k.n k.g k.m
-    → (r t : Bool) → r ≡ is_at b i j → r ≡ t → is_at b (edge_record (get_or ms at 0)) (edge_key 0 k.n k.g k.m) ≡ t
-at_mark b ms at k w i e f j g r t h y = sym (ap₂ (is_at b) (f ∙ ap edge_record e) g) ∙ sym h ∙ y
+  module _ (at tried : ℕ) (L : LookingFor told ms from at tried) where
+    module _ (h : tried < mark_tries) (w : ℕ) (e : w ≡ get_or ms at 0) (r : Bool) (f : told w r) where
+      answer : (p : ℕ → Bool) → Tells told ms p → p (get_or ms at 0) ≡ r
+      answer p t = sym (t at r (subst (λ (x : ℕ). told x r) e f))
 
-pub mark_record : (b ms : List ℕ) → MarksFit b ms → (at w i : ℕ) → w ≡ get_or ms at 0 → i ≡ edge_record w → i ≤ capacity_of b
-mark_record b ms F at w i e f = omega (arith, f ∙ ap edge_record e, F.low at)
+      pub looking_found : r ≡ true → LooksFor told ms from true
+      looking_found y p t = look_found p ms from at tried (L.rest p t) h (answer p t ∙ y)
+
+      pub looking_none : r ≡ false → w ≡ 0 → LooksFor told ms from false
+      looking_none y z p t = look_none p ms from at tried (L.rest p t) h (answer p t ∙ y) w e z
+
+      pub looking_next : r ≡ false → w ≢ 0 → LookingFor told ms from ((at + mark_step) % mark_count) (tried + 1)
+      looking_next y n = record { below = omega arith; rest = λ p t. look_next p ms from at tried (L.rest p t) h (answer p t ∙ y) w e n }
+
+    pub looking_end : mark_tries ≤ tried → LooksFor told ms from false
+    looking_end z p t = look_end p ms from at tried (L.rest p t) z
 
 -- ---- no marks
 
@@ -331,49 +332,49 @@ module _ (ms : List ℕ) (k : Key) where
     unfolding with_edge_mark
     edge_some e at w f g ms' h = h ∙ ap₂ (with_mark mark_tries ms) f g ∙ simp (eq-eqb k.s 0 e)
 
--- what is left of the search for a place, at a place with so many to go
-pub record Placing (ms₀ ms : List ℕ) (i at₀ at left : ℕ) : Type 0 where
+-- what is left of the search for a place, at a place after so many
+pub record Placing (ms₀ ms : List ℕ) (i at₀ at tried : ℕ) : Type 0 where
   pub same : ms ≡ ms₀
   pub below : at < mark_count
-  pub rest : with_mark left ms₀ at i ≡ with_mark mark_tries ms₀ at₀ i
+  pub rest : with_mark (mark_tries - tried) ms₀ at i ≡ with_mark mark_tries ms₀ at₀ i
 
 module _ (ms₀ : List ℕ) (i : ℕ) where
-  pub placing_start : (at : ℕ) → at < mark_count → Placing ms₀ ms₀ i at at mark_tries
+  pub placing_start : (at : ℕ) → at < mark_count → Placing ms₀ ms₀ i at at 0
   placing_start at h = record { same = refl; below = h; rest = refl }
 
-  module _ (ms : List ℕ) (at₀ at left : ℕ) (P : Placing ms₀ ms i at₀ at left) where
-    pub place_free : left ≢ 0 → (m : ℕ) → m ≡ get_or ms at 0 → m ≡ 0 → (ms' : List ℕ) → ms' ≡ set ms at i → ms' ≡ with_mark mark_tries ms₀ at₀ i
+  module _ (ms : List ℕ) (at₀ at tried : ℕ) (P : Placing ms₀ ms i at₀ at tried) where
+    -- one more place is looked at
+    one_place : tried < mark_tries
+        → cond (eqb (get_or ms₀ at 0) 0) (set ms₀ at i) (with_mark (mark_tries - (tried + 1)) ms₀ ((at + mark_step) % mark_count) i)
+        ≡ with_mark mark_tries ms₀ at₀ i
     unfolding with_mark
-    place_free h m e z ms' f = go left P.rest h
-      where
-        free : eqb (get_or ms₀ at 0) 0 ≡ true
-        free = eq-eqb (get_or ms₀ at 0) 0 (ap (λ (xs : List ℕ). get_or xs at 0) (sym P.same) ∙ sym e ∙ z)
+    one_place h =
+        let more : mark_tries - tried ≡ suc (mark_tries - (tried + 1)) = omega arith in
+        sym (ap (λ (x : ℕ). with_mark x ms₀ at i) more) ∙ P.rest
 
-        go : (l : ℕ) → with_mark l ms₀ at i ≡ with_mark mark_tries ms₀ at₀ i → l ≢ 0 → ms' ≡ with_mark mark_tries ms₀ at₀ i
-        go zero r h = absurd (h refl)
-        go (suc l) r h =
-            f ∙ ap (λ (xs : List ℕ). set xs at i) P.same
-            ∙ sym (ap (λ (t : Bool). cond t (set ms₀ at i) (with_mark l ms₀ ((at + mark_step) % mark_count) i)) free) ∙ r
+    module _ (h : tried < mark_tries) (m : ℕ) (e : m ≡ get_or ms at 0) where
+      here : m ≡ get_or ms₀ at 0
+      here = e ∙ ap (λ (xs : List ℕ). get_or xs at 0) P.same
 
-    pub place_next : left ≢ 0 → (m : ℕ) → m ≡ get_or ms at 0 → m ≢ 0 → Placing ms₀ ms i at₀ ((at + mark_step) % mark_count) (left - 1)
+      pub place_free : m ≡ 0 → (ms' : List ℕ) → ms' ≡ set ms at i → ms' ≡ with_mark mark_tries ms₀ at₀ i
+      place_free z ms' f =
+          f ∙ ap (λ (xs : List ℕ). set xs at i) P.same
+          ∙ sym
+          (ap (λ (t : Bool). cond t (set ms₀ at i) (with_mark (mark_tries - (tried + 1)) ms₀ ((at + mark_step) % mark_count) i)) (eq-eqb (get_or ms₀ at 0) 0 (sym here ∙ z)))
+          ∙ one_place h
+
+      pub place_next : m ≢ 0 → Placing ms₀ ms i at₀ ((at + mark_step) % mark_count) (tried + 1)
+      place_next n =
+          record {
+            same = P.same;
+            below = omega arith;
+            rest =
+                sym
+                (ap (λ (t : Bool). cond t (set ms₀ at i) (with_mark (mark_tries - (tried + 1)) ms₀ ((at + mark_step) % mark_count) i))
+                (ne_eqb (get_or ms₀ at 0) 0 (λ z. n (here ∙ z))))
+                ∙ one_place h;
+          }
+
+    pub place_none : mark_tries ≤ tried → ms ≡ with_mark mark_tries ms₀ at₀ i
     unfolding with_mark
-    place_next h m e z = record { same = P.same; below = omega arith; rest = go left P.rest h }
-      where
-        pred : (l : ℕ) → suc l - 1 ≡ l
-        pred l = omega arith
-
-        taken : eqb (get_or ms₀ at 0) 0 ≡ false
-        taken = ne_eqb (get_or ms₀ at 0) 0 (λ y. z (e ∙ ap (λ (xs : List ℕ). get_or xs at 0) P.same ∙ y))
-
-        go : (l : ℕ) → with_mark l ms₀ at i ≡ with_mark mark_tries ms₀ at₀ i → l ≢ 0 → with_mark (l - 1) ms₀ ((at + mark_step) % mark_count) i ≡ with_mark mark_tries ms₀ at₀ i
-        go zero r h = absurd (h refl)
-        go (suc l) r h =
-            ap (λ (x : ℕ). with_mark x ms₀ ((at + mark_step) % mark_count) i) (pred l) ∙ sym (ap (λ (t : Bool). cond t (set ms₀ at i) (with_mark l ms₀ ((at + mark_step) % mark_count) i)) taken) ∙ r
-
-    pub place_none : left ≡ 0 → ms ≡ with_mark mark_tries ms₀ at₀ i
-    unfolding with_mark
-    place_none h = go left P.rest h
-      where
-        go : (l : ℕ) → with_mark l ms₀ at i ≡ with_mark mark_tries ms₀ at₀ i → l ≡ 0 → ms ≡ with_mark mark_tries ms₀ at₀ i
-        go zero r h = P.same ∙ r
-        go (suc l) r h = absurd (omega arith)
+    place_none h = let none : mark_tries - tried ≡ 0 = omega arith in P.same ∙ sym (ap (λ (x : ℕ). with_mark x ms₀ at i) none) ∙ P.rest

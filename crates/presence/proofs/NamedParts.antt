@@ -1,15 +1,12 @@
 -- What a tuple names in two parts: all but the ends of an edge, and these.
 use mathlib.Core.Bool.{Bool, true, false, not, ◌&&◌, ◌||◌}
-use mathlib.Core.List.{List, [], ◌∷◌}
+use mathlib.Core.List.{[], ◌∷◌}
 use mathlib.Core.Path.{◌≡◌, refl, sym, ap, ap₂, ◌∙◌}
-use Prim.Native.Nat.{ℕ}
 use Rattle.model.specs.declared.Key.{Key}
 use Rattle.model.specs.Keys.{node_key, edge_key, is_edge}
 use Rattle.model.specs.Tuples.{Tuples, present}
 use Rattle.model.specs.Rules.{node_supported, edge_supported, every_key}
-use Rattle.layouts.specs.Buffer.{tuples_of}
-use Rattle.presence.specs.declared.ends.Found.{Found}
-use Rattle.presence.specs.Presence.{Decided, every_end, supported, edge_in_universe, named_present, ends_present}
+use Rattle.presence.specs.Presence.{supported, edge_in_universe, named_present, ends_present}
 
 -- ---- tests
 
@@ -56,13 +53,8 @@ module _ (ts : Tuples) (named : Bool) (m : named ≡ every_key (named_present ts
       every_same (supported ts) (λ (k : Key). named_present ts k && ends_present ts k) (supported_parts ts) ts
       ∙ every_and (named_present ts) (ends_present ts) ts ∙ ap (λ (a : Bool). a && every_key (ends_present ts) ts) (sym m)
 
-  pub named_no_all : named ≡ false → false ≡ every_key (supported ts) ts
-  named_no_all f = sym (named_ends ∙ ap (λ (a : Bool). a && every_key (ends_present ts) ts) f)
+  pub named_no_all : named ≡ false → named ≡ every_key (supported ts) ts
+  named_no_all f = f ∙ sym (named_ends ∙ ap (λ (a : Bool). a && every_key (ends_present ts) ts) f)
 
   pub named_yes_ends : named ≡ true → (r : Bool) → r ≡ every_key (ends_present ts) ts → r ≡ every_key (supported ts) ts
   named_yes_ends f r e = e ∙ sym (named_ends ∙ ap (λ (a : Bool). a && every_key (ends_present ts) ts) f)
-
--- what the walk has found decides
-pub decided_yes : (b marks list : List ℕ) (f : Found) → Decided b marks list f → f.sure ≡ true → (r : Bool) → r ≡ every_end b list f.kept → r ≡ true
-    → true ≡ every_key (supported (tuples_of b)) (tuples_of b)
-decided_yes b marks list f D s r e t = sym t ∙ e ∙ sym (D.decided s)

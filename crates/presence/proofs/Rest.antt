@@ -8,7 +8,7 @@ use Prim.Native.Nat.{ℕ, ◌≤◌, ◌<◌, Ordering}
 use native.Mathlib.Omega.{arith}
 use lib.Dec.{eqb, compare_is_eq}
 use lib.ListN.{length}
-use borrow.Author.Tests.{eqb-true, eqb-false, eq-eqb, ne_eqb}
+use borrow.Author.Tests.{eqb-true, eqb-false, ne_eqb}
 use Rattle.model.specs.declared.Key.{Key}
 use Rattle.model.specs.Ordered.{is_less, holds, Ascending}
 use Rattle.model.specs.Keys.{key_of, compare_keys, same_key}
@@ -158,22 +158,6 @@ pub record Seeking (b : List ℕ) (k : Key) (from at : ℕ) : Type 0 where
 
 -- the tests of a record
 module _ (b : List ℕ) (i : ℕ) (k : Key) where
-  pub at_none : i ≡ 0 → false ≡ is_at b i k
-  unfolding is_at
-  at_none z = simp (eq-eqb i 0 z)
-
-  pub at_some : i ≢ 0 → (j : Key) → j ≡ key_at b i → (r : Bool) → r ≡ same_key j k → r ≡ is_at b i k
-  unfolding is_at
-  at_some n j e r f = f ∙ ap (λ (x : Key). same_key x k) e ∙ simp (ne_eqb i 0 n)
-
-  pub before_none : i ≡ 0 → false ≡ is_before b i k
-  unfolding is_before
-  before_none z = simp (eq-eqb i 0 z)
-
-  pub before_some : i ≢ 0 → (j : Key) → j ≡ key_at b i → (r : Bool) → r ≡ is_less (compare_keys j k) → r ≡ is_before b i k
-  unfolding is_before
-  before_some n j e r f = f ∙ ap (λ (x : Key). is_less (compare_keys x k)) e ∙ simp (ne_eqb i 0 n)
-
   before_not_none : is_before b i k ≡ true → i ≢ 0
   unfolding is_before
   before_not_none t = eqb-false i 0 (not_yes (eqb i 0) (and_left (not (eqb i 0)) _ t))

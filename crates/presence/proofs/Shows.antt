@@ -3,20 +3,22 @@ use mathlib.Core.Bool.{Bool, true, false, cond, not, ◌&&◌, ◌||◌}
 use mathlib.Core.List.{List}
 use mathlib.Core.Logic.{◌≢◌}
 use mathlib.Core.Path.{◌≡◌, refl, sym, ap, ap₂, ◌∙◌, subst}
-use Prim.Native.Nat.{ℕ, zero, suc, ◌+◌, ◌-◌, ◌≤◌, ◌<◌}
+use Prim.Native.Nat.{ℕ, suc, ◌+◌, ◌-◌, ◌≤◌, ◌<◌}
 use native.Mathlib.Omega.{arith}
 use lib.Dec.{eqb, leb}
-use lib.ListN.{get_or, set}
-use borrow.Author.Tests.{eqb-true, eqb-false, eq-eqb, ne_eqb, lt-ltb, le-ltb, leb-true}
+use lib.ListN.{length, get_or, take, set}
+use Rattle.std.proofs.lemmas.List.{length-take-le, get_or-take}
+use borrow.Author.Tests.{eqb-true, eqb-false, eq-eqb, ne_eqb, leb-true}
 use Rattle.model.specs.declared.Key.{Key}
 use Rattle.model.specs.Keys.{most_name, node_key}
 use Rattle.model.specs.Tuples.{Tuples, present}
 use Rattle.layouts.specs.Buffer.{capacity_of, key_at, tuples_of}
 use Rattle.model.specs.Numbers.{every_up_to}
 use Rattle.model.specs.Rules.{small_key, no_edge_without_node, edge_has_end}
-use Rattle.model.proofs.Bools.{and_left, and_right, not_yes}
+use Rattle.model.proofs.Bools.{and_left, and_right, not_yes, failed, clash}
+use Rattle.model.proofs.Numbers.{every_up_to_lem, up_to_every}
 use Rattle.presence.specs.declared.ends.Found.{Found}
-use Rattle.presence.specs.Presence.{with_node_mark, with_edge_mark, with_named, node_shown, edge_shown, node_settled, edge_settled, settled}
+use Rattle.presence.specs.Presence.{with_node_mark, with_edge_mark, with_named, node_settled, edge_settled, settled}
 use Rattle.presence.specs.Presence.{end_there, end_shown, nothing_kept, found_with, list_with, every_end, KeptRecords, good_key, shaped_key}
 
 -- ---- the words of a good key
@@ -71,67 +73,12 @@ module _ (k : Key) (e : good_key k ≡ true) where
   pub good_end_some : k.g ≢ 0 → k.m ≢ 0
   good_end_some g = good_second k e g
 
--- ---- the tests on one key
-
-module _ (ms : List ℕ) (sure : Bool) (j k : Key) where
-  pub node_not : sure ≡ false → false ≡ (sure && node_settled ms j k)
-  node_not e = sym (ap (λ (t : Bool). t && node_settled ms j k) e)
-
-  module _ (y : sure ≡ true) where
-    pub node_space : k.n ≡ 0 → true ≡ (sure && node_settled ms j k)
-    unfolding node_settled
-    node_space z = simp (y, eq-eqb k.n 0 z)
-
-    module _ (n : k.n ≢ 0) where
-      pub node_apart : k.s ≢ j.s → false ≡ (sure && node_settled ms j k)
-      unfolding node_settled
-      node_apart f = simp (y, ne_eqb k.n 0 n, ne_eqb k.s j.s f)
-
-      module _ (f : k.s ≡ j.s) where
-        pub node_universe : k.s ≡ 0 → true ≡ (sure && node_settled ms j k)
-        unfolding node_settled
-        node_universe z = simp (y, ne_eqb k.n 0 n, eq-eqb k.s j.s f, eq-eqb k.s 0 z)
-
-        pub node_looked : k.s ≢ 0 → (t : Bool) → t ≡ node_shown ms 0 k.n → t ≡ (sure && node_settled ms j k)
-        unfolding node_settled
-        node_looked z t h = h ∙ simp (y, ne_eqb k.n 0 n, eq-eqb k.s j.s f, ne_eqb k.s 0 z)
-
-module _ (b ms : List ℕ) (sure : Bool) (j k : Key) where
-  pub edge_not : sure ≡ false → false ≡ (sure && edge_settled b ms j k)
-  edge_not e = sym (ap (λ (t : Bool). t && edge_settled b ms j k) e)
-
-  module _ (y : sure ≡ true) where
-    pub edge_apart : k.s ≢ j.s → false ≡ (sure && edge_settled b ms j k)
-    unfolding edge_settled
-    edge_apart f = simp (y, ne_eqb k.s j.s f)
-
-    module _ (f : k.s ≡ j.s) where
-      pub edge_other : k.n ≢ j.n → false ≡ (sure && edge_settled b ms j k)
-      unfolding edge_settled
-      edge_other n = simp (y, eq-eqb k.s j.s f, ne_eqb k.n j.n n)
-
-      module _ (n : k.n ≡ j.n) where
-        pub edge_universe : k.s ≡ 0 → true ≡ (sure && edge_settled b ms j k)
-        unfolding edge_settled
-        edge_universe z = simp (y, eq-eqb k.s j.s f, eq-eqb k.n j.n n, eq-eqb k.s 0 z)
-
-        pub edge_looked : k.s ≢ 0 → (t : Bool) → t ≡ edge_shown b ms k → t ≡ (sure && edge_settled b ms j k)
-        unfolding edge_settled
-        edge_looked z t h = h ∙ simp (y, eq-eqb k.s j.s f, eq-eqb k.n j.n n, ne_eqb k.s 0 z)
-
-module _ (ms : List ℕ) (k : Key) where
-  pub end_later : k.n < k.m → false ≡ end_shown ms k
-  unfolding end_shown
-  end_later l = simp (lt-ltb k.n k.m l)
-
-  pub end_looked : k.m ≤ k.n → (t : Bool) → t ≡ node_shown ms k.s k.m → t ≡ end_shown ms k
-  unfolding end_shown
-  end_looked l t h = h ∙ simp (le-ltb k.n k.m l)
+-- ---- the second end of one key
 
 module _ (ts : Tuples) (k : Key) where
-  pub there_none : k.g ≡ 0 → (j : Key) → k ≡ j → true ≡ end_there ts j
+  pub there_none : k.g ≡ 0 → (j : Key) → k ≡ j → eqb k.g 0 ≡ end_there ts j
   unfolding end_there
-  there_none g j e = let own : true ≡ end_there ts k = simp (eq-eqb k.g 0 g) in own ∙ ap (end_there ts) e
+  there_none g j e = let own : true ≡ end_there ts k = simp (eq-eqb k.g 0 g) in eq-eqb k.g 0 g ∙ own ∙ ap (end_there ts) e
 
   pub there_edge : k.g ≢ 0 → (t : Bool) → t ≡ present (node_key k.s k.m) ts → (j : Key) → k ≡ j → t ≡ end_there ts j
   unfolding end_there
@@ -184,56 +131,52 @@ module _ (b ms list : List ℕ) (j k : Key) (f : Found) (at : ℕ) where
     unfolding list_with nothing_kept
     take_edge_list list' e = e ∙ simp (ne_eqb k.g 0 g)
 
--- a test of the records 1 to C
-pub every_on : (p : ℕ → Bool) (i : ℕ) → 0 < i → p i ≡ true → every_up_to p i ≡ every_up_to p (i - 1)
-unfolding every_up_to
-every_on p zero h e = absurd (omega arith)
-every_on p (suc i) h e =
-    let z : i ≡ suc i - 1 = omega arith in
-    ap (λ (t : Bool). t && every_up_to p i) e ∙ ap (every_up_to p) z
+-- the second ends of the first so many kept records are there
+pub record EndsThere (b list : List ℕ) (tried : ℕ) : Type 0 where
+  pub each : (j : ℕ) → j < tried → end_there (tuples_of b) (key_at b (get_or list j 0)) ≡ true
 
-pub every_stop : (p : ℕ → Bool) (i : ℕ) → 0 < i → p i ≡ false → every_up_to p i ≡ false
-unfolding every_up_to
-every_stop p zero h e = absurd (omega arith)
-every_stop p (suc i) h e = ap (λ (t : Bool). t && every_up_to p i) e
+pub ends_start : (b list : List ℕ) → EndsThere b list 0
+ends_start b list = record { each = λ j h. absurd (omega arith) }
 
-pub every_none : (p : ℕ → Bool) → every_up_to p 0 ≡ true
-unfolding every_up_to
-every_none p = refl
+module _ (b list : List ℕ) (kept : ℕ) (K : KeptRecords b list kept) (j : ℕ) where
+  kept_length : length (take kept list) ≡ kept
+  kept_length = length-take-le kept list (omega (arith, K.size, K.few))
 
--- what is left of testing them
-pub record Ending (b list : List ℕ) (kept j : ℕ) : Type 0 where
-  pub low : j ≤ kept
-  pub left : every_end b list kept ≡ every_end b list j
+  pub ends_all : EndsThere b list j → length (take kept list) ≤ j → true ≡ every_end b list kept
+  unfolding every_end
+  ends_all E h =
+      sym
+      (up_to_every (λ (i : ℕ). end_there (tuples_of b) (key_at b (get_or list (i - 1) 0))) kept
+      (λ i low high. E.each (i - 1) (omega (arith, kept_length))))
 
-module _ (b list : List ℕ) (kept : ℕ) where
-  pub ending_start : Ending b list kept kept
-  ending_start = record { low = omega arith; left = refl }
+  module _ (h : j < length (take kept list)) (i : ℕ) (e : i ≡ get_or (take kept list) j 0) where
+    below : j < kept
+    below = omega (arith, kept_length)
 
-  pub kept_record : (j i : ℕ) → Ending b list kept j → KeptRecords b list kept → 0 < j → i ≡ get_or list (j - 1) 0
-      → (i ≢ 0) × (i ≤ capacity_of b) × (good_key (key_at b i) ≡ true)
-  kept_record j i E K h e =
-      subst (λ (x : ℕ). (x ≢ 0) × (x ≤ capacity_of b) × (good_key (key_at b x) ≡ true)) (sym e) (K.named (j - 1) (omega (arith, E.low)))
+    same_record : i ≡ get_or list j 0
+    same_record = e ∙ get_or-take kept list j 0 below
 
-  module _ (j : ℕ) (E : Ending b list kept j) where
-    pub ending_end : j ≤ 0 → true ≡ every_end b list kept
-    unfolding every_end
-    ending_end h =
-        let z : j ≡ 0 = omega arith in
-        sym (E.left ∙ ap (every_up_to (λ (j : ℕ). end_there (tuples_of b) (key_at b (get_or list (j - 1) 0)))) z ∙ every_none (λ (j : ℕ). end_there (tuples_of b) (key_at b (get_or list (j - 1) 0))))
+    pub kept_record : (i ≢ 0) × (i ≤ capacity_of b) × (good_key (key_at b i) ≡ true)
+    kept_record =
+        subst (λ (x : ℕ). (x ≢ 0) × (x ≤ capacity_of b) × (good_key (key_at b x) ≡ true)) (sym same_record) (K.named j below)
 
-    module _ (h : 0 < j) (i : ℕ) (e : i ≡ get_or list (j - 1) 0) (r : Bool) (f : r ≡ end_there (tuples_of b) (key_at b i)) where
-      this : end_there (tuples_of b) (key_at b (get_or list (j - 1) 0)) ≡ r
-      this = ap (λ (x : ℕ). end_there (tuples_of b) (key_at b x)) (sym e) ∙ sym f
+    module _ (r : Bool) (f : r ≡ end_there (tuples_of b) (key_at b i)) where
+      this_end : end_there (tuples_of b) (key_at b (get_or list j 0)) ≡ r
+      this_end = ap (λ (x : ℕ). end_there (tuples_of b) (key_at b x)) (sym same_record) ∙ sym f
 
-      pub ending_no : r ≡ false → false ≡ every_end b list kept
+      pub ends_no : r ≡ false → false ≡ every_end b list kept
       unfolding every_end
-      ending_no y = sym (E.left ∙ every_stop (λ (j : ℕ). end_there (tuples_of b) (key_at b (get_or list (j - 1) 0))) j h (this ∙ y))
+      ends_no y = sym (failed (every_up_to test kept) (λ t. clash (every_up_to_lem test kept t (j + 1) (omega arith) (omega (arith, below))) here))
+        where
+          test : ℕ → Bool
+          test k = end_there (tuples_of b) (key_at b (get_or list (k - 1) 0))
 
-      pub ending_next : r ≡ true → Ending b list kept (j - 1)
-      unfolding every_end
-      ending_next y =
-          record {
-            low = omega (arith, E.low);
-            left = E.left ∙ every_on (λ (j : ℕ). end_there (tuples_of b) (key_at b (get_or list (j - 1) 0))) j h (this ∙ y);
-          }
+          here : test (j + 1) ≡ false
+          here = let z : j + 1 - 1 ≡ j = omega arith in ap (λ (k : ℕ). end_there (tuples_of b) (key_at b (get_or list k 0))) z ∙ this_end ∙ y
+
+      pub ends_next : EndsThere b list j → r ≡ true → EndsThere b list (j + 1)
+      ends_next E y = record { each = λ k l. go k (eqb k j) refl l }
+        where
+          go : (k : ℕ) (t : Bool) → eqb k j ≡ t → k < j + 1 → end_there (tuples_of b) (key_at b (get_or list k 0)) ≡ true
+          go k true f l = ap (λ (x : ℕ). end_there (tuples_of b) (key_at b (get_or list x 0))) (eqb-true k j f) ∙ this_end ∙ y
+          go k false f l = let other : k ≢ j = eqb-false k j f in E.each k (omega arith)

@@ -184,6 +184,14 @@ look_from p zero marks at = false
 look_from p (suc left) marks at =
     p (get_or marks at 0) || (not (eqb (get_or marks at 0) 0) && look_from p left marks ((at + mark_step) % mark_count))
 
+-- the answers of a call at each of the marks are those of a test; `told w r` is what is known of its answer r at mark w
+abbrev pub Tells : (ℕ → Bool → Type 0) → List ℕ → (ℕ → Bool) → Type 0
+Tells told marks p = (j : ℕ) (r : Bool) → told (get_or marks j 0) r → r ≡ p (get_or marks j 0)
+
+-- whether one of the marks from a place on passes the test that such a call decides
+abbrev pub LooksFor : (ℕ → Bool → Type 0) → List ℕ → ℕ → Bool → Type 0
+LooksFor told marks from result = (p : ℕ → Bool) → Tells told marks p → result ≡ look_from p mark_tries marks from
+
 -- do the marks show node n in s
 unfoldable pub node_shown : List ℕ → ℕ → ℕ → Bool
 node_shown marks s n = look_from (λ (w : ℕ). eqb w (node_mark s n)) mark_tries marks (node_slot s n)

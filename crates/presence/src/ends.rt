@@ -20,54 +20,30 @@ pub struct Found {
 }
 
 // Is all shown so far, and now what a key without g names.
+#[tactic(auto, unfolding(crate::specs::Presence::node_settled))]
 fn node_sure(marks: &[u32], sure: bool, key: Key, k: Key) -> bool
     requires { (length marks.now ≡ mark_count) × (k.n ≤ most_name) }
     ensures { result ≡ (sure && node_settled marks.now key k) }
 {
-    if !sure {
-        return false;
-    }
-    if k.n == 0 {
-        return true;
-    }
-    if k.s != key.s {
-        return false;
-    }
-    if k.s == 0 {
-        return true;
-    }
-    node_shown(marks, 0, k.n)
+    sure && (k.n == 0 || k.s == key.s && (k.s == 0 || node_shown(marks, 0, k.n)))
 }
 
 // Is all shown so far, and now what an edge's key names but its second end.
+#[tactic(auto, unfolding(crate::specs::Presence::edge_settled))]
 fn edge_sure(b: &[u32], marks: &[u32], sure: bool, key: Key, k: Key) -> bool
     requires { Walkable b.now × MarksFit b.now marks.now }
     ensures { result ≡ (sure && edge_settled b.now marks.now key k) }
 {
-    if !sure {
-        return false;
-    }
-    if k.s != key.s {
-        return false;
-    }
-    if k.n != key.n {
-        return false;
-    }
-    if k.s == 0 {
-        return true;
-    }
-    edge_shown(b, marks, k)
+    sure && k.s == key.s && k.n == key.n && (k.s == 0 || edge_shown(b, marks, k))
 }
 
 // Is a second end shown by the marks; a node after the first end is not marked yet.
+#[tactic(auto, unfolding(crate::specs::Presence::end_shown))]
 fn end_shown(marks: &[u32], k: Key) -> bool
     requires { (length marks.now ≡ mark_count) × (k.s ≤ most_name) × (k.m ≤ most_name) }
     ensures { result ≡ end_shown marks.now k }
 {
-    if k.n < k.m {
-        return false;
-    }
-    node_shown(marks, k.s, k.m)
+    k.m <= k.n && node_shown(marks, k.s, k.m)
 }
 
 // A list with record i at a place.
@@ -120,31 +96,13 @@ pub fn take(
     Found { sure, kept }
 }
 
-// A word of a list as an index.
-fn record_index(w: u16) -> usize
-    ensures { result ≡ w }
-{
-    w as usize
-}
-
-// The record at a place of a list.
-fn record_at(list: &[u16], at: usize) -> usize
-    requires { at < length list.now }
-    ensures { result ≡ get_or list.now at 0 }
-{
-    record_index(list[at])
-}
-
 // Is the second end there of record i; other keys have none.
 fn end_there(b: &[u32], marks: &[u32], i: usize) -> bool
     requires { Sorted b.now × Marks b.now marks.now × ((i ≢ 0) × (i ≤ capacity_of b.now) × (good_key (key_at b.now i) ≡ true)) }
     ensures { result ≡ end_there (tuples_of b.now) (key_at b.now i) }
 {
     let k = words::key_of(b, i);
-    if k.g == 0 {
-        return true;
-    }
-    node_there(b, marks, k.s, k.m)
+    k.g == 0 || node_there(b, marks, k.s, k.m)
 }
 
 // Are the second ends there of the records that are kept.
@@ -152,13 +110,10 @@ pub fn all_ends(b: &[u32], marks: &[u32], list: &[u16], kept: usize) -> bool
     requires { Sorted b.now × Marks b.now marks.now × KeptRecords b.now list.now kept }
     ensures { result ≡ every_end b.now list.now kept }
 {
-    let mut j = kept;
-    while j > 0 {
-        let i = record_at(list, j - 1);
-        if !end_there(b, marks, i) {
+    for &i in &list[..kept] {
+        if !end_there(b, marks, usize::from(i)) {
             return false;
         }
-        j -= 1;
     }
     true
 }

@@ -21,13 +21,6 @@ pub fn named_right(b: &[u32], marks: &[u32], list: &[u16], found: Found) -> bool
     requires { Sorted b.now × Decided b.now marks.now list.now found }
     ensures { result ≡ every_key (supported (tuples_of b.now)) (tuples_of b.now) }
 {
-    if found.sure {
-        if ends::all_ends(b, marks, list, found.kept) {
-            return true;
-        }
-    }
-    if !named::all_named(b) {
-        return false;
-    }
-    edge_ends::edges_ended(b)
+    found.sure && ends::all_ends(b, marks, list, found.kept)
+        || named::all_named(b) && edge_ends::edges_ended(b)
 }

@@ -2,12 +2,12 @@
 // The mark of node n in s is s × 65,536 + n; that of an edge tuple in record i is i × 65,536, where the record is read. 0 is no mark.
 // What no mark shows is sought by a walk.
 // An inner layer: what its functions require, their callers have shown; only the entry refuses.
-ghost use Rattle.std.specs.Prelude.{◌≢◌, ◌≡◌, ◌≤◌, ◌<◌, length, get_or, set};
+ghost use Rattle.std.specs.Prelude.{ℕ, ◌≢◌, ◌≡◌, ◌≤◌, ◌<◌, length, get_or, set};
 ghost use Rattle.model.specs.Keys.{most_name, node_key};
 ghost use Rattle.model.specs.Tuples.{present};
-ghost use Rattle.layouts.specs.Buffer.{tuples_of};
+ghost use Rattle.layouts.specs.Buffer.{capacity_of, tuples_of};
 ghost use Rattle.words.specs.Words.{most_index};
-ghost use Rattle.presence.specs.Presence.{Walkable, Sorted, Marks, MarksFit, mark_count, mark_tries, node_mark, edge_mark, edge_record, node_slot, edge_slot, with_mark, with_node_mark, with_edge_mark, node_shown, edge_shown};
+ghost use Rattle.presence.specs.Presence.{Walkable, Sorted, Marks, MarksFit, mark_count, mark_tries, node_mark, edge_mark, edge_record, node_slot, edge_slot, with_mark, with_node_mark, with_edge_mark, LooksFor, is_at, node_shown, edge_shown};
 
 use super::seek::{holds_from, is_at};
 use model::Key;
@@ -88,14 +88,12 @@ fn put_mark(marks: &mut [u32], from: usize, w: u32)
     ensures { marks.new ≡ with_mark mark_tries marks.old from w }
 {
     let mut at = from;
-    let mut left: usize = MARK_TRIES;
-    while left != 0 {
+    for _ in 0..MARK_TRIES {
         if mark_at(marks, at) == 0 {
             marks[at] = w;
             return;
         }
         at = (at + MARK_STEP) % MARK_COUNT;
-        left -= 1;
     }
 }
 
@@ -121,26 +119,32 @@ pub fn mark_edge(marks: &mut [u32], k: Key, i: usize)
     put_mark(marks, edge_slot(k), edge_mark(i));
 }
 
-// Do the marks show node n in s: those from its place on, up to one that is 0.
-pub fn node_shown(marks: &[u32], s: u32, n: u32) -> bool
-    requires { (length marks.now ≡ mark_count) × (s ≤ most_name) × (n ≤ most_name) }
-    ensures { result ≡ node_shown marks.now s n }
+// Is one of the marks from a place on wanted: they are looked at up to one that is 0.
+fn shown<F: Fn(u32) -> bool>(marks: &[u32], from: usize, is_wanted: F) -> bool
+    requires { (length marks.now ≡ mark_count) × (from < mark_count) × ((j : ℕ) → F.pre is_wanted (get_or marks.now j 0)) }
+    ensures { LooksFor (F.post is_wanted) marks.now from result }
 {
-    let mark = node_mark(s, n);
-    let mut at = node_slot(s, n);
-    let mut left: usize = MARK_TRIES;
-    while left != 0 {
+    let mut at = from;
+    for _ in 0..MARK_TRIES {
         let w = mark_at(marks, at);
-        if w == mark {
+        if is_wanted(w) {
             return true;
         }
         if w == 0 {
             return false;
         }
         at = (at + MARK_STEP) % MARK_COUNT;
-        left -= 1;
     }
     false
+}
+
+// Do the marks show node n in s.
+pub fn node_shown(marks: &[u32], s: u32, n: u32) -> bool
+    requires { (length marks.now ≡ mark_count) × (s ≤ most_name) × (n ≤ most_name) }
+    ensures { result ≡ node_shown marks.now s n }
+{
+    let mark = node_mark(s, n);
+    shown(marks, node_slot(s, n), |w| w == mark)
 }
 
 // Do they show the edge tuple of 0 with the n, g, m of a key.
@@ -154,20 +158,14 @@ pub fn edge_shown(b: &[u32], marks: &[u32], k: Key) -> bool
         g: k.g,
         m: k.m,
     };
-    let mut at = edge_slot(k);
-    let mut left: usize = MARK_TRIES;
-    while left != 0 {
-        let w = mark_at(marks, at);
-        if is_at(b, edge_record(w), edge) {
-            return true;
-        }
-        if w == 0 {
-            return false;
-        }
-        at = (at + MARK_STEP) % MARK_COUNT;
-        left -= 1;
-    }
-    false
+    shown(
+        marks,
+        edge_slot(k),
+        |w|
+            requires { Walkable b.now × (edge_record w ≤ capacity_of b.now) }
+            ensures { result ≡ is_at b.entry.now (edge_record w) edge }
+        { is_at(b, edge_record(w), edge) },
+    )
 }
 
 // Is node n of s in the used chain: the marks are looked at first.
@@ -175,8 +173,5 @@ pub fn node_there(b: &[u32], marks: &[u32], s: u32, n: u32) -> bool
     requires { Sorted b.now × Marks b.now marks.now × (s ≤ most_name) × (n ≤ most_name) × (n ≢ 0) }
     ensures { result ≡ present (node_key s n) (tuples_of b.now) }
 {
-    if node_shown(marks, s, n) {
-        return true;
-    }
-    holds_from(b, words::head_word(b, 1), node_key(s, n))
+    node_shown(marks, s, n) || holds_from(b, words::head_word(b, 1), node_key(s, n))
 }

@@ -10,53 +10,39 @@ use model::Key;
 use words::node_key;
 
 // Has a node tuple its space and its tuple in 0; other keys need neither.
+#[tactic(auto, using(crate::proofs::Support::head_says), unfolding(model::specs::Rules::node_supported))]
 fn node_supported(b: &[u32], k: Key) -> bool
     requires { Sorted b.now }
     ensures { result ≡ node_supported (tuples_of b.now) k }
 {
-    if k.n == 0 {
-        return true;
-    }
-    if k.g != 0 {
-        return true;
-    }
     let head = words::head_word(b, 1);
-    if !holds_from(b, head, node_key(k.s, 0)) {
-        return false;
-    }
-    holds_from(b, head, node_key(0, k.n))
+    k.n == 0
+        || k.g != 0
+        || holds_from(b, head, node_key(k.s, 0)) && holds_from(b, head, node_key(0, k.n))
 }
 
 // Has an edge tuple its tuple in 0; other keys need none.
+#[tactic(auto, using(crate::proofs::Support::head_says), unfolding(crate::specs::Presence::edge_in_universe))]
 fn edge_in_universe(b: &[u32], k: Key) -> bool
     requires { Sorted b.now }
     ensures { result ≡ edge_in_universe (tuples_of b.now) k }
 {
-    if k.g == 0 {
-        return true;
-    }
-    let head = words::head_word(b, 1);
-    holds_from(
-        b,
-        head,
-        Key {
-            s: 0,
-            n: k.n,
-            g: k.g,
-            m: k.m,
-        },
-    )
+    let edge = Key {
+        s: 0,
+        n: k.n,
+        g: k.g,
+        m: k.m,
+    };
+    k.g == 0 || holds_from(b, words::head_word(b, 1), edge)
 }
 
 // Is all there that a tuple names but the ends of an edge.
+#[tactic(auto, unfolding(crate::specs::Presence::named_present))]
 fn named_present(b: &[u32], k: Key) -> bool
     requires { Sorted b.now }
     ensures { result ≡ named_present (tuples_of b.now) k }
 {
-    if !node_supported(b, k) {
-        return false;
-    }
-    edge_in_universe(b, k)
+    node_supported(b, k) && edge_in_universe(b, k)
 }
 
 // Is it there for every tuple.

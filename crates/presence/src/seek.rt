@@ -8,25 +8,21 @@ ghost use Rattle.presence.specs.Presence.{Walkable, tuples_from, Seekable, is_at
 use model::Key;
 
 // Does record i have this key.
+#[tactic(auto, using(crate::proofs::Rest::record_inside), unfolding(crate::specs::Presence::is_at))]
 pub fn is_at(b: &[u32], i: usize, k: Key) -> bool
     requires { Walkable b.now × (i ≤ capacity_of b.now) }
     ensures { result ≡ is_at b.now i k }
 {
-    if i == 0 {
-        return false;
-    }
-    words::key_same(words::key_of(b, i), k)
+    i != 0 && words::key_same(words::key_of(b, i), k)
 }
 
 // Does record i have a key below this one.
+#[tactic(auto, using(crate::proofs::Rest::record_inside), unfolding(crate::specs::Presence::is_before))]
 pub fn is_before(b: &[u32], i: usize, k: Key) -> bool
     requires { Walkable b.now × (i ≤ capacity_of b.now) }
     ensures { result ≡ is_before b.now i k }
 {
-    if i == 0 {
-        return false;
-    }
-    words::key_below(words::key_of(b, i), k)
+    i != 0 && words::key_below(words::key_of(b, i), k)
 }
 
 // Is a key in the chain from a record on: a walk to the first key that is not below it.

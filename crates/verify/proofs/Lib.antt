@@ -1,7 +1,6 @@
 pub mod Once
 pub mod Heads
 pub mod Walks
-pub mod KeyTests
 pub mod Parts
 pub mod Ascents
 pub mod Settled

@@ -8,10 +8,10 @@ use native.Mathlib.Omega.{arith}
 use lib.Dec.{eqb, leb}
 use lib.ListN.{length, get_or, set, length-set}
 use lib.Seq.{get_or-set_same, get_or-set_other}
-use borrow.Author.Tests.{eqb-true, eqb-false, eq-eqb, ne_eqb, leb-true, leb-false}
+use borrow.Author.Tests.{eqb-true, eqb-false, leb-true, leb-false}
 use Rattle.model.specs.declared.Key.{Key}
 use Rattle.model.specs.Ordered.{is_less}
-use Rattle.model.specs.Keys.{Tuple, same_key, space_key, node_key, compare_keys}
+use Rattle.model.specs.Keys.{Tuple, same_key, space_key, compare_keys}
 use Rattle.model.specs.Tuples.{Tuples, present}
 use Rattle.layouts.specs.Buffer.{word, capacity_of, next, used_chain, key_at, tuple_at, tuples_of}
 use Rattle.model.specs.Rules.{ascends_from_universe, every_key, small_key, no_edge_without_node, edge_has_end, node_supported, edge_supported}
@@ -20,9 +20,10 @@ use Rattle.model.proofs.Bools.{and_left, and_right, and_both, not_yes, not_no}
 use Rattle.model.proofs.Tuples.{same_key_lem}
 use Rattle.presence.specs.Presence.{Walkable, ends_within, UsedEnds, Held, Marks, MarksFit, with_named, tuples_from, shaped_key}
 use Rattle.presence.specs.Presence.{good_key, supported, settled, end_there, nothing_kept, found_with, list_with, every_end, KeptRecords, kept_count}
-use Rattle.verify.specs.Checks.{walked_on, walked_from, stepped, FreeWalk, UsedFound, keys_right, may_meet, key_follows, stopped_walk, starts_right, used_walk}
+use Rattle.verify.specs.Checks.{walked_on, walked_from, stepped, FreeWalk, UsedFound, keys_right, may_meet, key_follows, starts_right, used_walk}
 use Rattle.verify.specs.declared.chains.Walk.{Walk}
 use Rattle.presence.specs.declared.ends.Found.{Found}
+use Rattle.std.specs.Prelude.{Some, None}
 use Rattle.layouts.proofs.Sizes.{some_record, few_records}
 use Rattle.presence.proofs.Rest.{ascends_empty, EveryLeft, every_start, every_next, every_no, every_end_lem, every_held, tuples_next, tuples_none}
 use Rattle.presence.proofs.Hints.{named_marks, named_fit, marks_fit}
@@ -202,16 +203,6 @@ pub record Using (b ms list : List ℕ) (f : Found) (left last at : ℕ) (free :
   pub undecided : ends_within (capacity_of b) (used_chain b) ≡ true → f.sure ≡ true → Open b list (key_at b last) at f.kept
 
 module _ (b : List ℕ) where
-  pub starts_none : (h : ℕ) → h ≡ word b 1 → h ≡ 0 → false ≡ starts_right b
-  unfolding starts_right
-  starts_none h e z = simp (eq-eqb (word b 1) 0 (sym e ∙ z))
-
-  pub starts_some : (h : ℕ) → h ≡ word b 1 → h ≢ 0 → (k u : Key) → k ≡ key_at b h → u ≡ node_key 0 0 → (r : Bool) → r ≡ same_key k u → r ≡ starts_right b
-  unfolding starts_right
-  starts_some h e h≢ k u f g r t =
-      let n : word b 1 ≢ 0 = λ z. h≢ (e ∙ z) in
-      t ∙ ap₂ same_key (f ∙ ap (key_at b) e) g ∙ simp (ne_eqb (word b 1) 0 n)
-
   module _ (r : Bool) (e : r ≡ starts_right b) (y : r ≡ true) where
     yes_starts : (not (eqb (word b 1) 0) && same_key (key_at b (word b 1)) (space_key 0)) ≡ true
     unfolding starts_right
@@ -228,19 +219,19 @@ module _ (b : List ℕ) (w : Walkable b) where
   used_ends e = record { walkable = w; ended = e }
 
   -- given up: the chain does not end, or its keys are not right
-  pub given_up : (ends_within (capacity_of b) (used_chain b) ≡ true → false ≡ keys_right (tuples_of b)) → stopped_walk ≡ used_walk b
+  pub given_up : (ends_within (capacity_of b) (used_chain b) ≡ true → false ≡ keys_right (tuples_of b)) → None ≡ used_walk b
   unfolding used_walk
-  given_up h = sym (ap (λ (t : Bool). cond t (walked_from b (word b 1)) stopped_walk) (go (ends_within (capacity_of b) (used_chain b)) refl))
+  given_up h = sym (ap (λ (t : Bool). cond t (walked_from b (word b 1)) None) (go (ends_within (capacity_of b) (used_chain b)) refl))
     where
       go : (e : Bool) → ends_within (capacity_of b) (used_chain b) ≡ e → (e && keys_right (tuples_of b)) ≡ false
       go true f = sym (h f)
       go false f = refl
 
-  pub not_started : (r : Bool) → r ≡ starts_right b → r ≡ false → stopped_walk ≡ used_walk b
+  pub not_started : (r : Bool) → r ≡ starts_right b → r ≡ false → None ≡ used_walk b
   unfolding starts_right
   not_started r e f = go (eqb (word b 1) 0) refl (sym e ∙ f)
     where
-      go : (z : Bool) → eqb (word b 1) 0 ≡ z → (not z && same_key (key_at b (word b 1)) (space_key 0)) ≡ false → stopped_walk ≡ used_walk b
+      go : (z : Bool) → eqb (word b 1) 0 ≡ z → (not z && same_key (key_at b (word b 1)) (space_key 0)) ≡ false → None ≡ used_walk b
       go true z t = given_up (λ u. not_ascending b (ascends_empty b (used_ends u) (word b 1) refl (eqb-true (word b 1) 0 z)))
       go false z t =
           given_up (λ u. not_ascending b (ascends_not_first b (used_ends u) (word b 1) refl (eqb-false (word b 1) 0 z) (key_at b (word b 1)) refl t))
@@ -273,7 +264,7 @@ module _ (b : List ℕ) (w : Walkable b) where
     unfolding used_chain
     ended z = sym (found_ends b (word b 1) _ (walked_end b left at last z ∙ W.same))
 
-    pub using_end : at ≡ 0 → record { ended = true; count = capacity_of b - left; last = last } ≡ used_walk b
+    pub using_end : at ≡ 0 → Some (record { count = capacity_of b - left; last = last }) ≡ used_walk b
     unfolding used_walk
     using_end z =
         let u = ended z in
@@ -282,7 +273,7 @@ module _ (b : List ℕ) (w : Walkable b) where
         = both_right b (ascends_end b (used_ends u) (key_at b last) at K.ascends z) (every_end_lem good_key b at K.good z) in
         walked_end b left at last z ∙ W.same
         ∙ sym
-        (ap (λ (t : Bool). cond t (walked_from b (word b 1)) stopped_walk) (and_both (ends_within (capacity_of b) (used_chain b)) _ u (sym k)))
+        (ap (λ (t : Bool). cond t (walked_from b (word b 1)) None) (and_both (ends_within (capacity_of b) (used_chain b)) _ u (sym k)))
 
     pub using_found : at ≡ 0 → UsedFound b ms list f v
     unfolding every_key
@@ -303,16 +294,16 @@ module _ (b : List ℕ) (w : Walkable b) where
         }
 
     -- the chain does not end with records of at most C
-    not_ended : stopped_walk ≡ walked_on b (record { at = at; left = left; last = last }) → stopped_walk ≡ used_walk b
+    not_ended : None ≡ walked_on b (record { at = at; left = left; last = last }) → None ≡ used_walk b
     unfolding used_chain
     not_ended e = given_up (λ u. absurd (false≢true (found_ends b (word b 1) _ (e ∙ W.same) ∙ u)))
 
     module _ (at≢ : at ≢ 0) (C : ℕ) (size : C ≡ capacity_of b) (r : Bool) (may : r ≡ may_meet C left at) where
-      pub using_far : r ≡ false → stopped_walk ≡ used_walk b
+      pub using_far : r ≡ false → None ≡ used_walk b
       unfolding may_meet
       using_far y = go (leb at C) refl (sym may ∙ y)
         where
-          go : (t : Bool) → leb at C ≡ t → (t && not (eqb left 0)) ≡ false → stopped_walk ≡ used_walk b
+          go : (t : Bool) → leb at C ≡ t → (t && not (eqb left 0)) ≡ false → None ≡ used_walk b
           go false e h = not_ended (walked_far b left at last (omega (arith, leb-false at C e)))
           go true e h = not_ended (walked_long b left at last at≢ (eqb-true left 0 (not_no (eqb left 0) h)))
 
@@ -339,7 +330,7 @@ module _ (b : List ℕ) (w : Walkable b) where
           follows : t ≡ key_follows (key_at b last) k
           follows = e ∙ ap (λ (x : Key). key_follows x k) p
 
-          pub using_no : t ≡ false → stopped_walk ≡ used_walk b
+          pub using_no : t ≡ false → None ≡ used_walk b
           unfolding key_follows
           using_no y = given_up (λ u. go (W.keyed u) (used_ends u) (is_less (compare_keys (key_at b last) k)) refl (sym follows ∙ y))
             where

@@ -1,5 +1,5 @@
 -- The parts of the check (specs/Checks.antt) together are the test of a store.
-use mathlib.Core.Bool.{Bool, true, false, ◌&&◌, and-false}
+use mathlib.Core.Bool.{Bool, true, false, ◌&&◌, and-false, false≢true}
 use mathlib.Core.List.{List}
 use mathlib.Core.Path.{◌≡◌, refl, sym, ap, ap₂, ◌∙◌}
 use Prim.Native.Nat.{ℕ}
@@ -9,11 +9,13 @@ use Rattle.model.specs.declared.Key.{Key}
 use Rattle.model.specs.Tuples.{Tuples}
 use Rattle.layouts.specs.Buffer.{word, fits_length, capacity_of, size_word, ends, used_chain, free_chain, used_of, tuples_of, is_store}
 use Rattle.model.specs.Rules.{ascends_from_universe, small_key, no_edge_without_node, edge_has_end, node_supported, edge_supported, every_key, sound}
-use Rattle.model.proofs.Bools.{and_left, and_right, clash}
+use Rattle.model.proofs.Bools.{and_left, and_right}
 use Rattle.presence.specs.Presence.{Walkable, ends_within, shaped_key, good_key, Sorted, supported}
-use Rattle.verify.specs.Checks.{heads_fit, nexts_within, met_once, chains_right, links_right, walked_from, keys_right, stopped_walk, used_walk}
-use Rattle.verify.specs.declared.chains.Walked.{Walked}
+use Rattle.verify.specs.Checks.{heads_fit, nexts_within, met_once, chains_right, links_right, walked_from, keys_right, used_walk}
+use Rattle.verify.specs.declared.keys.Used.{Used}
 use Rattle.presence.proofs.NamedParts.{every_and}
+use Rattle.std.specs.Prelude.{Option, Some, None, option_map}
+use Rattle.std.proofs.lemmas.Option.{none-some}
 use Rattle.verify.proofs.Heads.{walkable}
 use Rattle.verify.proofs.Walks.{links_no_end, found_ends}
 
@@ -69,8 +71,8 @@ store_parts b =
 -- ---- one after another
 
 module _ (b : List ℕ) (heads : Bool) (h : heads ≡ heads_fit b) where
-  pub store_no_heads : heads ≡ false → false ≡ is_store b
-  store_no_heads f = sym (store_parts b ∙ simp (sym h ∙ f))
+  pub store_no_heads : heads ≡ false → heads ≡ is_store b
+  store_no_heads f = f ∙ sym (store_parts b ∙ simp (sym h ∙ f))
 
   module _ (h_yes : heads ≡ true) where
     pub store_walkable : Walkable b
@@ -79,11 +81,14 @@ module _ (b : List ℕ) (heads : Bool) (h : heads ≡ heads_fit b) where
     pub store_rest : (r : Bool) → r ≡ (links_right b && sound (tuples_of b)) → r ≡ is_store b
     store_rest r e = e ∙ sym (store_parts b ∙ simp (sym h ∙ h_yes))
 
-module _ (b : List ℕ) (w : Walkable b) (used : Walked) (a : used ≡ used_walk b) where
+pub right_no_chains : (b : List ℕ) (chains : Bool) → chains ≡ links_right b → chains ≡ false → chains ≡ (links_right b && sound (tuples_of b))
+right_no_chains b chains c f = f ∙ sym (ap (λ (t : Bool). t && sound (tuples_of b)) (sym c ∙ f))
+
+module _ (b : List ℕ) (w : Walkable b) (r : Option Used) (a : option_map (λ (u : Used). u.walked) r ≡ used_walk b) where
   within : Bool
   within = ends_within (capacity_of b) (used_chain b)
 
-  pub right_no_walk : used.ended ≡ false → false ≡ (links_right b && sound (tuples_of b))
+  pub right_no_walk : r ≡ None → false ≡ (links_right b && sound (tuples_of b))
   unfolding within used_walk
   right_no_walk f = go within (keys_right (tuples_of b)) refl refl
     where
@@ -93,25 +98,28 @@ module _ (b : List ℕ) (w : Walkable b) (used : Walked) (a : used ≡ used_walk
           (links_no_end b (word b 1) w.used_head (unfold used_chain in x) (λ z. unfold chains_right used_chain in simp z))
       go true false x y = sym (ap (λ (t : Bool). links_right b && t) (sound_parts (tuples_of b) ∙ simp y) ∙ and-false (links_right b))
       go true true x y =
-          let u : used ≡ walked_from b (word b 1) = a ∙ simp (x, y) in
-          absurd (clash (found_ends b (word b 1) used u ∙ (unfold used_chain in x)) f)
+          let u : None ≡ walked_from b (word b 1) = sym (ap (option_map (λ (u : Used). u.walked)) f) ∙ a ∙ simp (x, y) in
+          absurd (false≢true (found_ends b (word b 1) _ u ∙ (unfold used_chain in x)))
 
-  module _ (a_yes : used.ended ≡ true) where
+  module _ (used : Used) (a_some : r ≡ Some used) where
+    found : Some used.walked ≡ used_walk b
+    found = sym (ap (option_map (λ (u : Used). u.walked)) a_some) ∙ a
+
     both : (within && keys_right (tuples_of b)) ≡ true
     unfolding within used_walk
     both = go (within && keys_right (tuples_of b)) refl
       where
         go : (t : Bool) → (within && keys_right (tuples_of b)) ≡ t → t ≡ true
         go true x = refl
-        go false x = let u : used ≡ stopped_walk = a ∙ simp x in absurd (clash a_yes (ap (λ (v : Walked). v.ended) u))
+        go false x = let u : Some used.walked ≡ None = found ∙ simp x in absurd (none-some used.walked (sym u))
 
     right_ends : ends_within (capacity_of b) (used_chain b) ≡ true
     unfolding within
     right_ends = and_left within _ both
 
-    pub right_walk : used ≡ walked_from b (word b 1)
+    pub right_walk : Some used.walked ≡ walked_from b (word b 1)
     unfolding within used_walk
-    right_walk = a ∙ simp both
+    right_walk = found ∙ simp both
 
     pub right_sorted : Sorted b
     unfolding keys_right
@@ -119,9 +127,6 @@ module _ (b : List ℕ) (w : Walkable b) (used : Walked) (a : used ≡ used_walk
         record { used = record { walkable = w; ended = right_ends }; ascends = and_left (ascends_from_universe (tuples_of b)) _ (and_right within _ both) }
 
     module _ (chains : Bool) (c : chains ≡ links_right b) where
-      pub right_no_chains : chains ≡ false → false ≡ (links_right b && sound (tuples_of b))
-      right_no_chains f = simp (sym c ∙ f)
-
       pub right_named : chains ≡ true → (r : Bool) → r ≡ every_key (supported (tuples_of b)) (tuples_of b) → r ≡ (links_right b && sound (tuples_of b))
       right_named f r e =
           e ∙ sym (ap (λ (t : Bool). t && sound (tuples_of b)) (sym c ∙ f) ∙ sound_parts (tuples_of b) ∙ simp (and_right within _ both))

@@ -13,10 +13,11 @@ use Rattle.model.proofs.Bools.{and_both}
 use Rattle.verify.specs.declared.chains.Walk.{Walk}
 use Rattle.presence.specs.declared.ends.Found.{Found}
 use Rattle.verify.specs.declared.keys.Used.{Used}
+use Rattle.std.specs.Prelude.{Option, Some, None}
 use Rattle.presence.specs.Presence.{with_named, found_with, list_with}
-use Rattle.verify.specs.Checks.{stepped, may_meet, key_follows, stopped_used, starts_right, UsedRun, run_stopped, run_ended, may_take, used_run, used_run_of}
+use Rattle.verify.specs.Checks.{stepped, may_meet, key_follows, starts_right, UsedRun, run_stopped, run_ended, may_take, used_run, used_run_of}
 
-abbrev left_of : Used → List ℕ → List ℕ → UsedRun
+abbrev left_of : Option Used → List ℕ → List ℕ → UsedRun
 left_of u marks list = record { used = u; marks = marks; list = list }
 
 module _ (b marks list : List ℕ) (t : Bool) (T : t ≡ starts_right b) where
@@ -26,9 +27,9 @@ module _ (b marks list : List ℕ) (t : Bool) (T : t ≡ starts_right b) where
       (used_run b (capacity_of b - 1) (next b (word b 1)) (word b 1) (record { sure = true; kept = 0 }) (record { at = word b 2; left = capacity_of b; last = 0 }) marks list)
       (run_stopped marks list)
 
-  pub run_unstarted : t ≡ false → (u : Used) → u ≡ stopped_used → left_of u marks list ≡ used_run_of b marks list
+  pub run_unstarted : t ≡ false → (u : Option Used) → u ≡ None → left_of u marks list ≡ used_run_of b marks list
   unfolding used_run_of begun
-  run_unstarted e u s = ap (λ (x : Used). left_of x marks list) s ∙ sym (ap begun (sym T ∙ e))
+  run_unstarted e u s = ap (λ (x : Option Used). left_of x marks list) s ∙ sym (ap begun (sym T ∙ e))
 
   pub run_started : t ≡ true → (C at last : ℕ) (free : Walk) → C ≡ capacity_of b → last ≡ word b 1 → at ≡ next b last
       → free ≡ record { at = word b 2; left = C; last = 0 }
@@ -40,11 +41,11 @@ module _ (b marks list : List ℕ) (t : Bool) (T : t ≡ starts_right b) where
       (λ i. used_run b (c i - 1) (first i) (l i) (record { sure = true; kept = 0 }) (beside i) marks list) ∙ sym (ap begun (sym T ∙ e))
 
 module _ (b : List ℕ) (left at last : ℕ) (f : Found) (free : Walk) (marks list : List ℕ) where
-  pub run_end : at ≡ 0 → (C : ℕ) → C ≡ capacity_of b → (u : Used)
-      → u ≡ record { ended = true; count = C - left; last = last; found = f; free = free } → left_of u marks list ≡ used_run b left at last f free marks list
+  pub run_end : at ≡ 0 → (C : ℕ) → C ≡ capacity_of b → (u : Option Used)
+      → u ≡ Some (record { walked = record { count = C - left; last = last }; found = f; free = free }) → left_of u marks list ≡ used_run b left at last f free marks list
   unfolding used_run
   run_end z C c u e =
-      ap (λ (x : Used). left_of x marks list) e ∙ ap (λ (n : ℕ). run_ended (n - left) last f free marks list) c ∙ go left
+      ap (λ (x : Option Used). left_of x marks list) e ∙ ap (λ (n : ℕ). run_ended (n - left) last f free marks list) c ∙ go left
     where
       yes_end : eqb at 0 ≡ true
       yes_end = eq-eqb at 0 z
@@ -114,20 +115,20 @@ module _ (b : List ℕ) (left at last : ℕ) (f : Found) (free : Walk) (marks li
     met : may_meet (capacity_of b) left at ≡ t
     met = sym (T ∙ ap (λ (x : ℕ). may_meet x left at) c)
 
-    pub run_far : t ≡ false → (u : Used) → u ≡ stopped_used → left_of u marks list ≡ used_run b left at last f free marks list
+    pub run_far : t ≡ false → (u : Option Used) → u ≡ None → left_of u marks list ≡ used_run b left at last f free marks list
     unfolding may_take
     run_far e u s =
-        ap (λ (x : Used). left_of x marks list) s
+        ap (λ (x : Option Used). left_of x marks list) s
         ∙ not_taken n (ap (λ (x : Bool). x && key_follows (key_at b last) (key_at b at)) (met ∙ e))
 
     module _ (yes_met : t ≡ true) (k : Key) (K : k ≡ key_at b at) (j : Key) (J : j ≡ key_at b last) (v : Bool) (told : v ≡ key_follows j k) where
       follows : key_follows (key_at b last) (key_at b at) ≡ v
       follows = sym (told ∙ (λ i. key_follows (J i) (K i)))
 
-      pub run_no : v ≡ false → (u : Used) → u ≡ stopped_used → left_of u marks list ≡ used_run b left at last f free marks list
+      pub run_no : v ≡ false → (u : Option Used) → u ≡ None → left_of u marks list ≡ used_run b left at last f free marks list
       unfolding may_take
       run_no e u s =
-          ap (λ (x : Used). left_of x marks list) s
+          ap (λ (x : Option Used). left_of x marks list) s
           ∙ not_taken n ((λ i. (met ∙ yes_met) i && key_follows (key_at b last) (key_at b at)) ∙ follows ∙ e)
 
       pub run_on : v ≡ true → left ≢ 0 → (f' : Found) → f' ≡ found_with b marks j k f → (marks' : List ℕ) → marks' ≡ with_named marks k at

@@ -2,13 +2,14 @@
 use mathlib.Core.Bool.{Bool, true, false, cond, not, ◌&&◌, ◌||◌, and-false}
 use mathlib.Core.List.{List, [], ◌∷◌, ◌++◌}
 use mathlib.Core.Logic.{◌≢◌}
-use mathlib.Core.Option.{Option, none, some, map}
+use mathlib.Core.Option.{none, some, map}
+use mathlib.Core.Option as maybe
 use mathlib.Core.Path.{◌≡◌, refl, sym, ap, ap₂, ◌∙◌, subst}
 use Prim.Native.Nat.{ℕ, zero, suc, ◌+◌, ◌-◌, ◌≤◌, ◌<◌}
 use native.Mathlib.Omega.{arith}
 use lib.Dec.{eqb, leb, ltb}
 use lib.ListN.{length}
-use borrow.Author.Tests.{eqb-true, eqb-false, eq-eqb, ne_eqb, le-leb, lt-leb, leb-true, ltb-true, ltb-false, lt-ltb, le-ltb}
+use borrow.Author.Tests.{eqb-true, eqb-false, eq-eqb, ne_eqb, le-leb, lt-leb, leb-true, ltb-true, ltb-false}
 use Rattle.layouts.specs.Buffer.{word, capacity_of, next, walk, ends, or_nothing, used_chain, free_chain, used_of, free_of, count}
 use Rattle.layouts.specs.Chains.{Chain, Within}
 use Rattle.model.proofs.Bools.{and_left, and_right, and_both}
@@ -17,28 +18,30 @@ use Rattle.model.proofs.Numbers.{every_up_to_lem, up_to_every}
 use Rattle.verify.specs.declared.chains.Walk.{Walk}
 use Rattle.verify.specs.declared.chains.Walked.{Walked}
 use Rattle.presence.specs.Presence.{Walkable, all_within, ends_within}
-use Rattle.verify.specs.Checks.{nexts_within, met_once, chains_right, links_right, steps, last_met, stopped_walk, walked_on, walked_from, stepped, in_run, along_run, FreeWalk}
+use Rattle.verify.specs.Checks.{nexts_within, met_once, chains_right, links_right, steps, last_met, walked_on, walked_from, stepped, in_run, along_run, FreeWalk}
 use Rattle.layouts.proofs.Sizes.{some_record}
 use Rattle.presence.proofs.ChainEnds.{Met, met_by_walk}
 use Rattle.verify.proofs.Once.{last_or, once_test}
+use Rattle.std.specs.Prelude.{Option, is_some, Some, None}
+use Rattle.std.proofs.lemmas.Option.{same_Some}
 
 -- ---- one walk
 
 -- a record of at most C more
-ends_more : (C i : ℕ) (r : Option (List ℕ)) → leb i C ≡ true → ends_within C (map (λ (is : List ℕ). i ∷ is) r) ≡ ends_within C r
+ends_more : (C i : ℕ) (r : maybe.Option (List ℕ)) → leb i C ≡ true → ends_within C (map (λ (is : List ℕ). i ∷ is) r) ≡ ends_within C r
 unfolding ends_within all_within
 ends_more C i none t = refl
 ends_more C i (some is) t = ap (λ (a : Bool). a && all_within C is) t
 
 -- a record above C
-ends_far : (C i : ℕ) (r : Option (List ℕ)) → leb i C ≡ false → ends_within C (map (λ (is : List ℕ). i ∷ is) r) ≡ false
+ends_far : (C i : ℕ) (r : maybe.Option (List ℕ)) → leb i C ≡ false → ends_within C (map (λ (is : List ℕ). i ∷ is) r) ≡ false
 unfolding ends_within all_within
 ends_far C i none t = refl
 ends_far C i (some is) t = ap (λ (a : Bool). a && all_within C is) t
 
 -- what is found: these, where the chain ends
-abbrev found : Bool → ℕ → ℕ → Walked
-found t count last = cond t (record { ended = true; count = count; last = last }) stopped_walk
+abbrev found : Bool → ℕ → ℕ → Option Walked
+found t count last = cond t (Some (record { count = count; last = last })) None
 
 module _ (b : List ℕ) where
   pub walked_on_lem : (left at last n : ℕ) → at ≢ 0 → left ≢ 0 → left ≤ capacity_of b → at ≤ capacity_of b → n ≡ next b at
@@ -64,52 +67,46 @@ module _ (b : List ℕ) where
         sym (eqb-true (next b at) (at + 1) (and_right (leb at (capacity_of b)) _ more)),
       )
 
-  pub run_none : (at : ℕ) → at ≡ 0 → false ≡ in_run b at
-  unfolding in_run
-  run_none at z = sym (ap (λ (t : Bool). t && (leb at (capacity_of b) && eqb (next b at) (at + 1))) (le-ltb 0 at (omega (arith, z))))
-
-  pub run_far : (at : ℕ) → at ≢ 0 → capacity_of b < at → false ≡ in_run b at
-  unfolding in_run
-  run_far at n h =
-      sym
-      (ap₂ (λ (t u : Bool). t && (u && eqb (next b at) (at + 1))) (lt-ltb 0 at (omega (arith, n))) (lt-leb at (capacity_of b) h))
-
-  pub run_here : (at n : ℕ) → at ≢ 0 → at ≤ capacity_of b → n ≡ next b at → eqb n (at + 1) ≡ in_run b at
-  unfolding in_run
-  run_here at n low high e =
-      ap (λ (x : ℕ). eqb x (at + 1)) e
-      ∙ sym (ap₂ (λ (t u : Bool). t && (u && eqb (next b at) (at + 1))) (lt-ltb 0 at (omega (arith, low))) (le-leb at (capacity_of b) high))
-
   pub run_low : (at : ℕ) → in_run b at ≡ true → at ≤ capacity_of b
   run_low at e = (run_told at e).1
 
-  pub along_stop : (left at last : ℕ) → left ≢ 0 → in_run b at ≡ false → record { at = at; left = left; last = last } ≡ along_run b left at last
-  unfolding along_run
-  along_stop zero at last n e = absurd (n refl)
-  along_stop (suc left) at last n e =
-      sym (ap (λ (t : Bool). cond t (along_run b left (at + 1) at) (record { at = at; left = suc left; last = last })) e)
+  -- a walk that has passed so many of the records that it may meet
+  module _ (most passed at last : ℕ) where
+    module _ (h : passed < most) where
+      more : most - passed ≡ suc (most - (passed + 1))
+      more = omega arith
 
-  pub along_on : (left at last : ℕ) → left ≢ 0 → in_run b at ≡ true → along_run b (left - 1) (at + 1) at ≡ along_run b left at last
-  unfolding along_run
-  along_on zero at last n e = absurd (n refl)
-  along_on (suc left) at last n e =
-      let z : suc left - 1 ≡ left = omega arith in
-      ap (λ (k : ℕ). along_run b k (at + 1) at) z
-      ∙ sym (ap (λ (t : Bool). cond t (along_run b left (at + 1) at) (record { at = at; left = suc left; last = last })) e)
+      along_one : along_run b (most - passed) at last
+          ≡ cond (in_run b at) (along_run b (most - (passed + 1)) (at + 1) at) (record { at = at; left = most - passed; last = last })
+      unfolding along_run
+      along_one =
+          ap (λ (k : ℕ). along_run b k at last) more
+          ∙ ap (λ (k : ℕ). cond (in_run b at) (along_run b (most - (passed + 1)) (at + 1) at) (record { at = at; left = k; last = last })) (sym more)
 
-  pub along_end : (left at last : ℕ) → left ≡ 0 → record { at = at; left = left; last = last } ≡ along_run b left at last
-  unfolding along_run
-  along_end zero at last z = refl
-  along_end (suc left) at last z = absurd (omega (arith, z))
+      pub along_stop : in_run b at ≡ false → record { at = at; left = most - passed; last = last } ≡ along_run b (most - passed) at last
+      along_stop e =
+          sym
+          (along_one
+          ∙ ap (λ (t : Bool). cond t (along_run b (most - (passed + 1)) (at + 1) at) (record { at = at; left = most - passed; last = last })) e)
+
+      pub along_on : in_run b at ≡ true → along_run b (most - (passed + 1)) (at + 1) at ≡ along_run b (most - passed) at last
+      along_on e =
+          sym
+          (along_one
+          ∙ ap (λ (t : Bool). cond t (along_run b (most - (passed + 1)) (at + 1) at) (record { at = at; left = most - passed; last = last })) e)
+
+    pub along_end : most ≤ passed → record { at = at; left = 0; last = last } ≡ along_run b (most - passed) at last
+    unfolding along_run
+    along_end h = let none : most - passed ≡ 0 = omega arith in sym (ap (λ (k : ℕ). along_run b k at last) none)
 
   pub walked_end : (left at last : ℕ) → at ≡ 0
-      → record { ended = true; count = capacity_of b - left; last = last } ≡ walked_on b (record { at = at; left = left; last = last })
+      → Some (record { count = capacity_of b - left; last = last }) ≡ walked_on b (record { at = at; left = left; last = last })
   walked_end left at last z = go left ∙ ap (λ (i : ℕ). walked_on b (record { at = i; left = left; last = last })) (sym z)
     where
       none_more : (k : ℕ) → k ≡ k + 0
       none_more k = omega arith
 
-      go : (k : ℕ) → record { ended = true; count = capacity_of b - k; last = last } ≡ walked_on b (record { at = 0; left = k; last = last })
+      go : (k : ℕ) → Some (record { count = capacity_of b - k; last = last }) ≡ walked_on b (record { at = 0; left = k; last = last })
       go zero = unfold walked_on walk steps last_met ends_within all_within in ap (λ (c : ℕ). found true c last) (none_more (capacity_of b - 0))
       go (suc k) = unfold walked_on walk steps last_met ends_within all_within in ap (λ (c : ℕ). found true c last) (none_more (capacity_of b - suc k))
 
@@ -147,14 +144,14 @@ module _ (b : List ℕ) where
       let shorter : w.left ≡ (along_run b (left - 1) n at).left = ap (λ (x : Walk). x.left) same in
       (ap (walked_on b) same ∙ run.0 ∙ walked_on_lem left at last n at≢ left≢ few high e, omega (arith, shorter, run.1, left≢))
 
-  pub walked_long : (left at last : ℕ) → at ≢ 0 → left ≡ 0 → stopped_walk ≡ walked_on b (record { at = at; left = left; last = last })
+  pub walked_long : (left at last : ℕ) → at ≢ 0 → left ≡ 0 → None ≡ walked_on b (record { at = at; left = left; last = last })
   walked_long left at last at≢ z = go at at≢ ∙ ap (λ (k : ℕ). walked_on b (record { at = at; left = k; last = last })) (sym z)
     where
-      go : (i : ℕ) → i ≢ 0 → stopped_walk ≡ walked_on b (record { at = i; left = 0; last = last })
+      go : (i : ℕ) → i ≢ 0 → None ≡ walked_on b (record { at = i; left = 0; last = last })
       go zero n = absurd (n refl)
       go (suc i) n = unfold walked_on walk ends_within in refl
 
-  pub walked_far : (left at last : ℕ) → capacity_of b < at → stopped_walk ≡ walked_on b (record { at = at; left = left; last = last })
+  pub walked_far : (left at last : ℕ) → capacity_of b < at → None ≡ walked_on b (record { at = at; left = left; last = last })
   unfolding walked_on walk steps last_met
   walked_far left zero last h = absurd (omega arith)
   walked_far zero (suc i) last h = unfold ends_within in refl
@@ -167,23 +164,6 @@ module _ (b : List ℕ) where
 -- ---- the free chain walked beside the used one
 
 module _ (b : List ℕ) (w : Walk) where
-  pub step_ended : w.at ≡ 0 → w ≡ stepped b w
-  unfolding stepped
-  step_ended z = simp (eq-eqb w.at 0 z)
-
-  pub step_far : w.at ≢ 0 → (C : ℕ) → C ≡ capacity_of b → C < w.at → w ≡ stepped b w
-  unfolding stepped
-  step_far n C e h =
-      let k : capacity_of b < w.at = omega arith in
-      simp (ne_eqb w.at 0 n, lt-ltb (capacity_of b) w.at k)
-
-  pub step_on : w.at ≢ 0 → (C : ℕ) → C ≡ capacity_of b → w.at ≤ C → (n : ℕ) → n ≡ next b w.at
-      → record { at = n; left = w.left - 1; last = w.at } ≡ stepped b w
-  unfolding stepped
-  step_on n C e h m f =
-      let k : w.at ≤ capacity_of b = omega arith in
-      ap (λ (i : ℕ). record { at = i; left = w.left - 1; last = w.at }) f ∙ simp (ne_eqb w.at 0 n, le-ltb (capacity_of b) w.at k)
-
   pub free_next : (most : ℕ) → most ≢ 0 → FreeWalk b w most → (v : Walk) → v ≡ stepped b w → FreeWalk b v (most - 1)
   unfolding stepped
   free_next most n F v e = subst (λ (x : Walk). FreeWalk b x (most - 1)) (sym e) (go (eqb w.at 0) (ltb (capacity_of b) w.at) refl refl)
@@ -245,7 +225,7 @@ unfolding all_within
 within_all C [] w = refl
 within_all C (i ∷ is) w = and_both (leb i C) _ (le-leb i C w.1) (within_all C is w.2)
 
-pub ends_by_walk : (C : ℕ) (r : Option (List ℕ)) → ends_within C r ≡ true → ends r ≡ true
+pub ends_by_walk : (C : ℕ) (r : maybe.Option (List ℕ)) → ends_within C r ≡ true → ends r ≡ true
 unfolding ends_within ends
 ends_by_walk C none t = t
 ends_by_walk C (some is) t = refl
@@ -259,7 +239,7 @@ ends_nexts b head h t = go (walk (next b) (capacity_of b) head) refl
     nexts : (j : ℕ) → 1 ≤ j → j ≤ capacity_of b → next b j ≤ capacity_of b
     nexts j l k = leb-true (next b j) (capacity_of b) (every_up_to_lem (λ (i : ℕ). leb (next b i) (capacity_of b)) (capacity_of b) t j l k)
 
-    go : (r : Option (List ℕ)) → walk (next b) (capacity_of b) head ≡ r → ends_within (capacity_of b) r ≡ ends r
+    go : (r : maybe.Option (List ℕ)) → walk (next b) (capacity_of b) head ≡ r → ends_within (capacity_of b) r ≡ ends r
     go none f = refl
     go (some is) f =
         within_all (capacity_of b) is
@@ -280,48 +260,49 @@ link_within link C h (j ∷ js) c w i k = go (eqb i j) refl (link_within link C 
     go false e later = later (omega (arith, miss i j (eqb-false i j e)))
 
 -- what a walk from a head finds
-module _ (b : List ℕ) (head : ℕ) (u : Walked) (from : u ≡ walked_from b head) where
-  pub found_ends : u.ended ≡ ends_within (capacity_of b) (walk (next b) (capacity_of b) head)
+pub found_ends : (b : List ℕ) (head : ℕ) (r : Option Walked) → r ≡ walked_from b head
+    → is_some r ≡ ends_within (capacity_of b) (walk (next b) (capacity_of b) head)
+unfolding walked_from walked_on
+found_ends b head r from =
+    ap (λ (x : Option Walked). is_some x) from ∙ go (ends_within (capacity_of b) (walk (next b) (capacity_of b) head)) _ _
+  where
+    go : (t : Bool) (c l : ℕ) → is_some (found t c l) ≡ t
+    go true c l = refl
+    go false c l = refl
+
+module _ (b : List ℕ) (head : ℕ) (u : Walked) (from : Some u ≡ walked_from b head) where
+  pub found_met : Met b head (or_nothing (walk (next b) (capacity_of b) head))
+  found_met = met_by_walk b head (sym (found_ends b head _ from))
+
+  whole : u
+      ≡ record {
+        count = (capacity_of b - capacity_of b) + steps (next b) (capacity_of b) head;
+        last = last_met (next b) (capacity_of b) head 0;
+      }
   unfolding walked_from walked_on
-  found_ends = ap (λ (x : Walked). x.ended) from ∙ go (ends_within (capacity_of b) (walk (next b) (capacity_of b) head)) _ _
-    where
-      go : (t : Bool) (c l : ℕ) → (found t c l).ended ≡ t
-      go true c l = refl
-      go false c l = refl
+  whole =
+      same_Some _ _
+      (from
+      ∙ ap
+      (λ (t : Bool).
+      found t ((capacity_of b - capacity_of b) + steps (next b) (capacity_of b) head) (last_met (next b) (capacity_of b) head 0))
+      (sym (found_ends b head _ from)))
 
-  module _ (yes' : u.ended ≡ true) where
-    pub found_met : Met b head (or_nothing (walk (next b) (capacity_of b) head))
-    found_met = met_by_walk b head (sym found_ends ∙ yes')
+  pub found_count : u.count ≡ length (or_nothing (walk (next b) (capacity_of b) head))
+  found_count =
+      omega (
+        arith,
+        ap (λ (x : Walked). x.count) whole,
+        steps_chain (next b) (capacity_of b) head (or_nothing (walk (next b) (capacity_of b) head)) found_met.chain found_met.short,
+      )
 
-    whole : u
-        ≡ record {
-          ended = true;
-          count = (capacity_of b - capacity_of b) + steps (next b) (capacity_of b) head;
-          last = last_met (next b) (capacity_of b) head 0;
-        }
-    unfolding walked_from walked_on
-    whole =
-        from
-        ∙ ap
-        (λ (t : Bool).
-        found t ((capacity_of b - capacity_of b) + steps (next b) (capacity_of b) head) (last_met (next b) (capacity_of b) head 0))
-        (sym found_ends ∙ yes')
+  pub found_last : u.last ≡ last_or 0 (or_nothing (walk (next b) (capacity_of b) head))
+  found_last =
+      ap (λ (x : Walked). x.last) whole
+      ∙ last_chain (next b) (capacity_of b) head 0 (or_nothing (walk (next b) (capacity_of b) head)) found_met.chain found_met.short
 
-    pub found_count : u.count ≡ length (or_nothing (walk (next b) (capacity_of b) head))
-    found_count =
-        omega (
-          arith,
-          ap (λ (x : Walked). x.count) whole,
-          steps_chain (next b) (capacity_of b) head (or_nothing (walk (next b) (capacity_of b) head)) found_met.chain found_met.short,
-        )
-
-    pub found_last : u.last ≡ last_or 0 (or_nothing (walk (next b) (capacity_of b) head))
-    found_last =
-        ap (λ (x : Walked). x.last) whole
-        ∙ last_chain (next b) (capacity_of b) head 0 (or_nothing (walk (next b) (capacity_of b) head)) found_met.chain found_met.short
-
-    pub found_most : u.count ≤ capacity_of b
-    found_most = omega (arith, found_count, found_met.short)
+  pub found_most : u.count ≤ capacity_of b
+  found_most = omega (arith, found_count, found_met.short)
 
 -- ---- the two chains
 
@@ -335,38 +316,40 @@ links_no_end b head h f no' = go (nexts_within b) refl
     go false e = refl
     go true e = sym (no' (sym (ends_nexts b head h e) ∙ f))
 
-module _ (b : List ℕ) (w : Walkable b) (u : Walked) (used : u ≡ walked_from b (word b 1)) (u_yes : u.ended ≡ true)
-    (f : Walked) (free : f ≡ walked_from b (word b 2)) where
-  pub no_free : f.ended ≡ false → false ≡ links_right b
+module _ (b : List ℕ) (w : Walkable b) (u : Walked) (used : Some u ≡ walked_from b (word b 1)) (r : Option Walked) (free : r ≡ walked_from b (word b 2)) where
+  pub no_free : r ≡ None → false ≡ links_right b
   unfolding chains_right free_chain
   no_free e =
-      links_no_end b (word b 2) w.free_head (sym (found_ends b (word b 2) f free) ∙ e)
+      links_no_end b (word b 2) w.free_head (sym (found_ends b (word b 2) r free) ∙ ap (λ (x : Option Walked). is_some x) e)
       (λ z. ap (λ (t : Bool). ends (used_chain b) && (t && (met_once b && eqb (word b 3) (length (used_of b))))) z ∙ and-false (ends (used_chain b)))
 
-  module _ (f_yes : f.ended ≡ true) (C : ℕ) (size : C ≡ capacity_of b) where
+  module _ (f : Walked) (f_some : r ≡ Some f) (C : ℕ) (size : C ≡ capacity_of b) where
+    free_some : Some f ≡ walked_from b (word b 2)
+    free_some = sym f_some ∙ free
+
     used_met : Met b (word b 1) (used_of b)
     unfolding used_of used_chain
-    used_met = found_met b (word b 1) u used u_yes
+    used_met = found_met b (word b 1) u used
 
     free_met : Met b (word b 2) (free_of b)
     unfolding free_of free_chain
-    free_met = found_met b (word b 2) f free f_yes
+    free_met = found_met b (word b 2) f free_some
 
     used_count : u.count ≡ length (used_of b)
     unfolding used_of used_chain
-    used_count = found_count b (word b 1) u used u_yes
+    used_count = found_count b (word b 1) u used
 
     free_count : f.count ≡ length (free_of b)
     unfolding free_of free_chain
-    free_count = found_count b (word b 2) f free f_yes
+    free_count = found_count b (word b 2) f free_some
 
     used_last : u.last ≡ last_or 0 (used_of b)
     unfolding used_of used_chain
-    used_last = found_last b (word b 1) u used u_yes
+    used_last = found_last b (word b 1) u used
 
     free_last : f.last ≡ last_or 0 (free_of b)
     unfolding free_of free_chain
-    free_last = found_last b (word b 2) f free f_yes
+    free_last = found_last b (word b 2) f free_some
 
     -- each record exactly once, by counts and last records
     once : met_once b ≡ (eqb (u.count + f.count) C && not (eqb u.last f.last))
@@ -394,7 +377,7 @@ module _ (b : List ℕ) (w : Walkable b) (u : Walked) (used : u ≡ walked_from 
     ended : chains_right b ≡ (met_once b && eqb (word b 3) (length (used_of b)))
     unfolding chains_right used_chain free_chain
     ended =
-        simp (ends_by_walk _ _ (sym (found_ends b (word b 1) u used) ∙ u_yes), ends_by_walk _ _ (sym (found_ends b (word b 2) f free) ∙ f_yes))
+        simp (ends_by_walk _ _ (sym (found_ends b (word b 1) _ used)), ends_by_walk _ _ (sym (found_ends b (word b 2) _ free_some)))
 
     with_once : (t : Bool) → met_once b ≡ t → links_right b ≡ (t && eqb (word b 3) (length (used_of b)))
     unfolding links_right
@@ -402,11 +385,11 @@ module _ (b : List ℕ) (w : Walkable b) (u : Walked) (used : u ≡ walked_from 
     with_once true e =
         ap (λ (t : Bool). t && chains_right b) (met_nexts e) ∙ ended ∙ ap (λ (t : Bool). t && eqb (word b 3) (length (used_of b))) e
 
-    pub no_count : (u.count + f.count ≡ C → ⊥) → false ≡ links_right b
-    no_count h = sym (with_once false (once ∙ simp (ne_eqb (u.count + f.count) C h)))
+    pub no_count : (u.count + f.count ≡ C → ⊥) → eqb (u.count + f.count) C ≡ links_right b
+    no_count h = ne_eqb (u.count + f.count) C h ∙ sym (with_once false (once ∙ simp (ne_eqb (u.count + f.count) C h)))
 
-    pub no_last : u.count + f.count ≡ C → u.last ≡ f.last → false ≡ links_right b
-    no_last h k = sym (with_once false (once ∙ simp (eq-eqb (u.count + f.count) C h, eq-eqb u.last f.last k)))
+    pub no_last : u.count + f.count ≡ C → u.last ≡ f.last → not (eqb u.last f.last) ≡ links_right b
+    no_last h k = ap not (eq-eqb u.last f.last k) ∙ sym (with_once false (once ∙ simp (eq-eqb (u.count + f.count) C h, eq-eqb u.last f.last k)))
 
     pub all_right : (n : ℕ) → u.count + f.count ≡ C → (u.last ≡ f.last → ⊥) → n ≡ word b 3 → eqb n u.count ≡ links_right b
     all_right n h k e =

@@ -1,6 +1,6 @@
 -- Document 01, "A store is a buffer of 10 to 12,297 words where: ..": the test `is_store` of the model in the parts that the check takes one after another.
--- What is said of the tuples alone, and of a chain that ends, is in support/specs/Presence.antt. proofs/Parts.antt proves that the parts together are the test.
-use Rattle.std.specs.Prelude.{Bool, true, false, cond, not, ◌&&◌, ◌||◌, List, ◌++◌, ◌≡◌, ℕ, zero, suc, ◌+◌, ◌-◌, ◌≤◌, eqb, leb, ltb, length}
+-- What is said of the tuples alone, and of a chain that ends, is in presence/specs/Presence.antt. proofs/Parts.antt proves that the parts together are the test.
+use Rattle.std.specs.Prelude.{Bool, true, cond, not, ◌&&◌, ◌||◌, List, ◌++◌, ◌≡◌, ℕ, zero, suc, ◌+◌, ◌-◌, ◌≤◌, eqb, leb, ltb, length, Option, Some, None}
 use Rattle.model.specs.declared.Key.{Key}
 use Rattle.model.specs.Ordered.{is_less}
 use Rattle.model.specs.Keys.{space_key, compare_keys, same_key}
@@ -50,23 +50,18 @@ last_met link zero i d = d
 last_met link (suc most) zero d = d
 last_met link (suc most) (suc i) d = last_met link most (link (suc i)) (suc i)
 
--- a walk that is given up
-abbrev pub stopped_walk : Walked
-stopped_walk = record { ended = false; count = 0; last = 0 }
-
--- what a walk finds from where it is: does the chain end with records of at most C, how many records it meets, the last of them
-unfoldable pub walked_on : List ℕ → Walk → Walked
+-- what a walk finds from where it is, where the chain ends with records of at most C: how many records it meets, the last of them
+unfoldable pub walked_on : List ℕ → Walk → Option Walked
 walked_on b w =
     cond (ends_within (capacity_of b) (walk (next b) w.left w.at))
-    (record {
-      ended = true;
+    (Some (record {
       count = (capacity_of b - w.left) + steps (next b) w.left w.at;
       last = last_met (next b) w.left w.at w.last;
-    })
-    stopped_walk
+    }))
+    None
 
 -- a walk of at most C records from a head
-unfoldable pub walked_from : List ℕ → ℕ → Walked
+unfoldable pub walked_from : List ℕ → ℕ → Option Walked
 walked_from b head = walked_on b (record { at = head; left = capacity_of b; last = 0 })
 
 -- a walk one record on; one that has ended stays, and so does one that leaves the records
@@ -102,38 +97,30 @@ may_meet C left at = leb at C && not (eqb left 0)
 unfoldable pub key_follows : Key → Key → Bool
 key_follows j k = is_less (compare_keys j k) && good_key k
 
--- a walk of the used chain that is given up
-abbrev pub stopped_used : Used
-stopped_used = record { ended = false; count = 0; last = 0; found = record { sure = false; kept = 0 }; free = record { at = 0; left = 0; last = 0 } }
-
--- what a walk of the used chain finds of the chain
-abbrev pub walked_of : Used → Walked
-walked_of u = record { ended = u.ended; count = u.count; last = u.last }
-
 -- is there a first used record, with UNIVERSE's key
 unfoldable pub starts_right : List ℕ → Bool
 starts_right b = not (eqb (word b 1) 0) && same_key (key_at b (word b 1)) (space_key 0)
 
 -- the walk of the used chain, given up where its keys are not right
-unfoldable pub used_walk : List ℕ → Walked
-used_walk b = cond (ends_within (capacity_of b) (used_chain b) && keys_right (tuples_of b)) (walked_from b (word b 1)) stopped_walk
+unfoldable pub used_walk : List ℕ → Option Walked
+used_walk b = cond (ends_within (capacity_of b) (used_chain b) && keys_right (tuples_of b)) (walked_from b (word b 1)) None
 
 -- ---- the whole walk of the used chain
 
 -- what the walk leaves: what it finds, the marks and the list
 pub record UsedRun : Type 0 where
-  pub used : Used
+  pub used : Option Used
   pub marks : List ℕ
   pub list : List ℕ
 
 -- a walk that is given up
 abbrev pub run_stopped : List ℕ → List ℕ → UsedRun
-run_stopped marks list = record { used = stopped_used; marks = marks; list = list }
+run_stopped marks list = record { used = None; marks = marks; list = list }
 
 -- a walk that has met so many records up to the end of the chain
 abbrev pub run_ended : ℕ → ℕ → Found → Walk → List ℕ → List ℕ → UsedRun
 run_ended count last f free marks list =
-    record { used = record { ended = true; count = count; last = last; found = f; free = free }; marks = marks; list = list }
+    record { used = Some (record { walked = record { count = count; last = last }; found = f; free = free }); marks = marks; list = list }
 
 -- may the walk take a record after another, with so many to go
 unfoldable pub may_take : List ℕ → ℕ → ℕ → ℕ → Bool

@@ -1,9 +1,9 @@
 // Words 0 to 3 and the two chains: is each record met exactly once.
 // Each function requires what the tests before it have shown.
-ghost use Rattle.std.specs.Prelude.{true, ◌≢◌, ◌≡◌, ◌≤◌};
+ghost use Rattle.std.specs.Prelude.{◌≢◌, ◌≡◌, ◌≤◌, Some};
 ghost use Rattle.layouts.specs.Buffer.{word, capacity_of};
 ghost use Rattle.presence.specs.Presence.{Walkable};
-ghost use Rattle.verify.specs.Checks.{heads_fit, stopped_walk, walked_on, walked_from, stepped, in_run, along_run, FreeWalk, links_right};
+ghost use Rattle.verify.specs.Checks.{heads_fit, walked_on, walked_from, stepped, in_run, along_run, FreeWalk, links_right};
 
 use words::capacity;
 
@@ -18,11 +18,9 @@ pub struct Walk {
     pub last: usize,
 }
 
-// What a walk of at most C records from a head finds.
+// What a walk of at most C records from a head finds, where the chain ends.
 #[derive(Clone, Copy)]
 pub struct Walked {
-    // Does the chain end.
-    pub ended: bool,
     // How many records it meets.
     pub count: usize,
     // The last record met; 0 where there is none.
@@ -30,6 +28,7 @@ pub struct Walked {
 }
 
 // Does the length fit, and do words 0 to 2.
+#[tactic(auto, using(crate::proofs::Heads::heads_there), unfolding(crate::specs::Checks::heads_fit))]
 pub fn heads_fit(b: &[u32]) -> bool
     ensures { result ≡ heads_fit b.now }
 {
@@ -37,35 +36,16 @@ pub fn heads_fit(b: &[u32]) -> bool
         return false;
     }
     let c = capacity(b);
-    if words::head_word(b, 0) != c {
-        return false;
-    }
-    if words::head_word(b, 1) > c {
-        return false;
-    }
-    words::head_word(b, 2) <= c
-}
-
-// A walk that is given up.
-fn given_up() -> Walked
-    ensures { result ≡ stopped_walk }
-{
-    Walked {
-        ended: false,
-        count: 0,
-        last: 0,
-    }
+    words::head_word(b, 0) == c && words::head_word(b, 1) <= c && words::head_word(b, 2) <= c
 }
 
 // One record on; a walk that has ended stays, and so does one that leaves the records.
+#[tactic(auto, using(presence::proofs::Rest::record_inside), unfolding(crate::specs::Checks::stepped))]
 pub fn step(b: &[u32], c: usize, w: Walk) -> Walk
     requires { Walkable b.now × (c ≡ capacity_of b.now) × (w.left ≢ 0) }
     ensures { result ≡ stepped b.now w }
 {
-    if w.at == 0 {
-        return w;
-    }
-    if w.at > c {
+    if w.at == 0 || w.at > c {
         return w;
     }
     Walk {
@@ -76,18 +56,12 @@ pub fn step(b: &[u32], c: usize, w: Walk) -> Walk
 }
 
 // Is the next of a record the one after it in the buffer.
+#[tactic(auto, using(presence::proofs::Rest::record_inside), unfolding(crate::specs::Checks::in_run))]
 fn in_run(b: &[u32], c: usize, at: usize) -> bool
     requires { Walkable b.now × (c ≡ capacity_of b.now) }
     ensures { result ≡ in_run b.now at }
 {
-    if at == 0 {
-        return false;
-    }
-    if at > c {
-        return false;
-    }
-    let after = at + 1;
-    chain::next_of(b, at) == after
+    at != 0 && at <= c && chain::next_of(b, at) == at + 1
 }
 
 // Walks on as far as each next is the record after, as in a fresh store: there no read waits for the one before it.
@@ -95,22 +69,24 @@ fn along_run(b: &[u32], c: usize, w: Walk) -> Walk
     requires { Walkable b.now × (c ≡ capacity_of b.now) }
     ensures { result ≡ along_run b.now w.left w.at w.last }
 {
-    let mut left = w.left;
     let mut at = w.at;
     let mut last = w.last;
-    while left != 0 {
+    for passed in 0..w.left {
         if !in_run(b, c, at) {
-            return Walk { at, left, last };
+            return Walk {
+                at,
+                left: w.left - passed,
+                last,
+            };
         }
         last = at;
         at += 1;
-        left -= 1;
     }
-    Walk { at, left, last }
+    Walk { at, left: 0, last }
 }
 
-// Walks on until the chain ends, over at most C records in all.
-fn finish(b: &[u32], w: Walk) -> Walked
+// Walks on until the chain ends, over at most C records in all; gives up where it does not end so.
+fn finish(b: &[u32], w: Walk) -> Option<Walked>
     requires { Walkable b.now × (w.left ≤ capacity_of b.now) }
     ensures { result ≡ walked_on b.now w }
 {
@@ -120,10 +96,10 @@ fn finish(b: &[u32], w: Walk) -> Walked
     let mut last = w.last;
     while at != 0 {
         if at > c {
-            return given_up();
+            return None;
         }
         if left == 0 {
-            return given_up();
+            return None;
         }
         let on = along_run(
             b,
@@ -138,28 +114,22 @@ fn finish(b: &[u32], w: Walk) -> Walked
         at = on.at;
         last = on.last;
     }
-    Walked {
-        ended: true,
+    Some(Walked {
         count: c - left,
         last,
-    }
+    })
 }
 
 // Where the used chain ends and is walked: does the free chain end too, do both together meet each record exactly once, and is word 3 right.
 // Without marks: they meet C records together, and do not end at the same one. Then each next was met, and is at most C.
 pub fn chains_right(b: &[u32], used: Walked, w: Walk) -> bool
-    requires { Walkable b.now × (used ≡ walked_from b.now (word b.now 1)) × (used.ended ≡ true) × FreeWalk b.now w 0 }
+    requires { Walkable b.now × (Some used ≡ walked_from b.now (word b.now 1)) × FreeWalk b.now w 0 }
     ensures { result ≡ links_right b.now }
 {
-    let free = finish(b, w);
-    if !free.ended {
+    let Some(free) = finish(b, w) else {
         return false;
-    }
-    if used.count + free.count != capacity(b) {
-        return false;
-    }
-    if used.last == free.last {
-        return false;
-    }
-    words::head_word(b, 3) == used.count
+    };
+    used.count + free.count == capacity(b)
+        && used.last != free.last
+        && words::head_word(b, 3) == used.count
 }

@@ -1,123 +1,70 @@
 // The keys of the used chain: do they ascend, and is each one that a store may hold.
 // An inner layer: what its functions require, their callers have shown; only the entry refuses.
-ghost use Rattle.std.specs.Prelude.{true, ◌≡◌, length};
+ghost use Rattle.std.specs.Prelude.{◌≡◌, length, option_map, IfSome};
 ghost use Rattle.layouts.specs.Buffer.{word};
 ghost use Rattle.model.specs.Rules.{small_key};
 ghost use Rattle.presence.specs.Presence.{Walkable, shaped_key, good_key, Marks, kept_count};
-ghost use Rattle.verify.specs.Checks.{may_meet, key_follows, starts_right, stopped_used, walked_of, used_walk, used_run_of, UsedFound};
+ghost use Rattle.verify.specs.Checks.{may_meet, key_follows, starts_right, used_walk, used_run_of, UsedFound};
 
-use super::chains::{Walk, step};
+use super::chains::{Walk, Walked, step};
 use model::Key;
 use presence::ends::{Found, take};
 use words::{capacity, node_key};
 
-// Are the words of a key at most 65,535.
+// The greatest name.
+const MOST_NAME: u32 = 65535;
+
+// Are the words of a key names, or 0.
+#[tactic(auto, unfolding(model::specs::Rules::small_key))]
 fn key_small(k: Key) -> bool
     ensures { result ≡ small_key k }
 {
-    if k.s > 65535 {
-        return false;
-    }
-    if k.n > 65535 {
-        return false;
-    }
-    if k.g > 65535 {
-        return false;
-    }
-    k.m <= 65535
+    k.s <= MOST_NAME && k.n <= MOST_NAME && k.g <= MOST_NAME && k.m <= MOST_NAME
 }
 
 // Does n = 0 make g and m 0, and is g 0 exactly when m is.
+#[tactic(auto, unfolding(presence::specs::Presence::shaped_key, model::specs::Rules::no_edge_without_node, model::specs::Rules::edge_has_end))]
 fn key_shaped(k: Key) -> bool
     ensures { result ≡ shaped_key k }
 {
-    if k.g == 0 {
-        return k.m == 0;
-    }
-    if k.n == 0 {
-        return false;
-    }
-    k.m != 0
+    (k.n != 0 || k.g == 0) && (k.g == 0) == (k.m == 0)
 }
 
 // Is a key one that a store may hold.
+#[tactic(auto, unfolding(presence::specs::Presence::good_key))]
 fn key_good(k: Key) -> bool
     ensures { result ≡ good_key k }
 {
-    if !key_small(k) {
-        return false;
-    }
-    key_shaped(k)
+    key_small(k) && key_shaped(k)
 }
 
 // May a key follow another in a store: it is above it, and one that a store may hold.
+#[tactic(auto, unfolding(crate::specs::Checks::key_follows))]
 fn key_follows(key: Key, k: Key) -> bool
     ensures { result ≡ key_follows key k }
 {
-    if !key_good(k) {
-        return false;
-    }
-    words::key_below(key, k)
+    words::key_below(key, k) && key_good(k)
 }
 
-// What the walk of the used chain finds.
+// What the walk of the used chain finds, where the chain ends and its keys are right.
 #[derive(Clone, Copy)]
 pub struct Used {
-    // Does the chain end, with keys that are right.
-    pub ended: bool,
-    // How many records it meets.
-    pub count: usize,
-    // The last record met.
-    pub last: usize,
+    // What is found of the chain.
+    pub walked: Walked,
     // What is found of the tuples.
     pub found: Found,
     // The free chain, walked as far.
     pub free: Walk,
 }
 
-// A walk that is given up.
-fn stopped() -> Used
-    ensures { result ≡ stopped_used }
-{
-    Used {
-        ended: false,
-        count: 0,
-        last: 0,
-        found: Found {
-            sure: false,
-            kept: 0,
-        },
-        free: Walk {
-            at: 0,
-            left: 0,
-            last: 0,
-        },
-    }
-}
-
-// A walk that has met so many records up to the end of the chain.
-fn ended(count: usize, last: usize, found: Found, free: Walk) -> Used
-    ensures { result ≡ record { ended = true; count = count; last = last; found = found; free = free } }
-{
-    Used {
-        ended: true,
-        count,
-        last,
-        found,
-        free,
-    }
-}
-
 // Is there a first used record, with UNIVERSE's key.
+#[tactic(auto, using(presence::proofs::Rest::record_inside), unfolding(crate::specs::Checks::starts_right))]
 fn starts_right(b: &[u32]) -> bool
     requires { Walkable b.now }
     ensures { result ≡ starts_right b.now }
 {
     let head = words::head_word(b, 1);
-    if head == 0 {
-        return false;
-    }
-    words::key_same(words::key_of(b, head), node_key(0, 0))
+    head != 0 && words::key_same(words::key_of(b, head), node_key(0, 0))
 }
 
 // The walk of the free chain, at its head.
@@ -133,25 +80,23 @@ fn free_start(b: &[u32], c: usize) -> Walk
 }
 
 // May the walk meet a record, with so many to go.
+#[tactic(auto, unfolding(crate::specs::Checks::may_meet))]
 fn may_meet(c: usize, left: usize, at: usize) -> bool
     ensures { result ≡ may_meet c left at }
 {
-    if at > c {
-        return false;
-    }
-    left != 0
+    at <= c && left != 0
 }
 
 // Walks the used chain over at most C records, and the free chain beside it; gives up where its keys do not ascend from (0,0,0,0), a store may not hold one, or a next is above C.
 // It marks the tuples that others may name, but the first, and keeps the records whose second ends the marks do not show.
-pub fn walk_used(b: &[u32], marks: &mut [u32], list: &mut [u16]) -> Used
+pub fn walk_used(b: &[u32], marks: &mut [u32], list: &mut [u16]) -> Option<Used>
     requires { Walkable b.now × Marks b.now marks.old × (length list.old ≡ kept_count) }
-    ensures answer { walked_of result ≡ used_walk b.now }
-    ensures lent { result.ended ≡ true → UsedFound b.now marks.new list.new result.found result.free }
+    ensures answer { option_map (λ u. u.walked) result ≡ used_walk b.now }
+    ensures lent { IfSome result (λ u. UsedFound b.now marks.new list.new u.found u.free) }
     ensures run { record { used = result; marks = marks.new; list = list.new } ≡ used_run_of b.now marks.old list.old }
 {
     if !starts_right(b) {
-        return stopped();
+        return None;
     }
     let c = capacity(b);
     let mut free = free_start(b, c);
@@ -164,13 +109,13 @@ pub fn walk_used(b: &[u32], marks: &mut [u32], list: &mut [u16]) -> Used
     let mut at = chain::next_of(b, last);
     while at != 0 {
         if !may_meet(c, left, at) {
-            return stopped();
+            return None;
         }
         let k = words::key_of(b, at);
         let after = chain::next_of(b, at);
         let key = words::key_of(b, last);
         if !key_follows(key, k) {
-            return stopped();
+            return None;
         }
         found = take(b, marks, list, found, key, k, at);
         free = step(b, c, free);
@@ -178,5 +123,12 @@ pub fn walk_used(b: &[u32], marks: &mut [u32], list: &mut [u16]) -> Used
         at = after;
         left -= 1;
     }
-    ended(c - left, last, found, free)
+    Some(Used {
+        walked: Walked {
+            count: c - left,
+            last,
+        },
+        found,
+        free,
+    })
 }

@@ -9,7 +9,6 @@ ghost use Rattle.model.specs.Rules.{sound};
 ghost use Rattle.presence.specs.Presence.{Walkable};
 ghost use Rattle.verify.specs.Checks.{links_right};
 
-use chains::Walked;
 use presence::named_right;
 
 // Are the chains and the tuples of the used chain right; marks and list are local to one check.
@@ -19,29 +18,15 @@ fn records_right(b: &[u32]) -> bool
 {
     let mut marks: [u32; 4096] = [0; 4096];
     let mut list: [u16; 2048] = [0; 2048];
-    let used = keys::walk_used(b, &mut marks, &mut list);
-    if !used.ended {
+    let Some(used) = keys::walk_used(b, &mut marks, &mut list) else {
         return false;
-    }
-    let walked = Walked {
-        ended: used.ended,
-        count: used.count,
-        last: used.last,
     };
-    let free = used.free;
-    if !chains::chains_right(b, walked, free) {
-        return false;
-    }
-    let found = used.found;
-    named_right(b, &marks, &list, found)
+    chains::chains_right(b, used.walked, used.free) && named_right(b, &marks, &list, used.found)
 }
 
 // Is the buffer, of any length and with any words, a store.
 pub fn is_store(buffer: &[u32]) -> bool
     ensures { result ≡ is_store buffer.now }
 {
-    if !chains::heads_fit(buffer) {
-        return false;
-    }
-    records_right(buffer)
+    chains::heads_fit(buffer) && records_right(buffer)
 }

@@ -1,8 +1,5 @@
-use Rattle.presence.proofs.Shows.{Ending}
+use Rattle.presence.proofs.Shows.{EndsThere}
 use Rattle.presence.proofs.ends.all_ends.Given as goal
 
-abbrev pub invariant-loop-j : goal.invariant-loop-j
-invariant-loop-j l = Ending l.b l.list l.kept l.j
-
-abbrev pub decreases-loop-j : goal.decreases-loop-j
-decreases-loop-j l = l.j
+abbrev pub invariant-loop-i : goal.invariant-loop-i
+invariant-loop-i l = EndsThere l.b l.list l.i-index

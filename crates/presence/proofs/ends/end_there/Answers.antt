@@ -16,5 +16,5 @@ node_there-requires c =
     let good : good_key c.key_of-k.result ≡ true = ap good_key c.key_of-k.ensures ∙ c.requires.2.2 in
     (c.requires.0, c.requires.1, good_s _ good, good_m _ good, good_end_some _ good c.if-k-eq0.false)
 
-pub returns : goal.returns
-returns c = search there_edge
+pub returns-else-k-eq0 : goal.returns-else-k-eq0
+returns-else-k-eq0 c = search there_edge

@@ -1,21 +1,16 @@
-use Rattle.presence.specs.Presence.{node_shown}
-use Rattle.presence.proofs.Hints.{node_slot_below, look_start, look_found, look_none, look_next, look_end, is_mark, other_mark}
+use Prim.Native.Nat.{ℕ}
+use mathlib.Core.Path.{ap, ◌∙◌}
+use lib.Dec.{eqb}
+use Rattle.std.proofs.Common.{rules}
+use Rattle.presence.specs.Presence.{mark_tries, node_mark, look_from, node_shown}
+use Rattle.presence.proofs.Hints.{node_slot_fits}
 use Rattle.presence.proofs.marks.node_shown.Goals as goal
 
-pub loop-left-init : goal.loop-left-init
-loop-left-init c = look_start _ _ _ _ c.node_slot-at.ensures (node_slot_below _ _)
-
-pub returns-then-w-mark : goal.returns-then-w-mark
-unfolding node_shown
-returns-then-w-mark c = search (look_found, is_mark)
-
-pub returns-then-w-eq0 : goal.returns-then-w-eq0
-unfolding node_shown
-returns-then-w-eq0 c = search (look_none, other_mark)
-
-pub loop-left-preserved : goal.loop-left-preserved
-loop-left-preserved c = search (look_next, other_mark)
+pub shown-requires : goal.shown-requires
+shown-requires c = (c.requires.0, search node_slot_fits, λ j. tt)
 
 pub returns : goal.returns
 unfolding node_shown
-returns c = search look_end
+returns c =
+    c.shown.ensures (λ (w : ℕ). eqb w (node_mark c.args.s c.args.n)) (λ j r h. search rules)
+    ∙ ap (look_from (λ (w : ℕ). eqb w (node_mark c.args.s c.args.n)) mark_tries c.args.marks.now) c.node_slot.ensures

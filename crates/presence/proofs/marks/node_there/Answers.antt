@@ -8,5 +8,5 @@ returns-then-node_shown c = search shown_node
 pub holds_from-requires : goal.holds_from-requires
 holds_from-requires c = search from_head
 
-pub returns : goal.returns
-returns c = search head_says
+pub returns-else-node_shown : goal.returns-else-node_shown
+returns-else-node_shown c = search head_says

@@ -1,9 +1,8 @@
 use mathlib.Core.Path.{◌≡◌}
+use Prim.Native.Nat.{◌-◌}
 use Rattle.verify.specs.Checks.{along_run}
 use Rattle.verify.proofs.chains.along_run.Given as goal
 
-abbrev pub invariant-loop-left : goal.invariant-loop-left
-invariant-loop-left l = along_run l.b l.left l.at l.last ≡ along_run l.b l.initial.left l.initial.at l.initial.last
-
-abbrev pub decreases-loop-left : goal.decreases-loop-left
-decreases-loop-left l = l.left
+abbrev pub invariant-loop-passed : goal.invariant-loop-passed
+invariant-loop-passed l =
+    along_run l.b (l.w.left - l.passed) l.at l.last ≡ along_run l.b l.w.left l.w.at l.w.last

@@ -1,4 +1,4 @@
-use mathlib.Core.Bool.{true}
+use Rattle.std.specs.Prelude.{Some}
 use mathlib.Core.Path.{ap, ◌∙◌}
 use Prim.Native.Nat.{ℕ, ◌-◌, ◌≤◌}
 use native.Mathlib.Omega.{arith}
@@ -9,11 +9,11 @@ use Rattle.verify.proofs.chains.finish.Goals as goal
 
 pub returns-then-at-c : goal.returns-then-at-c
 returns-then-at-c c =
-    c.given_up.ensures ∙ walked_far _ c.loop-at.left c.loop-at.at c.loop-at.last (omega (arith, c.loop-at.invariant.0, c.if-at-c.true)) ∙ c.loop-at.invariant.2
+    walked_far _ c.loop-at.left c.loop-at.at c.loop-at.last (omega (arith, c.loop-at.invariant.0, c.if-at-c.true)) ∙ c.loop-at.invariant.2
 
 pub returns-then-left-eq0 : goal.returns-then-left-eq0
 returns-then-left-eq0 c =
-    c.given_up-then-left-eq0.ensures ∙ walked_long _ c.loop-at.left c.loop-at.at c.loop-at.last c.loop-at-test.true c.if-left-eq0.true ∙ c.loop-at.invariant.2
+    walked_long _ c.loop-at.left c.loop-at.at c.loop-at.last c.loop-at-test.true c.if-left-eq0.true ∙ c.loop-at.invariant.2
 
 pub next_of-requires : goal.next_of-requires
 next_of-requires c =
@@ -38,6 +38,6 @@ loop-at-preserved c =
 pub returns : goal.returns
 returns c =
     let I = c.loop-at.invariant in
-    ap (λ (n : ℕ). record { ended = true; count = n - c.loop-at.left; last = c.loop-at.last }) I.0
+    ap (λ (n : ℕ). Some (record { count = n - c.loop-at.left; last = c.loop-at.last })) I.0
     ∙ walked_end _ c.loop-at.left c.loop-at.at c.loop-at.last c.loop-at-test.false
     ∙ I.2

@@ -1,10 +1,8 @@
 use native.Mathlib.Omega.{arith}
 use Prim.Native.Nat.{ℕ, ◌-◌}
-use mathlib.Core.Bool.{true, false≢true}
 use mathlib.Core.Logic.{◌≢◌}
-use mathlib.Core.Path.{◌≡◌, sym, ap, ◌∙◌, subst}
-use Rattle.verify.specs.Checks.{walked_of, UsedFound, stopped_used}
-use Rattle.verify.specs.declared.keys.Used.{Used}
+use mathlib.Core.Path.{refl, sym, ap, ◌∙◌}
+use Rattle.std.specs.Prelude.{Some}
 use Rattle.layouts.proofs.Sizes.{some_record}
 use Rattle.presence.proofs.Rest.{record_inside}
 use Rattle.verify.proofs.OneWalk.{head_some, not_started, using_start, using_far, using_high, using_left, using_low, using_room, using_enough}
@@ -12,19 +10,13 @@ use Rattle.verify.proofs.OneWalk.{using_no, using_good, using_next, using_end, u
 use Rattle.verify.proofs.UsedRuns.{run_unstarted, run_started, run_end, run_far, run_no, run_on}
 use Rattle.verify.proofs.keys.walk_used.Goals as goal
 
--- a walk that was given up lends nothing
-never_lent : {P : Type 0} (u : Used) → u ≡ stopped_used → u.ended ≡ true → P
-unfolding stopped_used
-never_lent u e y = absurd (false≢true (sym (ap (λ (x : Used). x.ended) e) ∙ y))
-
 pub returns-then-not-starts_right : goal.returns-then-not-starts_right
 returns-then-not-starts_right c =
-    let given_up = c.stopped.ensures in
     let no = c.if-not-starts_right.true in
     record {
-      answer = ap walked_of given_up ∙ not_started c.args.b.now c.requires.0 _ c.starts_right.ensures no;
-      lent = never_lent _ given_up;
-      run = run_unstarted c.args.b.now _ _ _ c.starts_right.ensures no _ given_up;
+      answer = not_started c.args.b.now c.requires.0 _ c.starts_right.ensures no;
+      lent = tt;
+      run = run_unstarted c.args.b.now _ _ _ c.starts_right.ensures no _ refl;
     }
 
 pub overflow_sub-left : goal.overflow_sub-left
@@ -45,11 +37,10 @@ returns-then-not-may_meet c =
     let some = c.loop-at-test.true in
     let met = c.may_meet.ensures in
     let no = c.if-not-may_meet.true in
-    let given_up = c.stopped-then-not-may_meet.ensures in
     record {
-      answer = ap walked_of given_up ∙ using_far _ c.requires.0 _ _ _ _ _ _ _ I.1 some _ I.0 _ met no;
-      lent = never_lent _ given_up;
-      run = run_far _ _ _ _ _ _ _ _ some _ I.0 _ met no _ given_up ∙ I.2;
+      answer = using_far _ c.requires.0 _ _ _ _ _ _ _ I.1 some _ I.0 _ met no;
+      lent = tt;
+      run = run_far _ _ _ _ _ _ _ _ some _ I.0 _ met no _ refl ∙ I.2;
     }
 
 pub key_of-k-requires : goal.key_of-k-requires
@@ -83,11 +74,10 @@ returns-then-not-key_follows c =
     let key = c.key_of-key.ensures in
     let told = c.key_follows.ensures in
     let no = c.if-not-key_follows.true in
-    let given_up = c.stopped-then-not-key_follows.ensures in
     record {
-      answer = ap walked_of given_up ∙ using_no _ c.requires.0 _ _ _ _ _ _ _ I.1 some _ I.0 _ met yes _ k _ key _ told no;
-      lent = never_lent _ given_up;
-      run = run_no _ _ _ _ _ _ _ _ some _ I.0 _ met yes _ k _ key _ told no _ given_up ∙ I.2;
+      answer = using_no _ c.requires.0 _ _ _ _ _ _ _ I.1 some _ I.0 _ met yes _ k _ key _ told no;
+      lent = tt;
+      run = run_no _ _ _ _ _ _ _ _ some _ I.0 _ met yes _ k _ key _ told no _ refl ∙ I.2;
     }
 
 pub take-found-requires : goal.take-found-requires
@@ -148,13 +138,9 @@ pub returns : goal.returns
 returns c =
     let I = c.loop-at.invariant in
     let none = c.loop-at-test.false in
-    let ended = c.ended.ensures in
     record {
       answer =
-          ap walked_of ended ∙ ap (λ (n : ℕ). record { ended = true; count = n - c.loop-at.left; last = c.loop-at.last }) I.0
-          ∙ using_end _ c.requires.0 _ _ _ _ _ _ _ I.1 none;
-      lent = λ y.
-          subst (λ (u : Used). UsedFound c.args.b.now c.loop-at.marks c.loop-at.list u.found u.free) (sym ended)
-          (using_found _ c.requires.0 _ _ _ _ _ _ _ I.1 none);
-      run = run_end _ _ _ _ _ _ _ _ none _ I.0 _ ended ∙ I.2;
+          ap (λ (n : ℕ). Some (record { count = n - c.loop-at.left; last = c.loop-at.last })) I.0 ∙ using_end _ c.requires.0 _ _ _ _ _ _ _ I.1 none;
+      lent = using_found _ c.requires.0 _ _ _ _ _ _ _ I.1 none;
+      run = run_end _ _ _ _ _ _ _ _ none _ I.0 _ refl ∙ I.2;
     }
