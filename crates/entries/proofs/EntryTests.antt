@@ -18,8 +18,7 @@ use Rattle.entries.specs.declared.Part.TheVariants.{Both, Edge, Node}
 use Rattle.entries.specs.declared.PairQuery.{PairQuery}
 use Rattle.entries.specs.declared.Query.{Query}
 use Rattle.entries.specs.declared.Query.TheVariants.{Pairs, Nodes, Spaces, SpacesOf}
-use Rattle.entries.specs.declared.Entry.{Entry}
-use Rattle.entries.specs.Cursors.{list_of}
+use Rattle.entries.specs.Cursors.{MaybeEntry, list_of}
 use Rattle.entries.specs.Queries.{part_of, chosen, first_pairs, first_at, ends_at}
 
 -- ---- a pair that is asked for or not
@@ -80,14 +79,14 @@ module _ (q : PairQuery) (n : ℕ) (k : Key) where
         sym (ap (λ (ps : List Pair). chosen q ps)
         (only_no (is_edge k && eqb k.m n) (pair k.g k.n) (ap₂ (λ (t u : Bool). not t && u) (ne_eqb k.g 0 g) (ne_eqb k.m n d))))
 
-    pub out_given : k.n ≡ n → (r : Entry) → list_of r ≡ chosen q (pair k.g k.m ∷ []) → list_of r ≡ chosen q (out_pair n k)
+    pub out_given : k.n ≡ n → (r : MaybeEntry) → list_of r ≡ chosen q (pair k.g k.m ∷ []) → list_of r ≡ chosen q (out_pair n k)
     unfolding out_pair
     out_given e r er =
         er
         ∙ sym (ap (λ (ps : List Pair). chosen q ps)
         (only_yes (is_edge k && eqb k.n n) (pair k.g k.m) (ap₂ (λ (t u : Bool). not t && u) (ne_eqb k.g 0 g) (eq-eqb k.n n e))))
 
-    pub in_given : k.m ≡ n → (r : Entry) → list_of r ≡ chosen q (pair k.g k.n ∷ []) → list_of r ≡ chosen q (in_pair n k)
+    pub in_given : k.m ≡ n → (r : MaybeEntry) → list_of r ≡ chosen q (pair k.g k.n ∷ []) → list_of r ≡ chosen q (in_pair n k)
     unfolding in_pair
     in_given e r er =
         er
@@ -110,7 +109,7 @@ module _ (q : PairQuery) (k : Key) where
   unfolding first_at
   first_elsewhere d = elsewhere (first_pairs q.d q.n k) d
 
-  module _ (e : k.s ≡ q.s) (r : Entry) where
+  module _ (e : k.s ≡ q.s) (r : MaybeEntry) where
     pub first_out : q.d ≡ Outpointing → list_of r ≡ chosen q (out_pair q.n k) → list_of r ≡ first_at (Pairs q) k
     unfolding first_at first_pairs
     first_out d er = here (out_pair q.n k) (first_pairs q.d q.n k) e (ap (λ (x : Direction). first_pairs x q.n k) d) (list_of r) er
@@ -167,7 +166,7 @@ module _ (k : Key) where
 
 -- ---- the cases of a query
 
-module _ (q : Query) (k : Key) (r : Entry) where
+module _ (q : Query) (k : Key) (r : MaybeEntry) where
   pub first_case : (x : Query) → q ≡ x → list_of r ≡ first_at x k → list_of r ≡ first_at q k
   first_case x e er = er ∙ ap (λ (y : Query). first_at y k) (sym e)
 

@@ -5,51 +5,16 @@ ghost use Rattle.std.proofs.Math.Option.{none};
 ghost use Rattle.chain.specs.Links.{both_ways, Linked, Hint};
 ghost use Rattle.entries.specs.declared.Query.TheVariants.{Pairs};
 ghost use Rattle.entries.specs.Queries.{start_in};
-ghost use Rattle.entries.specs.Cursors.{lesser, entry_of, same_entry, turned, one_way, out_query, in_query, SideBehind, CursorBehind, Stands, StandsBefore, cursor_entry};
+ghost use Rattle.entries.specs.Cursors.{entry_of, turned, one_way, out_query, in_query, SideBehind, CursorBehind, Stands, StandsBefore, cursor_entry};
 
 use crate::{Cursor, Entry, PairQuery, Query, Side, Stream};
 use model::Direction;
 
-// The lesser of two entries, where there are any.
-fn lesser_entry(a: Entry, e: Entry) -> Entry
-    ensures { entry_of result ≡ lesser (entry_of a) (entry_of e) }
-{
-    if !a.there {
-        return e;
-    }
-    if crate::walks::is_before(a.edge, a.node, e) {
-        return a;
-    }
-    e
-}
-
 // The entry that a cursor stands before; none at the end.
-pub fn entry_of(c: Cursor) -> Entry
+pub fn entry_of(c: Cursor) -> Option<Entry>
     ensures { entry_of result ≡ cursor_entry c }
 {
-    let out = c.out;
-    let into = c.into;
-    let out_stream = out.stream;
-    let into_stream = into.stream;
-    let first = out_stream.entry;
-    let second = into_stream.entry;
-    lesser_entry(first, second)
-}
-
-// Are two entries the same: both none, or the same pair.
-fn same_entry(a: Entry, e: Entry) -> bool
-    ensures { result ≡ same_entry (entry_of a) (entry_of e) }
-{
-    if !a.there {
-        return !e.there;
-    }
-    if !e.there {
-        return false;
-    }
-    if a.edge != e.edge {
-        return false;
-    }
-    a.node == e.node
+    crate::walks::lesser_entry(c.out.stream.entry, c.into.stream.entry)
 }
 
 // The streams of a query.
@@ -103,16 +68,8 @@ fn start_side(b: &[u32], hint: usize, q: Query) -> Side
     let start = crate::first_record(b, hint, q);
     let stream = Stream {
         at: start,
-        entry: Entry {
-            there: false,
-            edge: 0,
-            node: 0,
-        },
-        met: Entry {
-            there: false,
-            edge: 0,
-            node: 0,
-        },
+        entry: None,
+        met: None,
     };
     Side { start, stream }
 }
@@ -133,16 +90,15 @@ pub fn start(b: &[u32], hint: usize, q: Query) -> Cursor
 }
 
 // A side of adjacent pairs, before the least entry behind the one that was given: it goes on where that was its own.
-fn move_side(b: &[u32], q: PairQuery, s: Side, given: Entry) -> Side
+fn move_side(b: &[u32], q: PairQuery, s: Side, given: Option<Entry>) -> Side
     requires { SideBehind b.now (Pairs q) (entry_of given) s × (one_way (Pairs q) ≡ true) }
     ensures { Stands b.now (Pairs q) (entry_of given) result.stream × (result.start ≡ start_in b.now (Pairs q)) }
 {
-    let before = s.stream;
-    let own = before.entry;
-    if !same_entry(own, given) {
+    let own = s.stream.entry;
+    if own != given {
         return s;
     }
-    let stream = crate::walks::pairs_behind(b, q, s.start, before);
+    let stream = crate::walks::pairs_behind(b, q, s.start, s.stream);
     Side {
         start: s.start,
         stream,
@@ -150,7 +106,7 @@ fn move_side(b: &[u32], q: PairQuery, s: Side, given: Entry) -> Side
 }
 
 // The cursor of adjacent pairs, before the least one behind the one that it gave.
-fn move_both(b: &[u32], p: PairQuery, c: Cursor, given: Entry) -> Cursor
+fn move_both(b: &[u32], p: PairQuery, c: Cursor, given: Option<Entry>) -> Cursor
     requires { CursorBehind b.now (Pairs p) (entry_of given) c × (both_ways p.d ≡ true) }
     ensures { StandsBefore b.now (Pairs p) (entry_of given) result }
 {
@@ -162,7 +118,7 @@ fn move_both(b: &[u32], p: PairQuery, c: Cursor, given: Entry) -> Cursor
 }
 
 // The cursor of pairs, before the least one behind the one that it gave.
-fn advance_pairs(b: &[u32], p: PairQuery, c: Cursor, given: Entry) -> Cursor
+fn advance_pairs(b: &[u32], p: PairQuery, c: Cursor, given: Option<Entry>) -> Cursor
     requires { CursorBehind b.now (Pairs p) (entry_of given) c }
     ensures { StandsBefore b.now (Pairs p) (entry_of given) result }
 {
@@ -182,7 +138,7 @@ fn advance_pairs(b: &[u32], p: PairQuery, c: Cursor, given: Entry) -> Cursor
 }
 
 // The cursor before the least entry behind the one that it gave.
-pub fn advance(b: &[u32], q: Query, c: Cursor, given: Entry) -> Cursor
+pub fn advance(b: &[u32], q: Query, c: Cursor, given: Option<Entry>) -> Cursor
     requires { CursorBehind b.now q (entry_of given) c }
     ensures { StandsBefore b.now q (entry_of given) result }
 {

@@ -46,10 +46,9 @@ pub enum Query {
     SpacesOf(u32),
 }
 
-// An entry of a list, by its edge and its node, where it is there; else there is none.
-#[derive(Clone, Copy)]
+// An entry of a list, by its edge and its node. Entries have the order that pairs have in the model: by the edge, then by the node.
+#[derive(Clone, Copy, PartialEq, Eq, PartialOrd, Ord)]
 pub struct Entry {
-    pub there: bool,
     pub edge: u32,
     pub node: u32,
 }
@@ -59,8 +58,8 @@ pub struct Entry {
 #[derive(Clone, Copy)]
 pub struct Stream {
     pub at: usize,
-    pub entry: Entry,
-    pub met: Entry,
+    pub entry: Option<Entry>,
+    pub met: Option<Entry>,
 }
 
 // One side of a cursor: where its walks begin, and its stream.
@@ -81,7 +80,7 @@ pub struct Cursor {
 #[derive(Clone, Copy)]
 pub struct Progress {
     pub cursor: Cursor,
-    pub given: Entry,
+    pub given: Option<Entry>,
     pub done: usize,
 }
 
@@ -106,88 +105,51 @@ fn is_node(k: Key) -> bool
 }
 
 // The entry for a pair; none where it is not asked for.
-fn chosen_entry(q: PairQuery, edge: u32, node: u32) -> Entry
+fn chosen_entry(q: PairQuery, edge: u32, node: u32) -> Option<Entry>
     ensures { list_of result ≡ (chosen q (pair edge node ∷ [])) }
 {
     if !taken::passes_pair(q.g, q.m, edge, node) {
-        return Entry {
-            there: false,
-            edge: 0,
-            node: 0,
-        };
+        return None;
     }
-    let part = q.part;
-    match part {
-        Part::Both => Entry {
-            there: true,
-            edge: edge,
-            node: node,
-        },
-        Part::Edge => Entry {
-            there: true,
-            edge: edge,
-            node: 0,
-        },
-        Part::Node => Entry {
-            there: true,
-            edge: 0,
-            node: node,
-        },
+    match q.part {
+        Part::Both => Some(Entry { edge, node }),
+        Part::Edge => Some(Entry { edge, node: 0 }),
+        Part::Node => Some(Entry { edge: 0, node }),
     }
 }
 
 // The entry that a key gives as an edge from n.
-fn out_entry(q: PairQuery, k: Key) -> Entry
+fn out_entry(q: PairQuery, k: Key) -> Option<Entry>
     ensures { list_of result ≡ (chosen q (out_pair q.n k)) }
 {
     if k.g == 0 {
-        return Entry {
-            there: false,
-            edge: 0,
-            node: 0,
-        };
+        return None;
     }
     if k.n != q.n {
-        return Entry {
-            there: false,
-            edge: 0,
-            node: 0,
-        };
+        return None;
     }
     chosen_entry(q, k.g, k.m)
 }
 
 // The entry that a key gives as an edge to n.
-fn in_entry(q: PairQuery, k: Key) -> Entry
+fn in_entry(q: PairQuery, k: Key) -> Option<Entry>
     ensures { list_of result ≡ (chosen q (in_pair q.n k)) }
 {
     if k.g == 0 {
-        return Entry {
-            there: false,
-            edge: 0,
-            node: 0,
-        };
+        return None;
     }
     if k.m != q.n {
-        return Entry {
-            there: false,
-            edge: 0,
-            node: 0,
-        };
+        return None;
     }
     chosen_entry(q, k.g, k.n)
 }
 
 // The first entry that a key gives.
-fn first_pair_entry(q: PairQuery, k: Key) -> Entry
+fn first_pair_entry(q: PairQuery, k: Key) -> Option<Entry>
     ensures { list_of result ≡ (first_at (Query.Pairs q) k) }
 {
     if k.s != q.s {
-        return Entry {
-            there: false,
-            edge: 0,
-            node: 0,
-        };
+        return None;
     }
     let d = q.d;
     match d {
@@ -199,15 +161,11 @@ fn first_pair_entry(q: PairQuery, k: Key) -> Entry
 
 // The first entry that a key gives. Most keys of a walk do not have the node at an end.
 // Query and key are built anew for the call, so that a walk keeps its own in registers.
-fn touching_entry(q: PairQuery, k: Key) -> Entry
+fn touching_entry(q: PairQuery, k: Key) -> Option<Entry>
     ensures { list_of result ≡ (first_at (Query.Pairs q) k) }
 {
     if !touches(q.n, k) {
-        return Entry {
-            there: false,
-            edge: 0,
-            node: 0,
-        };
+        return None;
     }
     let d = q.d;
     let part = q.part;
@@ -230,84 +188,48 @@ fn touching_entry(q: PairQuery, k: Key) -> Entry
 }
 
 // The entry of a node of space s.
-fn node_entry(s: u32, k: Key) -> Entry
+fn node_entry(s: u32, k: Key) -> Option<Entry>
     ensures { list_of result ≡ (first_at (Query.Nodes s) k) }
 {
     if !is_node(k) {
-        return Entry {
-            there: false,
-            edge: 0,
-            node: 0,
-        };
+        return None;
     }
     if k.s != s {
-        return Entry {
-            there: false,
-            edge: 0,
-            node: 0,
-        };
+        return None;
     }
-    Entry {
-        there: true,
-        edge: 0,
-        node: k.n,
-    }
+    Some(Entry { edge: 0, node: k.n })
 }
 
 // The entry of a space.
-fn space_entry(k: Key) -> Entry
+fn space_entry(k: Key) -> Option<Entry>
     ensures { list_of result ≡ (first_at Query.Spaces k) }
 {
     if k.n != 0 {
-        return Entry {
-            there: false,
-            edge: 0,
-            node: 0,
-        };
+        return None;
     }
-    Entry {
-        there: true,
-        edge: 0,
-        node: k.s,
-    }
+    Some(Entry { edge: 0, node: k.s })
 }
 
 // The entry of a space that holds node n.
-fn holder_entry(n: u32, k: Key) -> Entry
+fn holder_entry(n: u32, k: Key) -> Option<Entry>
     ensures { list_of result ≡ (first_at (Query.SpacesOf n) k) }
 {
     if !is_node(k) {
-        return Entry {
-            there: false,
-            edge: 0,
-            node: 0,
-        };
+        return None;
     }
     if k.n != n {
-        return Entry {
-            there: false,
-            edge: 0,
-            node: 0,
-        };
+        return None;
     }
-    Entry {
-        there: true,
-        edge: 0,
-        node: k.s,
-    }
+    Some(Entry { edge: 0, node: k.s })
 }
 
 // The entry of a name that is asked for.
-fn name_entry(q: Query, k: Key) -> Entry
+fn name_entry(q: Query, k: Key) -> Option<Entry>
     requires { asks_names q ≡ true }
     ensures { list_of result ≡ first_at q k }
 {
     match q {
-        Query::Pairs(_) => Entry {
-            there: false,
-            edge: 0,
-            node: 0,
-        },
+        Query::Pairs(_) => None,
         Query::Nodes(s) => node_entry(s, k),
         Query::Spaces => space_entry(k),
         Query::SpacesOf(n) => holder_entry(n, k),
