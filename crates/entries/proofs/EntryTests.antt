@@ -1,6 +1,7 @@
 -- The entry that a key gives, one answer at a time.
 use mathlib.Core.Bool.{Bool, true, false, cond, not, ◌&&◌, ◌||◌}
 use mathlib.Core.List.{List, [], ◌∷◌}
+use mathlib.Core.Logic.{◌⊎◌, inl, inr}
 use mathlib.Core.Path.{◌≡◌, refl, sym, ap, ap₂, ◌∙◌}
 use Prim.Native.Nat.{ℕ}
 use lib.Dec.{eqb}
@@ -19,7 +20,7 @@ use Rattle.entries.specs.declared.PairQuery.{PairQuery}
 use Rattle.entries.specs.declared.Query.{Query}
 use Rattle.entries.specs.declared.Query.TheVariants.{Pairs, Nodes, Spaces, SpacesOf}
 use Rattle.entries.specs.Cursors.{MaybeEntry, list_of}
-use Rattle.entries.specs.Queries.{part_of, chosen, first_pairs, first_at, ends_at}
+use Rattle.entries.specs.Queries.{part_of, chosen, end_pair, first_pairs, first_at, ends_at}
 
 -- ---- a pair that is asked for or not
 
@@ -55,43 +56,26 @@ only_no b p e = ap (λ (t : Bool). only_if t p) e
 only_yes : (b : Bool) (p : Pair) → b ≡ true → only_if b p ≡ p ∷ []
 only_yes b p e = ap (λ (t : Bool). only_if t p) e
 
-module _ (q : PairQuery) (n : ℕ) (k : Key) where
-  pub out_no_edge : k.g ≡ 0 → [] ≡ chosen q (out_pair n k)
-  unfolding out_pair chosen
-  out_no_edge e =
-      sym (ap (λ (ps : List Pair). chosen q ps) (only_no (is_edge k && eqb k.n n) (pair k.g k.m) (ap (λ (t : Bool). not t && eqb k.n n) (eq-eqb k.g 0 e))))
+module _ (q : PairQuery) (edge first second : ℕ) where
+  pub end_none : edge ≡ 0 → [] ≡ chosen q (end_pair q.n edge first second)
+  unfolding end_pair chosen
+  end_none e =
+      sym (ap (λ (ps : List Pair). chosen q ps)
+      (only_no (not (eqb edge 0) && eqb first q.n) (pair edge second) (ap (λ (t : Bool). not t && eqb first q.n) (eq-eqb edge 0 e))))
 
-  pub in_no_edge : k.g ≡ 0 → [] ≡ chosen q (in_pair n k)
-  unfolding in_pair chosen
-  in_no_edge e =
-      sym (ap (λ (ps : List Pair). chosen q ps) (only_no (is_edge k && eqb k.m n) (pair k.g k.n) (ap (λ (t : Bool). not t && eqb k.m n) (eq-eqb k.g 0 e))))
-
-  module _ (g : k.g ≡ 0 → ⊥) where
-    pub out_other : (k.n ≡ n → ⊥) → [] ≡ chosen q (out_pair n k)
-    unfolding out_pair chosen
-    out_other d =
+  module _ (g : edge ≡ 0 → ⊥) where
+    pub end_other : (first ≡ q.n → ⊥) → [] ≡ chosen q (end_pair q.n edge first second)
+    unfolding end_pair chosen
+    end_other d =
         sym (ap (λ (ps : List Pair). chosen q ps)
-        (only_no (is_edge k && eqb k.n n) (pair k.g k.m) (ap₂ (λ (t u : Bool). not t && u) (ne_eqb k.g 0 g) (ne_eqb k.n n d))))
+        (only_no (not (eqb edge 0) && eqb first q.n) (pair edge second) (ap₂ (λ (t u : Bool). not t && u) (ne_eqb edge 0 g) (ne_eqb first q.n d))))
 
-    pub in_other : (k.m ≡ n → ⊥) → [] ≡ chosen q (in_pair n k)
-    unfolding in_pair chosen
-    in_other d =
-        sym (ap (λ (ps : List Pair). chosen q ps)
-        (only_no (is_edge k && eqb k.m n) (pair k.g k.n) (ap₂ (λ (t u : Bool). not t && u) (ne_eqb k.g 0 g) (ne_eqb k.m n d))))
-
-    pub out_given : k.n ≡ n → (r : MaybeEntry) → list_of r ≡ chosen q (pair k.g k.m ∷ []) → list_of r ≡ chosen q (out_pair n k)
-    unfolding out_pair
-    out_given e r er =
+    pub end_given : first ≡ q.n → (r : MaybeEntry) → list_of r ≡ chosen q (pair edge second ∷ []) → list_of r ≡ chosen q (end_pair q.n edge first second)
+    unfolding end_pair
+    end_given e r er =
         er
         ∙ sym (ap (λ (ps : List Pair). chosen q ps)
-        (only_yes (is_edge k && eqb k.n n) (pair k.g k.m) (ap₂ (λ (t u : Bool). not t && u) (ne_eqb k.g 0 g) (eq-eqb k.n n e))))
-
-    pub in_given : k.m ≡ n → (r : MaybeEntry) → list_of r ≡ chosen q (pair k.g k.n ∷ []) → list_of r ≡ chosen q (in_pair n k)
-    unfolding in_pair
-    in_given e r er =
-        er
-        ∙ sym (ap (λ (ps : List Pair). chosen q ps)
-        (only_yes (is_edge k && eqb k.m n) (pair k.g k.n) (ap₂ (λ (t u : Bool). not t && u) (ne_eqb k.g 0 g) (eq-eqb k.m n e))))
+        (only_yes (not (eqb edge 0) && eqb first q.n) (pair edge second) (ap₂ (λ (t u : Bool). not t && u) (ne_eqb edge 0 g) (eq-eqb first q.n e))))
 
 -- ---- the directions
 
@@ -110,17 +94,18 @@ module _ (q : PairQuery) (k : Key) where
   first_elsewhere d = elsewhere (first_pairs q.d q.n k) d
 
   module _ (e : k.s ≡ q.s) (r : MaybeEntry) where
-    pub first_out : q.d ≡ Outpointing → list_of r ≡ chosen q (out_pair q.n k) → list_of r ≡ first_at (Pairs q) k
-    unfolding first_at first_pairs
-    first_out d er = here (out_pair q.n k) (first_pairs q.d q.n k) e (ap (λ (x : Direction). first_pairs x q.n k) d) (list_of r) er
+    by_direction : (d : Direction) → q.d ≡ d → list_of r ≡ chosen q (first_pairs d q.n k) → list_of r ≡ first_at (Pairs q) k
+    unfolding first_at
+    by_direction d ed er = here (first_pairs d q.n k) (first_pairs q.d q.n k) e (ap (λ (x : Direction). first_pairs x q.n k) ed) (list_of r) er
 
-    pub first_in : q.d ≡ Inpointing → list_of r ≡ chosen q (in_pair q.n k) → list_of r ≡ first_at (Pairs q) k
-    unfolding first_at first_pairs
-    first_in d er = here (in_pair q.n k) (first_pairs q.d q.n k) e (ap (λ (x : Direction). first_pairs x q.n k) d) (list_of r) er
+    pub first_out : (q.d ≡ Outpointing) ⊎ (q.d ≡ Adjacent) → list_of r ≡ chosen q (end_pair q.n k.g k.n k.m) → list_of r ≡ first_at (Pairs q) k
+    unfolding first_pairs out_pair end_pair
+    first_out (inl d) er = by_direction Outpointing d er
+    first_out (inr d) er = by_direction Adjacent d er
 
-    pub first_both : q.d ≡ Adjacent → list_of r ≡ chosen q (out_pair q.n k) → list_of r ≡ first_at (Pairs q) k
-    unfolding first_at first_pairs
-    first_both d er = here (out_pair q.n k) (first_pairs q.d q.n k) e (ap (λ (x : Direction). first_pairs x q.n k) d) (list_of r) er
+    pub first_in : q.d ≡ Inpointing → list_of r ≡ chosen q (end_pair q.n k.g k.m k.n) → list_of r ≡ first_at (Pairs q) k
+    unfolding first_pairs in_pair end_pair
+    first_in d er = by_direction Inpointing d er
 
 -- ---- nodes and spaces
 

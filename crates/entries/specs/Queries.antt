@@ -30,6 +30,10 @@ chosen q [] = []
 chosen q (p ∷ ps) =
     cond (passes q.g q.m p) (part_of q.part p ∷ chosen q ps) (chosen q ps)
 
+-- the pair that an edge between two ends gives n, where the first end is n; edge 0 is none
+unfoldable pub end_pair : ℕ → ℕ → ℕ → ℕ → List Pair
+end_pair n edge first second = only_if (not (eqb edge 0) && eqb first n) (pair edge second)
+
 -- a key gives node n at most two pairs: the first, and for adjacent pairs a second
 unfoldable pub first_pairs : Direction → ℕ → Key → List Pair
 first_pairs Outpointing n k = out_pair n k

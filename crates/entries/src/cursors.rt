@@ -17,47 +17,33 @@ pub fn entry_of(c: Cursor) -> Option<Entry>
     crate::walks::lesser_entry(c.out.stream.entry, c.into.stream.entry)
 }
 
-// The streams of a query.
+// The same query in another direction.
 fn turned_to(q: PairQuery, d: Direction) -> PairQuery
     ensures { result ≡ turned q d }
 {
-    let part = q.part;
-    PairQuery {
-        d,
-        s: q.s,
-        n: q.n,
-        g: q.g,
-        m: q.m,
-        part,
-    }
+    PairQuery { d, ..q }
 }
 
+// The streams of a query.
 fn out_query(q: Query) -> Query
     ensures { result ≡ out_query q }
 {
-    match q {
-        Query::Pairs(p) => {
-            let d = p.d;
-            if chain::both_ways(d) {
-                return Query::Pairs(turned_to(p, Direction::Outpointing));
-            }
-            q
-        }
-        Query::Nodes(_) => q,
-        Query::Spaces => q,
-        Query::SpacesOf(_) => q,
+    let Query::Pairs(p) = q else {
+        return q;
+    };
+    if chain::both_ways(p.d) {
+        return Query::Pairs(turned_to(p, Direction::Outpointing));
     }
+    q
 }
 
 fn in_query(q: Query) -> Query
     ensures { result ≡ in_query q }
 {
-    match q {
-        Query::Pairs(p) => Query::Pairs(turned_to(p, Direction::Inpointing)),
-        Query::Nodes(_) => q,
-        Query::Spaces => q,
-        Query::SpacesOf(_) => q,
-    }
+    let Query::Pairs(p) = q else {
+        return q;
+    };
+    Query::Pairs(turned_to(p, Direction::Inpointing))
 }
 
 // The side of a query at its start.
@@ -99,10 +85,7 @@ fn move_side(b: &[u32], q: PairQuery, s: Side, given: Option<Entry>) -> Side
         return s;
     }
     let stream = crate::walks::pairs_behind(b, q, s.start, s.stream);
-    Side {
-        start: s.start,
-        stream,
-    }
+    Side { stream, ..s }
 }
 
 // The cursor of adjacent pairs, before the least one behind the one that it gave.
@@ -110,10 +93,8 @@ fn move_both(b: &[u32], p: PairQuery, c: Cursor, given: Option<Entry>) -> Cursor
     requires { CursorBehind b.now (Pairs p) (entry_of given) c × (both_ways p.d ≡ true) }
     ensures { StandsBefore b.now (Pairs p) (entry_of given) result }
 {
-    let first = c.out;
-    let second = c.into;
-    let out = move_side(b, turned_to(p, Direction::Outpointing), first, given);
-    let into = move_side(b, turned_to(p, Direction::Inpointing), second, given);
+    let out = move_side(b, turned_to(p, Direction::Outpointing), c.out, given);
+    let into = move_side(b, turned_to(p, Direction::Inpointing), c.into, given);
     Cursor { out, into }
 }
 
@@ -122,19 +103,12 @@ fn advance_pairs(b: &[u32], p: PairQuery, c: Cursor, given: Option<Entry>) -> Cu
     requires { CursorBehind b.now (Pairs p) (entry_of given) c }
     ensures { StandsBefore b.now (Pairs p) (entry_of given) result }
 {
-    let d = p.d;
-    if chain::both_ways(d) {
+    if chain::both_ways(p.d) {
         return move_both(b, p, c, given);
     }
-    let first = c.out;
-    let second = c.into;
-    let before = first.stream;
-    let stream = crate::walks::pairs_behind(b, p, first.start, before);
-    let out = Side {
-        start: first.start,
-        stream,
-    };
-    Cursor { out, into: second }
+    let stream = crate::walks::pairs_behind(b, p, c.out.start, c.out.stream);
+    let out = Side { stream, ..c.out };
+    Cursor { out, ..c }
 }
 
 // The cursor before the least entry behind the one that it gave.
@@ -143,15 +117,9 @@ pub fn advance(b: &[u32], q: Query, c: Cursor, given: Option<Entry>) -> Cursor
     ensures { StandsBefore b.now q (entry_of given) result }
 {
     let Query::Pairs(p) = q else {
-        let first = c.out;
-        let second = c.into;
-        let before = first.stream;
-        let stream = crate::walks::names_on(b, q, before.at, given);
-        let out = Side {
-            start: first.start,
-            stream,
-        };
-        return Cursor { out, into: second };
+        let stream = crate::walks::names_on(b, q, c.out.stream.at, given);
+        let out = Side { stream, ..c.out };
+        return Cursor { out, ..c };
     };
     advance_pairs(b, p, c, given)
 }

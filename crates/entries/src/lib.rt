@@ -7,11 +7,11 @@ mod walks;
 
 ghost use Rattle.std.specs.Prelude.{[], ◌∷◌, true, ◌≡◌, length, ◌≤◌, leb};
 ghost use Rattle.model.specs.Keys.{is_node};
-ghost use Rattle.model.specs.Pairs.{pair, out_pair, in_pair};
+ghost use Rattle.model.specs.Pairs.{pair};
 ghost use Rattle.layouts.specs.Buffer.{tuples_of};
 ghost use Rattle.chain.specs.Links.{Linked, Hint};
 ghost use Rattle.entries.specs.Cursors.{asks_names, list_of};
-ghost use Rattle.entries.specs.Queries.{chosen, first_at, queried};
+ghost use Rattle.entries.specs.Queries.{chosen, end_pair, first_at, queried};
 ghost use Rattle.entries.specs.Queries.{Readable, pairs_start, start_key, start_in, outside, ends_at, written_pairs, gives_two};
 
 use model::{Direction, Key};
@@ -88,20 +88,14 @@ pub struct Progress {
 fn touches(n: u32, k: Key) -> bool
     ensures { result ≡ ends_at n k }
 {
-    if k.n == n {
-        return true;
-    }
-    k.m == n
+    k.n == n || k.m == n
 }
 
 // Is the key that of a node.
 fn is_node(k: Key) -> bool
     ensures { result ≡ is_node k }
 {
-    if k.n == 0 {
-        return false;
-    }
-    k.g == 0
+    k.n != 0 && k.g == 0
 }
 
 // The entry for a pair; none where it is not asked for.
@@ -118,30 +112,14 @@ fn chosen_entry(q: PairQuery, edge: u32, node: u32) -> Option<Entry>
     }
 }
 
-// The entry that a key gives as an edge from n.
-fn out_entry(q: PairQuery, k: Key) -> Option<Entry>
-    ensures { list_of result ≡ (chosen q (out_pair q.n k)) }
+// The entry that an edge between two ends gives, where the first is n; edge 0 is none.
+fn end_entry(q: PairQuery, edge: u32, first: u32, second: u32) -> Option<Entry>
+    ensures { list_of result ≡ chosen q (end_pair q.n edge first second) }
 {
-    if k.g == 0 {
+    if edge == 0 || first != q.n {
         return None;
     }
-    if k.n != q.n {
-        return None;
-    }
-    chosen_entry(q, k.g, k.m)
-}
-
-// The entry that a key gives as an edge to n.
-fn in_entry(q: PairQuery, k: Key) -> Option<Entry>
-    ensures { list_of result ≡ (chosen q (in_pair q.n k)) }
-{
-    if k.g == 0 {
-        return None;
-    }
-    if k.m != q.n {
-        return None;
-    }
-    chosen_entry(q, k.g, k.n)
+    chosen_entry(q, edge, second)
 }
 
 // The first entry that a key gives.
@@ -151,11 +129,9 @@ fn first_pair_entry(q: PairQuery, k: Key) -> Option<Entry>
     if k.s != q.s {
         return None;
     }
-    let d = q.d;
-    match d {
-        Direction::Outpointing => out_entry(q, k),
-        Direction::Inpointing => in_entry(q, k),
-        Direction::Adjacent => out_entry(q, k),
+    match q.d {
+        Direction::Outpointing | Direction::Adjacent => end_entry(q, k.g, k.n, k.m),
+        Direction::Inpointing => end_entry(q, k.g, k.m, k.n),
     }
 }
 
@@ -167,24 +143,7 @@ fn touching_entry(q: PairQuery, k: Key) -> Option<Entry>
     if !touches(q.n, k) {
         return None;
     }
-    let d = q.d;
-    let part = q.part;
-    first_pair_entry(
-        PairQuery {
-            d,
-            s: q.s,
-            n: q.n,
-            g: q.g,
-            m: q.m,
-            part,
-        },
-        Key {
-            s: k.s,
-            n: k.n,
-            g: k.g,
-            m: k.m,
-        },
-    )
+    first_pair_entry(PairQuery { ..q }, Key { ..k })
 }
 
 // The entry of a node of space s.
@@ -240,11 +199,9 @@ fn name_entry(q: Query, k: Key) -> Option<Entry>
 fn pairs_start(q: PairQuery) -> Key
     ensures { result ≡ pairs_start q.d q.s q.n }
 {
-    let d = q.d;
-    match d {
+    match q.d {
         Direction::Outpointing => words::node_key(q.s, q.n),
-        Direction::Inpointing => words::node_key(q.s, 0),
-        Direction::Adjacent => words::node_key(q.s, 0),
+        Direction::Inpointing | Direction::Adjacent => words::node_key(q.s, 0),
     }
 }
 
@@ -265,22 +222,16 @@ fn first_record(b: &[u32], hint: usize, q: Query) -> usize
     requires { Linked b.now × Hint b.now hint }
     ensures { result ≡ start_in b.now q }
 {
-    let place = chain::seek(b, hint, start_key(q));
-    place.at
+    chain::seek(b, hint, start_key(q)).at
 }
 
 // Is a key outside the space or the node whose pairs are asked for.
 fn outside_pairs(q: PairQuery, k: Key) -> bool
     ensures { result ≡ outside (Query.Pairs q) k }
 {
-    if k.s != q.s {
-        return true;
-    }
-    let d = q.d;
-    match d {
-        Direction::Outpointing => k.n != q.n,
-        Direction::Inpointing => false,
-        Direction::Adjacent => false,
+    match q.d {
+        Direction::Outpointing => k.s != q.s || k.n != q.n,
+        Direction::Inpointing | Direction::Adjacent => k.s != q.s,
     }
 }
 
@@ -300,10 +251,7 @@ fn gives_two(q: Query) -> bool
     ensures { result ≡ gives_two q }
 {
     match q {
-        Query::Pairs(p) => {
-            let d = p.d;
-            chain::both_ways(d)
-        }
+        Query::Pairs(p) => chain::both_ways(p.d),
         Query::Nodes(_) => false,
         Query::Spaces => false,
         Query::SpacesOf(_) => false,
