@@ -17,10 +17,11 @@ use Rattle.taken.specs.Selections.{passes}
 use Rattle.entries.specs.declared.Part.{Part}
 use Rattle.entries.specs.declared.Part.TheVariants.{Both, Edge, Node}
 use Rattle.entries.specs.declared.PairQuery.{PairQuery}
-use Rattle.entries.specs.declared.Query.{Query}
-use Rattle.entries.specs.declared.Query.TheVariants.{Pairs, Nodes, Spaces, SpacesOf}
+use Rattle.entries.specs.declared.Query.TheVariants.{Pairs}
+use Rattle.entries.specs.declared.NamesQuery.{NamesQuery}
+use Rattle.entries.specs.declared.NamesQuery.TheVariants.{Nodes, Spaces, SpacesOf}
 use Rattle.entries.specs.Cursors.{MaybeEntry, list_of}
-use Rattle.entries.specs.Queries.{part_of, chosen, end_pair, first_pairs, first_at, ends_at}
+use Rattle.entries.specs.Queries.{part_of, chosen, end_pair, first_pairs, first_at, name_at, ends_at}
 
 -- ---- a pair that is asked for or not
 
@@ -112,48 +113,48 @@ module _ (q : PairQuery) (k : Key) where
 module _ (k : Key) where
   module _ (t : Bool) (et : t ≡ is_node k) where
     module _ (s : ℕ) where
-      at_nodes : (u : Bool) → eqb k.s s ≡ u → (first_at (Nodes s) k) ≡ cond (t && u) (pair 0 k.n ∷ []) []
-      unfolding first_at
+      at_nodes : (u : Bool) → eqb k.s s ≡ u → (name_at (Nodes s) k) ≡ cond (t && u) (pair 0 k.n ∷ []) []
+      unfolding name_at
       at_nodes u eu = sym (ap₂ (λ (x y : Bool). cond (x && y) (pair 0 k.n ∷ []) []) et (sym eu))
 
-      pub nodes_no : t ≡ false → [] ≡ first_at (Nodes s) k
+      pub nodes_no : t ≡ false → [] ≡ name_at (Nodes s) k
       nodes_no e = sym (at_nodes (eqb k.s s) refl ∙ ap (λ (x : Bool). cond (x && eqb k.s s) (pair 0 k.n ∷ []) []) e)
 
-      pub nodes_other : t ≡ true → (k.s ≡ s → ⊥) → [] ≡ first_at (Nodes s) k
+      pub nodes_other : t ≡ true → (k.s ≡ s → ⊥) → [] ≡ name_at (Nodes s) k
       nodes_other e d = sym (at_nodes false (ne_eqb k.s s d) ∙ ap (λ (x : Bool). cond (x && false) (pair 0 k.n ∷ []) []) e)
 
-      pub nodes_yes : t ≡ true → k.s ≡ s → pair 0 k.n ∷ [] ≡ first_at (Nodes s) k
+      pub nodes_yes : t ≡ true → k.s ≡ s → pair 0 k.n ∷ [] ≡ name_at (Nodes s) k
       nodes_yes e d =
           sym (at_nodes true (eq-eqb k.s s d) ∙ ap (λ (x : Bool). cond (x && true) (pair 0 k.n ∷ []) []) e)
 
     module _ (n : ℕ) where
-      at_holders : (u : Bool) → eqb k.n n ≡ u → (first_at (SpacesOf n) k) ≡ cond (t && u) (space_entry k.s) []
-      unfolding first_at
+      at_holders : (u : Bool) → eqb k.n n ≡ u → (name_at (SpacesOf n) k) ≡ cond (t && u) (space_entry k.s) []
+      unfolding name_at
       at_holders u eu = sym (ap₂ (λ (x y : Bool). cond (x && y) (space_entry k.s) []) et (sym eu))
 
-      pub holders_no : t ≡ false → [] ≡ first_at (SpacesOf n) k
+      pub holders_no : t ≡ false → [] ≡ name_at (SpacesOf n) k
       holders_no e = sym (at_holders (eqb k.n n) refl ∙ ap (λ (x : Bool). cond (x && eqb k.n n) (space_entry k.s) []) e)
 
-      pub holders_other : t ≡ true → (k.n ≡ n → ⊥) → [] ≡ first_at (SpacesOf n) k
+      pub holders_other : t ≡ true → (k.n ≡ n → ⊥) → [] ≡ name_at (SpacesOf n) k
       holders_other e d = sym (at_holders false (ne_eqb k.n n d) ∙ ap (λ (x : Bool). cond (x && false) (space_entry k.s) []) e)
 
-      pub holders_yes : t ≡ true → k.n ≡ n → pair 0 k.s ∷ [] ≡ first_at (SpacesOf n) k
+      pub holders_yes : t ≡ true → k.n ≡ n → pair 0 k.s ∷ [] ≡ name_at (SpacesOf n) k
       holders_yes e d =
           sym (at_holders true (eq-eqb k.n n d) ∙ ap (λ (x : Bool). cond (x && true) (space_entry k.s) []) e)
 
-  pub spaces_no : (k.n ≡ 0 → ⊥) → [] ≡ first_at Spaces k
-  unfolding first_at
+  pub spaces_no : (k.n ≡ 0 → ⊥) → [] ≡ name_at Spaces k
+  unfolding name_at
   spaces_no d = sym (ap (λ (t : Bool). cond t (space_entry k.s) []) (ne_eqb k.n 0 d))
 
-  pub spaces_yes : k.n ≡ 0 → pair 0 k.s ∷ [] ≡ first_at Spaces k
-  unfolding first_at
+  pub spaces_yes : k.n ≡ 0 → pair 0 k.s ∷ [] ≡ name_at Spaces k
+  unfolding name_at
   spaces_yes e = sym (ap (λ (t : Bool). cond t (space_entry k.s) []) (eq-eqb k.n 0 e))
 
 -- ---- the cases of a query
 
-module _ (q : Query) (k : Key) (r : MaybeEntry) where
-  pub first_case : (x : Query) → q ≡ x → list_of r ≡ first_at x k → list_of r ≡ first_at q k
-  first_case x e er = er ∙ ap (λ (y : Query). first_at y k) (sym e)
+module _ (w : NamesQuery) (k : Key) (r : MaybeEntry) where
+  pub name_case : (x : NamesQuery) → w ≡ x → list_of r ≡ name_at x k → list_of r ≡ name_at w k
+  name_case x e er = er ∙ ap (λ (y : NamesQuery). name_at y k) (sym e)
 
 -- ---- an edge that the node is no end of gives no pair
 

@@ -1,10 +1,8 @@
 -- What the tests of a key say of it.
-use mathlib.Core.Bool.{Bool, true, false, not, ◌||◌, false≢true}
-use mathlib.Core.List.{List}
+use mathlib.Core.Bool.{Bool, false, not, ◌||◌}
 use mathlib.Core.Logic.{◌⊎◌, inl, inr}
 use mathlib.Core.Path.{◌≡◌, refl, sym, ap, ◌∙◌}
 use Prim.Native.Nat.{ℕ}
-use Rattle.model.specs.declared.Pair.{Pair}
 use lib.Dec.{eqb}
 use borrow.Author.Tests.{eq-eqb, ne_eqb}
 use Rattle.model.specs.declared.Direction.{Direction}
@@ -12,10 +10,10 @@ use Rattle.model.specs.declared.Direction.TheVariants.{Outpointing, Inpointing, 
 use Rattle.model.specs.declared.Key.{Key}
 use Rattle.model.specs.Keys.{node_key, space_key}
 use Rattle.entries.specs.declared.PairQuery.{PairQuery}
-use Rattle.entries.specs.declared.Query.{Query}
-use Rattle.entries.specs.declared.Query.TheVariants.{Pairs, Nodes, Spaces, SpacesOf}
-use Rattle.entries.specs.Cursors.{asks_names}
-use Rattle.entries.specs.Queries.{first_at, pairs_start, start_key, pairs_outside, outside, ends_at}
+use Rattle.entries.specs.declared.Query.TheVariants.{Pairs}
+use Rattle.entries.specs.declared.NamesQuery.{NamesQuery}
+use Rattle.entries.specs.declared.NamesQuery.TheVariants.{Nodes, Spaces, SpacesOf}
+use Rattle.entries.specs.Queries.{names_start, names_outside, pairs_start, pairs_outside, outside, ends_at}
 
 -- ---- the ends of an edge
 
@@ -40,12 +38,6 @@ module _ (q : PairQuery) (r : Key) where
   start_other (inl e) er = er ∙ ap (λ (x : Direction). pairs_start x q.s q.n) (sym e)
   start_other (inr e) er = er ∙ ap (λ (x : Direction). pairs_start x q.s q.n) (sym e)
 
-pub start_case : (q x : Query) (r : Key) → q ≡ x → r ≡ start_key x → r ≡ start_key q
-start_case q x r e er = er ∙ ap start_key (sym e)
-
-pub outside_case : (q x : Query) (k : Key) (r : Bool) → q ≡ x → r ≡ outside x k → r ≡ outside q k
-outside_case q x k r e er = er ∙ ap (λ (y : Query). outside y k) (sym e)
-
 module _ (q : PairQuery) (k : Key) where
   by_direction : (d : Direction) → q.d ≡ d → (r : Bool) → r ≡ pairs_outside d q.s q.n k → r ≡ outside (Pairs q) k
   unfolding outside
@@ -65,25 +57,23 @@ module _ (q : PairQuery) (k : Key) where
   outside_other (inl e) = by_direction Inpointing e _ refl
   outside_other (inr e) = by_direction Adjacent e _ refl
 
--- ---- names and pairs, by the variant that was tested
+-- ---- names, by the variant that was tested
 
--- a query whose variant is not that of pairs asks for names
-pub other_names : (q : Query) → ((p : PairQuery) → q ≡ Pairs p → ⊥) → asks_names q ≡ true
-unfolding asks_names
-other_names (Pairs q) h = absurd (h q refl)
-other_names (Nodes s) h = refl
-other_names Spaces h = refl
-other_names (SpacesOf n) h = refl
+pub spaces_start : (w : NamesQuery) (r : Key) → (w ≡ Spaces) ⊎ ((n : ℕ) × (w ≡ SpacesOf n)) → r ≡ space_key 0 → r ≡ names_start w
+unfolding names_start
+spaces_start w r (inl e) er = er ∙ ap names_start (sym e)
+spaces_start w r (inr e) er = er ∙ ap names_start (sym e.1)
+
+pub names_start_case : (w x : NamesQuery) (r : Key) → w ≡ x → r ≡ names_start x → r ≡ names_start w
+names_start_case w x r e er = er ∙ ap names_start (sym e)
 
 -- names that are not the nodes of a space are never outside
-pub never_outside : (q : Query) (k : Key) → ((s : ℕ) → q ≡ Nodes s → ⊥) → asks_names q ≡ true → false ≡ outside q k
-unfolding asks_names outside
-never_outside (Pairs q) k o h = absurd (false≢true h)
-never_outside (Nodes s) k o h = absurd (o s refl)
-never_outside Spaces k o h = refl
-never_outside (SpacesOf n) k o h = refl
+pub never_outside : (w : NamesQuery) (k : Key) → ((s : ℕ) → w ≡ Nodes s → ⊥) → false ≡ names_outside w k
+unfolding names_outside
+never_outside (Nodes s) k o = absurd (o s refl)
+never_outside Spaces k o = refl
+never_outside (SpacesOf n) k o = refl
 
--- the entry of a pair is not asked for
-pub no_pair_entry : (q : Query) (p : PairQuery) (k : Key) (ps : List Pair) → q ≡ Pairs p → asks_names q ≡ true → ps ≡ first_at q k
-unfolding asks_names
-no_pair_entry q p k ps e h = absurd (false≢true (sym (ap asks_names e) ∙ h))
+pub nodes_outside : (w : NamesQuery) (s : ℕ) (k : Key) → w ≡ Nodes s → not (eqb k.s s) ≡ names_outside w k
+unfolding names_outside
+nodes_outside w s k e = ap (λ (x : NamesQuery). names_outside x k) (sym e)

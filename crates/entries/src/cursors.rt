@@ -116,10 +116,12 @@ pub fn advance(b: &[u32], q: Query, c: Cursor, given: Option<Entry>) -> Cursor
     requires { CursorBehind b.now q (entry_of given) c }
     ensures { StandsBefore b.now q (entry_of given) result }
 {
-    let Query::Pairs(p) = q else {
-        let stream = crate::walks::names_on(b, q, c.out.stream.at, given);
-        let out = Side { stream, ..c.out };
-        return Cursor { out, ..c };
-    };
-    advance_pairs(b, p, c, given)
+    match q {
+        Query::Pairs(p) => advance_pairs(b, p, c, given),
+        Query::Names(w) => {
+            let stream = crate::walks::next_from(b, w, c.out.stream.at, given);
+            let out = Side { stream, ..c.out };
+            Cursor { out, ..c }
+        }
+    }
 }

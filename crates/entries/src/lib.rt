@@ -10,8 +10,8 @@ ghost use Rattle.model.specs.Keys.{is_node};
 ghost use Rattle.model.specs.Pairs.{pair};
 ghost use Rattle.layouts.specs.Buffer.{tuples_of};
 ghost use Rattle.chain.specs.Links.{Linked, Hint};
-ghost use Rattle.entries.specs.Cursors.{asks_names, list_of};
-ghost use Rattle.entries.specs.Queries.{chosen, end_pair, first_at, queried};
+ghost use Rattle.entries.specs.Cursors.{list_of};
+ghost use Rattle.entries.specs.Queries.{chosen, end_pair, first_at, name_at, names_start, queried};
 ghost use Rattle.entries.specs.Queries.{Readable, pairs_start, start_key, start_in, outside, ends_at, written_pairs, gives_two};
 
 use model::{Direction, Key};
@@ -35,15 +35,37 @@ pub struct PairQuery {
     pub part: Part,
 }
 
+// The names that are asked for.
 #[derive(Clone, Copy)]
-pub enum Query {
-    Pairs(PairQuery),
+pub enum NamesQuery {
     // The nodes of a space.
     Nodes(u32),
     // All spaces.
     Spaces,
     // The spaces that hold a node.
     SpacesOf(u32),
+}
+
+#[derive(Clone, Copy)]
+pub enum Query {
+    Pairs(PairQuery),
+    Names(NamesQuery),
+}
+
+// What a walk along the chain asks of a query, for pairs or for names.
+trait Source: Copy {
+    ghost use Rattle.entries.specs.declared.Query.{Query};
+
+    // The query that it is.
+    ghost query: { Self → Query };
+
+    // Is a key outside: behind the start neither it nor a later one gives an entry.
+    fn is_past(self, k: Key) -> bool
+        ensures { result ≡ outside (query self) k };
+
+    // The first entry that a key gives.
+    fn entry(self, k: Key) -> Option<Entry>
+        ensures { list_of result ≡ first_at (query self) k };
 }
 
 // An entry of a list, by its edge and its node. Entries have the order that pairs have in the model: by the edge, then by the node.
@@ -135,20 +157,31 @@ fn first_pair_entry(q: PairQuery, k: Key) -> Option<Entry>
     }
 }
 
-// The first entry that a key gives. Most keys of a walk do not have the node at an end.
-// Query and key are built anew for the call, so that a walk keeps its own in registers.
-fn touching_entry(q: PairQuery, k: Key) -> Option<Entry>
-    ensures { list_of result ≡ (first_at (Query.Pairs q) k) }
-{
-    if !touches(q.n, k) {
-        return None;
+impl Source for PairQuery {
+    ghost use Rattle.entries.specs.declared.Query.TheVariants.{Pairs};
+
+    ghost query = { Pairs };
+
+    fn is_past(self, k: Key) -> bool {
+        match self.d {
+            Direction::Outpointing => k.s != self.s || k.n != self.n,
+            Direction::Inpointing | Direction::Adjacent => k.s != self.s,
+        }
     }
-    first_pair_entry(PairQuery { ..q }, Key { ..k })
+
+    // Most keys of a walk do not have the node at an end.
+    // Query and key are built anew for the call, so that a walk keeps its own in registers.
+    fn entry(self, k: Key) -> Option<Entry> {
+        if !touches(self.n, k) {
+            return None;
+        }
+        first_pair_entry(PairQuery { ..self }, Key { ..k })
+    }
 }
 
 // The entry of a node of space s.
 fn node_entry(s: u32, k: Key) -> Option<Entry>
-    ensures { list_of result ≡ (first_at (Query.Nodes s) k) }
+    ensures { list_of result ≡ name_at (NamesQuery.Nodes s) k }
 {
     if !is_node(k) {
         return None;
@@ -161,7 +194,7 @@ fn node_entry(s: u32, k: Key) -> Option<Entry>
 
 // The entry of a space.
 fn space_entry(k: Key) -> Option<Entry>
-    ensures { list_of result ≡ (first_at Query.Spaces k) }
+    ensures { list_of result ≡ name_at NamesQuery.Spaces k }
 {
     if k.n != 0 {
         return None;
@@ -171,7 +204,7 @@ fn space_entry(k: Key) -> Option<Entry>
 
 // The entry of a space that holds node n.
 fn holder_entry(n: u32, k: Key) -> Option<Entry>
-    ensures { list_of result ≡ (first_at (Query.SpacesOf n) k) }
+    ensures { list_of result ≡ name_at (NamesQuery.SpacesOf n) k }
 {
     if !is_node(k) {
         return None;
@@ -182,16 +215,24 @@ fn holder_entry(n: u32, k: Key) -> Option<Entry>
     Some(Entry { edge: 0, node: k.s })
 }
 
-// The entry of a name that is asked for.
-fn name_entry(q: Query, k: Key) -> Option<Entry>
-    requires { asks_names q ≡ true }
-    ensures { list_of result ≡ first_at q k }
-{
-    match q {
-        Query::Pairs(_) => None,
-        Query::Nodes(s) => node_entry(s, k),
-        Query::Spaces => space_entry(k),
-        Query::SpacesOf(n) => holder_entry(n, k),
+impl Source for NamesQuery {
+    ghost use Rattle.entries.specs.declared.Query.TheVariants.{Names};
+
+    ghost query = { Names };
+
+    fn is_past(self, k: Key) -> bool {
+        let NamesQuery::Nodes(s) = self else {
+            return false;
+        };
+        k.s != s
+    }
+
+    fn entry(self, k: Key) -> Option<Entry> {
+        match self {
+            NamesQuery::Nodes(s) => node_entry(s, k),
+            NamesQuery::Spaces => space_entry(k),
+            NamesQuery::SpacesOf(n) => holder_entry(n, k),
+        }
     }
 }
 
@@ -205,15 +246,23 @@ fn pairs_start(q: PairQuery) -> Key
     }
 }
 
+// No key below this one gives a name.
+fn names_start(w: NamesQuery) -> Key
+    ensures { result ≡ names_start w }
+{
+    match w {
+        NamesQuery::Nodes(s) => words::node_key(s, 0),
+        NamesQuery::Spaces | NamesQuery::SpacesOf(_) => words::node_key(0, 0),
+    }
+}
+
 // No key below this one gives an entry.
 fn start_key(q: Query) -> Key
     ensures { result ≡ start_key q }
 {
     match q {
         Query::Pairs(p) => pairs_start(p),
-        Query::Nodes(s) => words::node_key(s, 0),
-        Query::Spaces => words::node_key(0, 0),
-        Query::SpacesOf(_) => words::node_key(0, 0),
+        Query::Names(w) => names_start(w),
     }
 }
 
@@ -225,36 +274,13 @@ fn first_record(b: &[u32], hint: usize, q: Query) -> usize
     chain::seek(b, hint, start_key(q)).at
 }
 
-// Is a key outside the space or the node whose pairs are asked for.
-fn outside_pairs(q: PairQuery, k: Key) -> bool
-    ensures { result ≡ outside (Query.Pairs q) k }
-{
-    match q.d {
-        Direction::Outpointing => k.s != q.s || k.n != q.n,
-        Direction::Inpointing | Direction::Adjacent => k.s != q.s,
-    }
-}
-
-// Is a key outside the space whose names are asked for: behind the start no later key gives one then.
-fn names_end(q: Query, k: Key) -> bool
-    requires { asks_names q ≡ true }
-    ensures { result ≡ outside q k }
-{
-    let Query::Nodes(s) = q else {
-        return false;
-    };
-    k.s != s
-}
-
 // Can a key give two entries.
 fn gives_two(q: Query) -> bool
     ensures { result ≡ gives_two q }
 {
     match q {
         Query::Pairs(p) => chain::both_ways(p.d),
-        Query::Nodes(_) => false,
-        Query::Spaces => false,
-        Query::SpacesOf(_) => false,
+        Query::Names(_) => false,
     }
 }
 

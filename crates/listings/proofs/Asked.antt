@@ -24,8 +24,9 @@ use Rattle.entries.specs.declared.Part.{Part}
 use Rattle.entries.specs.declared.Part.TheVariants.{Both, Edge, Node}
 use Rattle.entries.specs.declared.PairQuery.{PairQuery}
 use Rattle.entries.specs.declared.Query.{Query}
-use Rattle.entries.specs.declared.Query.TheVariants.{Pairs, Nodes, Spaces, SpacesOf}
-use Rattle.entries.specs.Queries.{part_of, chosen, first_pairs, second_pairs, first_at, second_at, queried, written_pairs}
+use Rattle.entries.specs.declared.Query.TheVariants.{Pairs, Names}
+use Rattle.entries.specs.declared.NamesQuery.TheVariants.{Nodes, Spaces, SpacesOf}
+use Rattle.entries.specs.Queries.{part_of, chosen, first_pairs, second_pairs, first_at, name_at, second_at, queried, written_pairs}
 use Rattle.model.proofs.Counts.{listed_within}
 use Rattle.taken.specs.Selections.{passes}
 use Rattle.located.specs.declared.Near.{Near}
@@ -169,7 +170,7 @@ gather_first f ts = λ i. gather (λ (k : Key). append-nil (f k) i) ts
 
 -- the theorem: a query lists what its operator does
 pub asked_listed : (l : Listing) (f : Fields) (ts : Tuples) → NamesAsked l f → queried (query_of l f) ts ≡ listed l f ts
-unfolding query_of listed queried nodes_in spaces_in spaces_with first_at second_at
+unfolding query_of listed queried nodes_in spaces_in spaces_with first_at name_at second_at
 asked_listed (Listing.P d) f ts h = pairs_listed d f.s f.n ts
 asked_listed (Listing.G d) f ts h =
     edges_listed d f.s f.n 0 0 ts ∙ ap edge_names (any_passes (pairs_of d f.s f.n ts))
@@ -181,9 +182,9 @@ asked_listed (Listing.N d) f ts h =
 asked_listed (Listing.NG d) f ts h =
     nodes_listed d f.s f.n f.g 0 ts
     ∙ ap node_names (same_only (passes f.g 0) _ (pairs_of d f.s f.n ts) (passes_edge f.g h))
-asked_listed Listing.UN f ts h = ap ascending (gather_first (first_at (Nodes f.s)) ts)
-asked_listed Listing.US f ts h = ap ascending (gather_first (first_at Spaces) ts)
-asked_listed Listing.USn f ts h = ap ascending (gather_first (first_at (SpacesOf f.n)) ts)
+asked_listed Listing.UN f ts h = ap ascending (gather_first (first_at (Names (Nodes f.s))) ts)
+asked_listed Listing.US f ts h = ap ascending (gather_first (first_at (Names Spaces)) ts)
+asked_listed Listing.USn f ts h = ap ascending (gather_first (first_at (Names (SpacesOf f.n))) ts)
 
 -- ---- the list of the query that a function learnt
 

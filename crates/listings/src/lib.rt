@@ -10,7 +10,7 @@ ghost use Rattle.entries.specs.declared.Query.TheVariants.{Pairs};
 ghost use Rattle.listings.specs.Lists.{pairs_hint, list_hint, pair_query, query_of, NamesAsked};
 ghost use Rattle.located.specs.Located.{NearIn};
 
-use entries::{PairQuery, Part, Query};
+use entries::{NamesQuery, PairQuery, Part, Query};
 use located::Near;
 use model::{Direction, Fields, Listing};
 
@@ -38,9 +38,9 @@ pub fn query_of(l: Listing, f: Fields) -> Query
         Listing::GN(d) => pair_query(d, f, 0, f.m, Part::Edge),
         Listing::N(d) => pair_query(d, f, 0, 0, Part::Node),
         Listing::NG(d) => pair_query(d, f, f.g, 0, Part::Node),
-        Listing::UN => Query::Nodes(f.s),
-        Listing::US => Query::Spaces,
-        Listing::USn => Query::SpacesOf(f.n),
+        Listing::UN => Query::Names(NamesQuery::Nodes(f.s)),
+        Listing::US => Query::Names(NamesQuery::Spaces),
+        Listing::USn => Query::Names(NamesQuery::SpacesOf(f.n)),
     }
 }
 
