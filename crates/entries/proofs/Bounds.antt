@@ -26,8 +26,10 @@ use Rattle.chain.proofs.Walks.{used_rest}
 use Rattle.chain.proofs.Paths.{chain_split}
 use Rattle.chain.proofs.Found.{head_of, NotBelow, at_place}
 use Rattle.entries.specs.declared.Query.{Query}
-use Rattle.entries.specs.declared.Query.TheVariants.{Pairs, Nodes, Spaces, SpacesOf}
-use Rattle.entries.specs.Queries.{pairs_start, start_key, start_in, pairs_outside, outside}
+use Rattle.entries.specs.declared.Query.TheVariants.{Pairs, Names}
+use Rattle.entries.specs.declared.NamesQuery.{NamesQuery}
+use Rattle.entries.specs.declared.NamesQuery.TheVariants.{Nodes, Spaces, SpacesOf}
+use Rattle.entries.specs.Queries.{pairs_start, names_start, start_key, start_in, pairs_outside, names_outside, outside}
 use Rattle.entries.proofs.KeyOrder.{then_lt, spaces_order, nodes_order}
 
 -- ---- keys below the start are outside
@@ -49,6 +51,12 @@ module _ (s n : ℕ) (k : Key) (e : compare_keys k (node_key s n) ≡ Ordering.l
 space_below : (s : ℕ) (k : Key) → compare_keys k (space_key s) ≡ Ordering.lt → k.s < s
 space_below s k e = ⊎_elim (λ l. l) (λ r. absurd (omega (arith, r.1))) (node_below s 0 k e)
 
+below_names : (w : NamesQuery) (k : Key) → compare_keys k (names_start w) ≡ Ordering.lt → names_outside w k ≡ true
+unfolding names_start names_outside
+below_names (Nodes s) k e = is_no k.s s (λ z. omega (arith, space_below s k e))
+below_names Spaces k e = absurd (omega (arith, space_below 0 k e))
+below_names (SpacesOf n) k e = absurd (omega (arith, space_below 0 k e))
+
 pub below_outside : (q : Query) (k : Key) → compare_keys k (start_key q) ≡ Ordering.lt → outside q k ≡ true
 unfolding start_key outside pairs_start pairs_outside
 below_outside (Pairs q) k e = go q.d e
@@ -60,9 +68,7 @@ below_outside (Pairs q) k e = go q.d e
         (node_below q.s q.n k h)
     go Inpointing h = is_no k.s q.s (λ z. omega (arith, space_below q.s k h))
     go Adjacent h = is_no k.s q.s (λ z. omega (arith, space_below q.s k h))
-below_outside (Nodes s) k e = is_no k.s s (λ z. omega (arith, space_below s k e))
-below_outside Spaces k e = absurd (omega (arith, space_below 0 k e))
-below_outside (SpacesOf n) k e = absurd (omega (arith, space_below 0 k e))
+below_outside (Names w) k e = below_names w k e
 
 -- ---- behind the start, what comes after a key outside is outside
 
@@ -111,6 +117,12 @@ module _ (k j : Key) (lt : compare_keys k j ≡ Ordering.lt) where
           let least : n ≤ k.n = reached.1 own in
           is_no j.n n (λ z. other own (omega (arith, nodes_order k j lt (own ∙ sym same))))
 
+  names_on : (w : NamesQuery) → is_less (compare_keys k (names_start w)) ≡ false → names_outside w k ≡ true → names_outside w j ≡ true
+  unfolding names_start names_outside
+  names_on (Nodes s) e o = space_on s e o
+  names_on Spaces e o = absurd (false≢true o)
+  names_on (SpacesOf n) e o = absurd (false≢true o)
+
   pub outside_on : (q : Query) → is_less (compare_keys k (start_key q)) ≡ false → outside q k ≡ true → outside q j ≡ true
   unfolding start_key outside pairs_start pairs_outside
   outside_on (Pairs q) e o = go q.d e o
@@ -120,9 +132,7 @@ module _ (k j : Key) (lt : compare_keys k j ≡ Ordering.lt) where
       go Outpointing f h = node_on q.s q.n f h
       go Inpointing f h = space_on q.s f h
       go Adjacent f h = space_on q.s f h
-  outside_on (Nodes s) e o = space_on s e o
-  outside_on Spaces e o = absurd (false≢true o)
-  outside_on (SpacesOf n) e o = absurd (false≢true o)
+  outside_on (Names w) e o = names_on w e o
 
   -- what is not below the start has no later key below it
   pub not_below_on : (s : Key) → is_less (compare_keys k s) ≡ false → is_less (compare_keys j s) ≡ false

@@ -11,6 +11,7 @@ use Rattle.model.specs.Tuples.{Tuples}
 use Rattle.layouts.specs.Buffer.{tuple_at, used_of, free_of, tuples_of}
 use Rattle.layouts.proofs.Store.{chains_count, capacity_most}
 use Rattle.model.proofs.Counts.{length_ascending}
+use Rattle.entries.specs.declared.lists.TheConstants.{MOST_LISTED}
 use Rattle.entries.specs.declared.Query.{Query}
 use Rattle.entries.specs.Queries.{first_at, second_at, queried, Readable}
 use Rattle.entries.proofs.Singles.{entries_at, Single, single_first, single_second}
@@ -49,5 +50,5 @@ module _ (b : List ℕ) (q : Query) (R : Readable b) where
         capacity_most b (used_of b) (free_of b) R.linked.chains,
       )
 
-  pub entries_most : length (queried q (tuples_of b)) ≤ 4096
+  pub entries_most : length (queried q (tuples_of b)) ≤ MOST_LISTED
   entries_most = omega (arith, length_queried q (tuples_of b), tuples_most)

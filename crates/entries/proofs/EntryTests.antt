@@ -1,6 +1,7 @@
 -- The entry that a key gives, one answer at a time.
 use mathlib.Core.Bool.{Bool, true, false, cond, not, ◌&&◌, ◌||◌}
 use mathlib.Core.List.{List, [], ◌∷◌}
+use mathlib.Core.Logic.{◌⊎◌, inl, inr}
 use mathlib.Core.Path.{◌≡◌, refl, sym, ap, ap₂, ◌∙◌}
 use Prim.Native.Nat.{ℕ}
 use lib.Dec.{eqb}
@@ -16,11 +17,11 @@ use Rattle.taken.specs.Selections.{passes}
 use Rattle.entries.specs.declared.Part.{Part}
 use Rattle.entries.specs.declared.Part.TheVariants.{Both, Edge, Node}
 use Rattle.entries.specs.declared.PairQuery.{PairQuery}
-use Rattle.entries.specs.declared.Query.{Query}
-use Rattle.entries.specs.declared.Query.TheVariants.{Pairs, Nodes, Spaces, SpacesOf}
-use Rattle.entries.specs.declared.Entry.{Entry}
-use Rattle.entries.specs.Cursors.{list_of}
-use Rattle.entries.specs.Queries.{part_of, chosen, first_pairs, first_at, ends_at}
+use Rattle.entries.specs.declared.Query.TheVariants.{Pairs}
+use Rattle.entries.specs.declared.NamesQuery.{NamesQuery}
+use Rattle.entries.specs.declared.NamesQuery.TheVariants.{Nodes, Spaces, SpacesOf}
+use Rattle.entries.specs.Cursors.{MaybeEntry, list_of}
+use Rattle.entries.specs.Queries.{part_of, chosen, end_pair, first_pairs, first_at, name_at, ends_at}
 
 -- ---- a pair that is asked for or not
 
@@ -56,43 +57,26 @@ only_no b p e = ap (λ (t : Bool). only_if t p) e
 only_yes : (b : Bool) (p : Pair) → b ≡ true → only_if b p ≡ p ∷ []
 only_yes b p e = ap (λ (t : Bool). only_if t p) e
 
-module _ (q : PairQuery) (n : ℕ) (k : Key) where
-  pub out_no_edge : k.g ≡ 0 → [] ≡ chosen q (out_pair n k)
-  unfolding out_pair chosen
-  out_no_edge e =
-      sym (ap (λ (ps : List Pair). chosen q ps) (only_no (is_edge k && eqb k.n n) (pair k.g k.m) (ap (λ (t : Bool). not t && eqb k.n n) (eq-eqb k.g 0 e))))
+module _ (q : PairQuery) (edge first second : ℕ) where
+  pub end_none : edge ≡ 0 → [] ≡ chosen q (end_pair q.n edge first second)
+  unfolding end_pair chosen
+  end_none e =
+      sym (ap (λ (ps : List Pair). chosen q ps)
+      (only_no (not (eqb edge 0) && eqb first q.n) (pair edge second) (ap (λ (t : Bool). not t && eqb first q.n) (eq-eqb edge 0 e))))
 
-  pub in_no_edge : k.g ≡ 0 → [] ≡ chosen q (in_pair n k)
-  unfolding in_pair chosen
-  in_no_edge e =
-      sym (ap (λ (ps : List Pair). chosen q ps) (only_no (is_edge k && eqb k.m n) (pair k.g k.n) (ap (λ (t : Bool). not t && eqb k.m n) (eq-eqb k.g 0 e))))
-
-  module _ (g : k.g ≡ 0 → ⊥) where
-    pub out_other : (k.n ≡ n → ⊥) → [] ≡ chosen q (out_pair n k)
-    unfolding out_pair chosen
-    out_other d =
+  module _ (g : edge ≡ 0 → ⊥) where
+    pub end_other : (first ≡ q.n → ⊥) → [] ≡ chosen q (end_pair q.n edge first second)
+    unfolding end_pair chosen
+    end_other d =
         sym (ap (λ (ps : List Pair). chosen q ps)
-        (only_no (is_edge k && eqb k.n n) (pair k.g k.m) (ap₂ (λ (t u : Bool). not t && u) (ne_eqb k.g 0 g) (ne_eqb k.n n d))))
+        (only_no (not (eqb edge 0) && eqb first q.n) (pair edge second) (ap₂ (λ (t u : Bool). not t && u) (ne_eqb edge 0 g) (ne_eqb first q.n d))))
 
-    pub in_other : (k.m ≡ n → ⊥) → [] ≡ chosen q (in_pair n k)
-    unfolding in_pair chosen
-    in_other d =
-        sym (ap (λ (ps : List Pair). chosen q ps)
-        (only_no (is_edge k && eqb k.m n) (pair k.g k.n) (ap₂ (λ (t u : Bool). not t && u) (ne_eqb k.g 0 g) (ne_eqb k.m n d))))
-
-    pub out_given : k.n ≡ n → (r : Entry) → list_of r ≡ chosen q (pair k.g k.m ∷ []) → list_of r ≡ chosen q (out_pair n k)
-    unfolding out_pair
-    out_given e r er =
+    pub end_given : first ≡ q.n → (r : MaybeEntry) → list_of r ≡ chosen q (pair edge second ∷ []) → list_of r ≡ chosen q (end_pair q.n edge first second)
+    unfolding end_pair
+    end_given e r er =
         er
         ∙ sym (ap (λ (ps : List Pair). chosen q ps)
-        (only_yes (is_edge k && eqb k.n n) (pair k.g k.m) (ap₂ (λ (t u : Bool). not t && u) (ne_eqb k.g 0 g) (eq-eqb k.n n e))))
-
-    pub in_given : k.m ≡ n → (r : Entry) → list_of r ≡ chosen q (pair k.g k.n ∷ []) → list_of r ≡ chosen q (in_pair n k)
-    unfolding in_pair
-    in_given e r er =
-        er
-        ∙ sym (ap (λ (ps : List Pair). chosen q ps)
-        (only_yes (is_edge k && eqb k.m n) (pair k.g k.n) (ap₂ (λ (t u : Bool). not t && u) (ne_eqb k.g 0 g) (eq-eqb k.m n e))))
+        (only_yes (not (eqb edge 0) && eqb first q.n) (pair edge second) (ap₂ (λ (t u : Bool). not t && u) (ne_eqb edge 0 g) (eq-eqb first q.n e))))
 
 -- ---- the directions
 
@@ -110,66 +94,67 @@ module _ (q : PairQuery) (k : Key) where
   unfolding first_at
   first_elsewhere d = elsewhere (first_pairs q.d q.n k) d
 
-  module _ (e : k.s ≡ q.s) (r : Entry) where
-    pub first_out : q.d ≡ Outpointing → list_of r ≡ chosen q (out_pair q.n k) → list_of r ≡ first_at (Pairs q) k
-    unfolding first_at first_pairs
-    first_out d er = here (out_pair q.n k) (first_pairs q.d q.n k) e (ap (λ (x : Direction). first_pairs x q.n k) d) (list_of r) er
+  module _ (e : k.s ≡ q.s) (r : MaybeEntry) where
+    by_direction : (d : Direction) → q.d ≡ d → list_of r ≡ chosen q (first_pairs d q.n k) → list_of r ≡ first_at (Pairs q) k
+    unfolding first_at
+    by_direction d ed er = here (first_pairs d q.n k) (first_pairs q.d q.n k) e (ap (λ (x : Direction). first_pairs x q.n k) ed) (list_of r) er
 
-    pub first_in : q.d ≡ Inpointing → list_of r ≡ chosen q (in_pair q.n k) → list_of r ≡ first_at (Pairs q) k
-    unfolding first_at first_pairs
-    first_in d er = here (in_pair q.n k) (first_pairs q.d q.n k) e (ap (λ (x : Direction). first_pairs x q.n k) d) (list_of r) er
+    pub first_out : (q.d ≡ Outpointing) ⊎ (q.d ≡ Adjacent) → list_of r ≡ chosen q (end_pair q.n k.g k.n k.m) → list_of r ≡ first_at (Pairs q) k
+    unfolding first_pairs out_pair end_pair
+    first_out (inl d) er = by_direction Outpointing d er
+    first_out (inr d) er = by_direction Adjacent d er
 
-    pub first_both : q.d ≡ Adjacent → list_of r ≡ chosen q (out_pair q.n k) → list_of r ≡ first_at (Pairs q) k
-    unfolding first_at first_pairs
-    first_both d er = here (out_pair q.n k) (first_pairs q.d q.n k) e (ap (λ (x : Direction). first_pairs x q.n k) d) (list_of r) er
+    pub first_in : q.d ≡ Inpointing → list_of r ≡ chosen q (end_pair q.n k.g k.m k.n) → list_of r ≡ first_at (Pairs q) k
+    unfolding first_pairs in_pair end_pair
+    first_in d er = by_direction Inpointing d er
 
 -- ---- nodes and spaces
 
 module _ (k : Key) where
   module _ (t : Bool) (et : t ≡ is_node k) where
     module _ (s : ℕ) where
-      at_nodes : (u : Bool) → eqb k.s s ≡ u → (first_at (Nodes s) k) ≡ cond (t && u) (pair 0 k.n ∷ []) []
-      unfolding first_at
+      at_nodes : (u : Bool) → eqb k.s s ≡ u → (name_at (Nodes s) k) ≡ cond (t && u) (pair 0 k.n ∷ []) []
+      unfolding name_at
       at_nodes u eu = sym (ap₂ (λ (x y : Bool). cond (x && y) (pair 0 k.n ∷ []) []) et (sym eu))
 
-      pub nodes_no : t ≡ false → [] ≡ first_at (Nodes s) k
+      pub nodes_no : t ≡ false → [] ≡ name_at (Nodes s) k
       nodes_no e = sym (at_nodes (eqb k.s s) refl ∙ ap (λ (x : Bool). cond (x && eqb k.s s) (pair 0 k.n ∷ []) []) e)
 
-      pub nodes_other : t ≡ true → (k.s ≡ s → ⊥) → [] ≡ first_at (Nodes s) k
+      pub nodes_other : t ≡ true → (k.s ≡ s → ⊥) → [] ≡ name_at (Nodes s) k
       nodes_other e d = sym (at_nodes false (ne_eqb k.s s d) ∙ ap (λ (x : Bool). cond (x && false) (pair 0 k.n ∷ []) []) e)
 
-      pub nodes_yes : t ≡ true → k.s ≡ s → pair 0 k.n ∷ [] ≡ first_at (Nodes s) k
+      pub nodes_yes : t ≡ true → k.s ≡ s → pair 0 k.n ∷ [] ≡ name_at (Nodes s) k
       nodes_yes e d =
           sym (at_nodes true (eq-eqb k.s s d) ∙ ap (λ (x : Bool). cond (x && true) (pair 0 k.n ∷ []) []) e)
 
     module _ (n : ℕ) where
-      at_holders : (u : Bool) → eqb k.n n ≡ u → (first_at (SpacesOf n) k) ≡ cond (t && u) (space_entry k.s) []
-      unfolding first_at
+      at_holders : (u : Bool) → eqb k.n n ≡ u → (name_at (SpacesOf n) k) ≡ cond (t && u) (space_entry k.s) []
+      unfolding name_at
       at_holders u eu = sym (ap₂ (λ (x y : Bool). cond (x && y) (space_entry k.s) []) et (sym eu))
 
-      pub holders_no : t ≡ false → [] ≡ first_at (SpacesOf n) k
+      pub holders_no : t ≡ false → [] ≡ name_at (SpacesOf n) k
       holders_no e = sym (at_holders (eqb k.n n) refl ∙ ap (λ (x : Bool). cond (x && eqb k.n n) (space_entry k.s) []) e)
 
-      pub holders_other : t ≡ true → (k.n ≡ n → ⊥) → [] ≡ first_at (SpacesOf n) k
+      pub holders_other : t ≡ true → (k.n ≡ n → ⊥) → [] ≡ name_at (SpacesOf n) k
       holders_other e d = sym (at_holders false (ne_eqb k.n n d) ∙ ap (λ (x : Bool). cond (x && false) (space_entry k.s) []) e)
 
-      pub holders_yes : t ≡ true → k.n ≡ n → pair 0 k.s ∷ [] ≡ first_at (SpacesOf n) k
+      pub holders_yes : t ≡ true → k.n ≡ n → pair 0 k.s ∷ [] ≡ name_at (SpacesOf n) k
       holders_yes e d =
           sym (at_holders true (eq-eqb k.n n d) ∙ ap (λ (x : Bool). cond (x && true) (space_entry k.s) []) e)
 
-  pub spaces_no : (k.n ≡ 0 → ⊥) → [] ≡ first_at Spaces k
-  unfolding first_at
+  pub spaces_no : (k.n ≡ 0 → ⊥) → [] ≡ name_at Spaces k
+  unfolding name_at
   spaces_no d = sym (ap (λ (t : Bool). cond t (space_entry k.s) []) (ne_eqb k.n 0 d))
 
-  pub spaces_yes : k.n ≡ 0 → pair 0 k.s ∷ [] ≡ first_at Spaces k
-  unfolding first_at
+  pub spaces_yes : k.n ≡ 0 → pair 0 k.s ∷ [] ≡ name_at Spaces k
+  unfolding name_at
   spaces_yes e = sym (ap (λ (t : Bool). cond t (space_entry k.s) []) (eq-eqb k.n 0 e))
 
 -- ---- the cases of a query
 
-module _ (q : Query) (k : Key) (r : Entry) where
-  pub first_case : (x : Query) → q ≡ x → list_of r ≡ first_at x k → list_of r ≡ first_at q k
-  first_case x e er = er ∙ ap (λ (y : Query). first_at y k) (sym e)
+module _ (w : NamesQuery) (k : Key) (r : MaybeEntry) where
+  pub name_case : (x : NamesQuery) → w ≡ x → list_of r ≡ name_at x k → list_of r ≡ name_at w k
+  name_case x e er = er ∙ ap (λ (y : NamesQuery). name_at y k) (sym e)
 
 -- ---- an edge that the node is no end of gives no pair
 

@@ -14,8 +14,10 @@ use Rattle.model.specs.Pairs.{pair, only_if, out_pair, in_pair, space_entry}
 use Rattle.taken.specs.Selections.{passes}
 use Rattle.entries.specs.declared.PairQuery.{PairQuery}
 use Rattle.entries.specs.declared.Query.{Query}
-use Rattle.entries.specs.declared.Query.TheVariants.{Pairs, Nodes, Spaces, SpacesOf}
-use Rattle.entries.specs.Queries.{part_of, chosen, first_pairs, second_pairs, first_at, second_at}
+use Rattle.entries.specs.declared.Query.TheVariants.{Pairs, Names}
+use Rattle.entries.specs.declared.NamesQuery.{NamesQuery}
+use Rattle.entries.specs.declared.NamesQuery.TheVariants.{Nodes, Spaces, SpacesOf}
+use Rattle.entries.specs.Queries.{name_at, part_of, chosen, first_pairs, second_pairs, first_at, second_at}
 
 -- ---- a key gives at most one first and one second entry
 
@@ -52,19 +54,21 @@ single_second_pairs Outpointing n k = inl refl
 single_second_pairs Inpointing n k = inl refl
 single_second_pairs Adjacent n k = single_only_if (is_edge k && eqb k.m n) (pair k.g k.n)
 
+single_name : (w : NamesQuery) (k : Key) → Single (name_at w k)
+unfolding name_at
+single_name (Nodes s) k = single_only_if (is_node k && eqb k.s s) (pair 0 k.n)
+single_name Spaces k = single_cond (eqb k.n 0) (space_entry k.s) (inr (pair 0 k.s, refl))
+single_name (SpacesOf n) k = single_cond (is_node k && eqb k.n n) (space_entry k.s) (inr (pair 0 k.s, refl))
+
 pub single_first : (q : Query) (k : Key) → Single (first_at q k)
 unfolding first_at
 single_first (Pairs q) k = single_cond (eqb k.s q.s) _ (single_chosen q (first_pairs q.d q.n k) (single_first_pairs q.d q.n k))
-single_first (Nodes s) k = single_only_if (is_node k && eqb k.s s) (pair 0 k.n)
-single_first Spaces k = single_cond (eqb k.n 0) (space_entry k.s) (inr (pair 0 k.s, refl))
-single_first (SpacesOf n) k = single_cond (is_node k && eqb k.n n) (space_entry k.s) (inr (pair 0 k.s, refl))
+single_first (Names w) k = single_name w k
 
 pub single_second : (q : Query) (k : Key) → Single (second_at q k)
 unfolding second_at
 single_second (Pairs q) k = single_cond (eqb k.s q.s) _ (single_chosen q (second_pairs q.d q.n k) (single_second_pairs q.d q.n k))
-single_second (Nodes s) k = inl refl
-single_second Spaces k = inl refl
-single_second (SpacesOf n) k = inl refl
+single_second (Names w) k = inl refl
 
 -- ---- all keys
 

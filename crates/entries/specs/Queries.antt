@@ -16,7 +16,9 @@ use Rattle.entries.specs.declared.Part.{Part}
 use Rattle.entries.specs.declared.Part.TheVariants.{Both, Edge, Node}
 use Rattle.entries.specs.declared.PairQuery.{PairQuery}
 use Rattle.entries.specs.declared.Query.{Query}
-use Rattle.entries.specs.declared.Query.TheVariants.{Pairs, Nodes, Spaces, SpacesOf}
+use Rattle.entries.specs.declared.Query.TheVariants.{Pairs, Names}
+use Rattle.entries.specs.declared.NamesQuery.{NamesQuery}
+use Rattle.entries.specs.declared.NamesQuery.TheVariants.{Nodes, Spaces, SpacesOf}
 
 -- the part of a pair that is listed: the pair, its edge name, its node
 unfoldable pub part_of : Part → Pair → Pair
@@ -30,6 +32,10 @@ chosen q [] = []
 chosen q (p ∷ ps) =
     cond (passes q.g q.m p) (part_of q.part p ∷ chosen q ps) (chosen q ps)
 
+-- the pair that an edge between two ends gives n, where the first end is n; edge 0 is none
+unfoldable pub end_pair : ℕ → ℕ → ℕ → ℕ → List Pair
+end_pair n edge first second = only_if (not (eqb edge 0) && eqb first n) (pair edge second)
+
 -- a key gives node n at most two pairs: the first, and for adjacent pairs a second
 unfoldable pub first_pairs : Direction → ℕ → Key → List Pair
 first_pairs Outpointing n k = out_pair n k
@@ -41,18 +47,20 @@ second_pairs Outpointing n k = []
 second_pairs Inpointing n k = []
 second_pairs Adjacent n k = in_pair n k
 
+-- the name that a key gives: of a node, or of a space
+unfoldable pub name_at : NamesQuery → Key → List Pair
+name_at (Nodes s) k = only_if (is_node k && eqb k.s s) (pair 0 k.n)
+name_at Spaces k = cond (eqb k.n 0) (space_entry k.s) []
+name_at (SpacesOf n) k = cond (is_node k && eqb k.n n) (space_entry k.s) []
+
 -- the entries that a key gives: at most one first, at most one second
 unfoldable pub first_at : Query → Key → List Pair
 first_at (Pairs q) k = cond (eqb k.s q.s) (chosen q (first_pairs q.d q.n k)) []
-first_at (Nodes s) k = only_if (is_node k && eqb k.s s) (pair 0 k.n)
-first_at Spaces k = cond (eqb k.n 0) (space_entry k.s) []
-first_at (SpacesOf n) k = cond (is_node k && eqb k.n n) (space_entry k.s) []
+first_at (Names w) k = name_at w k
 
 unfoldable pub second_at : Query → Key → List Pair
 second_at (Pairs q) k = cond (eqb k.s q.s) (chosen q (second_pairs q.d q.n k)) []
-second_at (Nodes s) k = []
-second_at Spaces k = []
-second_at (SpacesOf n) k = []
+second_at (Names w) k = []
 
 -- the list: the entries of all keys, ascending, each once
 unfoldable pub queried : Query → Tuples → List Pair
@@ -66,11 +74,14 @@ pairs_start Outpointing s n = node_key s n
 pairs_start Inpointing s n = space_key s
 pairs_start Adjacent s n = space_key s
 
+unfoldable pub names_start : NamesQuery → Key
+names_start (Nodes s) = space_key s
+names_start Spaces = space_key 0
+names_start (SpacesOf n) = space_key 0
+
 unfoldable pub start_key : Query → Key
 start_key (Pairs q) = pairs_start q.d q.s q.n
-start_key (Nodes s) = space_key s
-start_key Spaces = space_key 0
-start_key (SpacesOf n) = space_key 0
+start_key (Names w) = names_start w
 
 -- the first record that can give an entry; 0 for none
 unfoldable pub start_in : List ℕ → Query → ℕ
@@ -82,11 +93,14 @@ pairs_outside Outpointing s n k = not (eqb k.s s) || not (eqb k.n n)
 pairs_outside Inpointing s n k = not (eqb k.s s)
 pairs_outside Adjacent s n k = not (eqb k.s s)
 
+unfoldable pub names_outside : NamesQuery → Key → Bool
+names_outside (Nodes s) k = not (eqb k.s s)
+names_outside Spaces k = false
+names_outside (SpacesOf n) k = false
+
 unfoldable pub outside : Query → Key → Bool
 outside (Pairs q) k = pairs_outside q.d q.s q.n k
-outside (Nodes s) k = not (eqb k.s s)
-outside Spaces k = false
-outside (SpacesOf n) k = false
+outside (Names w) k = names_outside w k
 
 -- is a node one of the two ends of an edge
 unfoldable pub ends_at : ℕ → Key → Bool
@@ -106,6 +120,4 @@ written_pairs ps l = map pack ps ++ drop (length ps) l
 -- for adjacent pairs a key can give a second
 unfoldable pub gives_two : Query → Bool
 gives_two (Pairs q) = both_ways q.d
-gives_two (Nodes s) = false
-gives_two Spaces = false
-gives_two (SpacesOf n) = false
+gives_two (Names w) = false

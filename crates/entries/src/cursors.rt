@@ -5,94 +5,45 @@ ghost use Rattle.std.proofs.Math.Option.{none};
 ghost use Rattle.chain.specs.Links.{both_ways, Linked, Hint};
 ghost use Rattle.entries.specs.declared.Query.TheVariants.{Pairs};
 ghost use Rattle.entries.specs.Queries.{start_in};
-ghost use Rattle.entries.specs.Cursors.{lesser, entry_of, same_entry, turned, one_way, out_query, in_query, SideBehind, CursorBehind, Stands, StandsBefore, cursor_entry};
+ghost use Rattle.entries.specs.Cursors.{entry_of, turned, one_way, out_query, in_query, SideBehind, CursorBehind, Stands, StandsBefore, cursor_entry};
 
 use crate::{Cursor, Entry, PairQuery, Query, Side, Stream};
 use model::Direction;
 
-// The lesser of two entries, where there are any.
-fn lesser_entry(a: Entry, e: Entry) -> Entry
-    ensures { entry_of result ≡ lesser (entry_of a) (entry_of e) }
-{
-    if !a.there {
-        return e;
-    }
-    if crate::walks::is_before(a.edge, a.node, e) {
-        return a;
-    }
-    e
-}
-
 // The entry that a cursor stands before; none at the end.
-pub fn entry_of(c: Cursor) -> Entry
+pub fn entry_of(c: Cursor) -> Option<Entry>
     ensures { entry_of result ≡ cursor_entry c }
 {
-    let out = c.out;
-    let into = c.into;
-    let out_stream = out.stream;
-    let into_stream = into.stream;
-    let first = out_stream.entry;
-    let second = into_stream.entry;
-    lesser_entry(first, second)
+    crate::walks::lesser_entry(c.out.stream.entry, c.into.stream.entry)
 }
 
-// Are two entries the same: both none, or the same pair.
-fn same_entry(a: Entry, e: Entry) -> bool
-    ensures { result ≡ same_entry (entry_of a) (entry_of e) }
-{
-    if !a.there {
-        return !e.there;
-    }
-    if !e.there {
-        return false;
-    }
-    if a.edge != e.edge {
-        return false;
-    }
-    a.node == e.node
-}
-
-// The streams of a query.
+// The same query in another direction.
 fn turned_to(q: PairQuery, d: Direction) -> PairQuery
     ensures { result ≡ turned q d }
 {
-    let part = q.part;
-    PairQuery {
-        d,
-        s: q.s,
-        n: q.n,
-        g: q.g,
-        m: q.m,
-        part,
-    }
+    PairQuery { d, ..q }
 }
 
+// The streams of a query.
 fn out_query(q: Query) -> Query
     ensures { result ≡ out_query q }
 {
-    match q {
-        Query::Pairs(p) => {
-            let d = p.d;
-            if chain::both_ways(d) {
-                return Query::Pairs(turned_to(p, Direction::Outpointing));
-            }
-            q
-        }
-        Query::Nodes(_) => q,
-        Query::Spaces => q,
-        Query::SpacesOf(_) => q,
+    let Query::Pairs(p) = q else {
+        return q;
+    };
+    if chain::both_ways(p.d) {
+        return Query::Pairs(turned_to(p, Direction::Outpointing));
     }
+    q
 }
 
 fn in_query(q: Query) -> Query
     ensures { result ≡ in_query q }
 {
-    match q {
-        Query::Pairs(p) => Query::Pairs(turned_to(p, Direction::Inpointing)),
-        Query::Nodes(_) => q,
-        Query::Spaces => q,
-        Query::SpacesOf(_) => q,
-    }
+    let Query::Pairs(p) = q else {
+        return q;
+    };
+    Query::Pairs(turned_to(p, Direction::Inpointing))
 }
 
 // The side of a query at its start.
@@ -103,16 +54,8 @@ fn start_side(b: &[u32], hint: usize, q: Query) -> Side
     let start = crate::first_record(b, hint, q);
     let stream = Stream {
         at: start,
-        entry: Entry {
-            there: false,
-            edge: 0,
-            node: 0,
-        },
-        met: Entry {
-            there: false,
-            edge: 0,
-            node: 0,
-        },
+        entry: None,
+        met: None,
     };
     Side { start, stream }
 }
@@ -133,69 +76,52 @@ pub fn start(b: &[u32], hint: usize, q: Query) -> Cursor
 }
 
 // A side of adjacent pairs, before the least entry behind the one that was given: it goes on where that was its own.
-fn move_side(b: &[u32], q: PairQuery, s: Side, given: Entry) -> Side
+fn move_side(b: &[u32], q: PairQuery, s: Side, given: Option<Entry>) -> Side
     requires { SideBehind b.now (Pairs q) (entry_of given) s × (one_way (Pairs q) ≡ true) }
     ensures { Stands b.now (Pairs q) (entry_of given) result.stream × (result.start ≡ start_in b.now (Pairs q)) }
 {
-    let before = s.stream;
-    let own = before.entry;
-    if !same_entry(own, given) {
+    let own = s.stream.entry;
+    if own != given {
         return s;
     }
-    let stream = crate::walks::pairs_behind(b, q, s.start, before);
-    Side {
-        start: s.start,
-        stream,
-    }
+    let stream = crate::walks::pairs_behind(b, q, s.start, s.stream);
+    Side { stream, ..s }
 }
 
 // The cursor of adjacent pairs, before the least one behind the one that it gave.
-fn move_both(b: &[u32], p: PairQuery, c: Cursor, given: Entry) -> Cursor
+fn move_both(b: &[u32], p: PairQuery, c: Cursor, given: Option<Entry>) -> Cursor
     requires { CursorBehind b.now (Pairs p) (entry_of given) c × (both_ways p.d ≡ true) }
     ensures { StandsBefore b.now (Pairs p) (entry_of given) result }
 {
-    let first = c.out;
-    let second = c.into;
-    let out = move_side(b, turned_to(p, Direction::Outpointing), first, given);
-    let into = move_side(b, turned_to(p, Direction::Inpointing), second, given);
+    let out = move_side(b, turned_to(p, Direction::Outpointing), c.out, given);
+    let into = move_side(b, turned_to(p, Direction::Inpointing), c.into, given);
     Cursor { out, into }
 }
 
 // The cursor of pairs, before the least one behind the one that it gave.
-fn advance_pairs(b: &[u32], p: PairQuery, c: Cursor, given: Entry) -> Cursor
+fn advance_pairs(b: &[u32], p: PairQuery, c: Cursor, given: Option<Entry>) -> Cursor
     requires { CursorBehind b.now (Pairs p) (entry_of given) c }
     ensures { StandsBefore b.now (Pairs p) (entry_of given) result }
 {
-    let d = p.d;
-    if chain::both_ways(d) {
+    if chain::both_ways(p.d) {
         return move_both(b, p, c, given);
     }
-    let first = c.out;
-    let second = c.into;
-    let before = first.stream;
-    let stream = crate::walks::pairs_behind(b, p, first.start, before);
-    let out = Side {
-        start: first.start,
-        stream,
-    };
-    Cursor { out, into: second }
+    let stream = crate::walks::pairs_behind(b, p, c.out.start, c.out.stream);
+    let out = Side { stream, ..c.out };
+    Cursor { out, ..c }
 }
 
 // The cursor before the least entry behind the one that it gave.
-pub fn advance(b: &[u32], q: Query, c: Cursor, given: Entry) -> Cursor
+pub fn advance(b: &[u32], q: Query, c: Cursor, given: Option<Entry>) -> Cursor
     requires { CursorBehind b.now q (entry_of given) c }
     ensures { StandsBefore b.now q (entry_of given) result }
 {
-    let Query::Pairs(p) = q else {
-        let first = c.out;
-        let second = c.into;
-        let before = first.stream;
-        let stream = crate::walks::names_on(b, q, before.at, given);
-        let out = Side {
-            start: first.start,
-            stream,
-        };
-        return Cursor { out, into: second };
-    };
-    advance_pairs(b, p, c, given)
+    match q {
+        Query::Pairs(p) => advance_pairs(b, p, c, given),
+        Query::Names(w) => {
+            let stream = crate::walks::next_from(b, w, c.out.stream.at, given);
+            let out = Side { stream, ..c.out };
+            Cursor { out, ..c }
+        }
+    }
 }

@@ -7,11 +7,11 @@ mod walks;
 
 ghost use Rattle.std.specs.Prelude.{[], ◌∷◌, true, ◌≡◌, length, ◌≤◌, leb};
 ghost use Rattle.model.specs.Keys.{is_node};
-ghost use Rattle.model.specs.Pairs.{pair, out_pair, in_pair};
+ghost use Rattle.model.specs.Pairs.{pair};
 ghost use Rattle.layouts.specs.Buffer.{tuples_of};
 ghost use Rattle.chain.specs.Links.{Linked, Hint};
-ghost use Rattle.entries.specs.Cursors.{asks_names, list_of};
-ghost use Rattle.entries.specs.Queries.{chosen, first_at, queried};
+ghost use Rattle.entries.specs.Cursors.{list_of};
+ghost use Rattle.entries.specs.Queries.{chosen, end_pair, first_at, name_at, names_start, queried};
 ghost use Rattle.entries.specs.Queries.{Readable, pairs_start, start_key, start_in, outside, ends_at, written_pairs, gives_two};
 
 use model::{Direction, Key};
@@ -35,9 +35,9 @@ pub struct PairQuery {
     pub part: Part,
 }
 
+// The names that are asked for.
 #[derive(Clone, Copy)]
-pub enum Query {
-    Pairs(PairQuery),
+pub enum NamesQuery {
     // The nodes of a space.
     Nodes(u32),
     // All spaces.
@@ -46,10 +46,31 @@ pub enum Query {
     SpacesOf(u32),
 }
 
-// An entry of a list, by its edge and its node, where it is there; else there is none.
 #[derive(Clone, Copy)]
+pub enum Query {
+    Pairs(PairQuery),
+    Names(NamesQuery),
+}
+
+// What a walk along the chain asks of a query, for pairs or for names.
+trait Source: Copy {
+    ghost use Rattle.entries.specs.declared.Query.{Query};
+
+    // The query that it is.
+    ghost query: { Self → Query };
+
+    // Is a key outside: behind the start neither it nor a later one gives an entry.
+    fn is_past(self, k: Key) -> bool
+        ensures { result ≡ outside (query self) k };
+
+    // The first entry that a key gives.
+    fn entry(self, k: Key) -> Option<Entry>
+        ensures { list_of result ≡ first_at (query self) k };
+}
+
+// An entry of a list, by its edge and its node. Entries have the order that pairs have in the model: by the edge, then by the node.
+#[derive(Clone, Copy, PartialEq, Eq, PartialOrd, Ord)]
 pub struct Entry {
-    pub there: bool,
     pub edge: u32,
     pub node: u32,
 }
@@ -59,8 +80,8 @@ pub struct Entry {
 #[derive(Clone, Copy)]
 pub struct Stream {
     pub at: usize,
-    pub entry: Entry,
-    pub met: Entry,
+    pub entry: Option<Entry>,
+    pub met: Option<Entry>,
 }
 
 // One side of a cursor: where its walks begin, and its stream.
@@ -81,7 +102,7 @@ pub struct Cursor {
 #[derive(Clone, Copy)]
 pub struct Progress {
     pub cursor: Cursor,
-    pub given: Entry,
+    pub given: Option<Entry>,
     pub done: usize,
 }
 
@@ -89,228 +110,129 @@ pub struct Progress {
 fn touches(n: u32, k: Key) -> bool
     ensures { result ≡ ends_at n k }
 {
-    if k.n == n {
-        return true;
-    }
-    k.m == n
+    k.n == n || k.m == n
 }
 
 // Is the key that of a node.
 fn is_node(k: Key) -> bool
     ensures { result ≡ is_node k }
 {
-    if k.n == 0 {
-        return false;
-    }
-    k.g == 0
+    k.n != 0 && k.g == 0
 }
 
 // The entry for a pair; none where it is not asked for.
-fn chosen_entry(q: PairQuery, edge: u32, node: u32) -> Entry
+fn chosen_entry(q: PairQuery, edge: u32, node: u32) -> Option<Entry>
     ensures { list_of result ≡ (chosen q (pair edge node ∷ [])) }
 {
     if !taken::passes_pair(q.g, q.m, edge, node) {
-        return Entry {
-            there: false,
-            edge: 0,
-            node: 0,
-        };
+        return None;
     }
-    let part = q.part;
-    match part {
-        Part::Both => Entry {
-            there: true,
-            edge: edge,
-            node: node,
-        },
-        Part::Edge => Entry {
-            there: true,
-            edge: edge,
-            node: 0,
-        },
-        Part::Node => Entry {
-            there: true,
-            edge: 0,
-            node: node,
-        },
+    match q.part {
+        Part::Both => Some(Entry { edge, node }),
+        Part::Edge => Some(Entry { edge, node: 0 }),
+        Part::Node => Some(Entry { edge: 0, node }),
     }
 }
 
-// The entry that a key gives as an edge from n.
-fn out_entry(q: PairQuery, k: Key) -> Entry
-    ensures { list_of result ≡ (chosen q (out_pair q.n k)) }
+// The entry that an edge between two ends gives, where the first is n; edge 0 is none.
+fn end_entry(q: PairQuery, edge: u32, first: u32, second: u32) -> Option<Entry>
+    ensures { list_of result ≡ chosen q (end_pair q.n edge first second) }
 {
-    if k.g == 0 {
-        return Entry {
-            there: false,
-            edge: 0,
-            node: 0,
-        };
+    if edge == 0 || first != q.n {
+        return None;
     }
-    if k.n != q.n {
-        return Entry {
-            there: false,
-            edge: 0,
-            node: 0,
-        };
-    }
-    chosen_entry(q, k.g, k.m)
-}
-
-// The entry that a key gives as an edge to n.
-fn in_entry(q: PairQuery, k: Key) -> Entry
-    ensures { list_of result ≡ (chosen q (in_pair q.n k)) }
-{
-    if k.g == 0 {
-        return Entry {
-            there: false,
-            edge: 0,
-            node: 0,
-        };
-    }
-    if k.m != q.n {
-        return Entry {
-            there: false,
-            edge: 0,
-            node: 0,
-        };
-    }
-    chosen_entry(q, k.g, k.n)
+    chosen_entry(q, edge, second)
 }
 
 // The first entry that a key gives.
-fn first_pair_entry(q: PairQuery, k: Key) -> Entry
+fn first_pair_entry(q: PairQuery, k: Key) -> Option<Entry>
     ensures { list_of result ≡ (first_at (Query.Pairs q) k) }
 {
     if k.s != q.s {
-        return Entry {
-            there: false,
-            edge: 0,
-            node: 0,
-        };
+        return None;
     }
-    let d = q.d;
-    match d {
-        Direction::Outpointing => out_entry(q, k),
-        Direction::Inpointing => in_entry(q, k),
-        Direction::Adjacent => out_entry(q, k),
+    match q.d {
+        Direction::Outpointing | Direction::Adjacent => end_entry(q, k.g, k.n, k.m),
+        Direction::Inpointing => end_entry(q, k.g, k.m, k.n),
     }
 }
 
-// The first entry that a key gives. Most keys of a walk do not have the node at an end.
-// Query and key are built anew for the call, so that a walk keeps its own in registers.
-fn touching_entry(q: PairQuery, k: Key) -> Entry
-    ensures { list_of result ≡ (first_at (Query.Pairs q) k) }
-{
-    if !touches(q.n, k) {
-        return Entry {
-            there: false,
-            edge: 0,
-            node: 0,
-        };
+impl Source for PairQuery {
+    ghost use Rattle.entries.specs.declared.Query.TheVariants.{Pairs};
+
+    ghost query = { Pairs };
+
+    fn is_past(self, k: Key) -> bool {
+        match self.d {
+            Direction::Outpointing => k.s != self.s || k.n != self.n,
+            Direction::Inpointing | Direction::Adjacent => k.s != self.s,
+        }
     }
-    let d = q.d;
-    let part = q.part;
-    first_pair_entry(
-        PairQuery {
-            d,
-            s: q.s,
-            n: q.n,
-            g: q.g,
-            m: q.m,
-            part,
-        },
-        Key {
-            s: k.s,
-            n: k.n,
-            g: k.g,
-            m: k.m,
-        },
-    )
+
+    // Most keys of a walk do not have the node at an end.
+    // Query and key are built anew for the call, so that a walk keeps its own in registers.
+    fn entry(self, k: Key) -> Option<Entry> {
+        if !touches(self.n, k) {
+            return None;
+        }
+        first_pair_entry(PairQuery { ..self }, Key { ..k })
+    }
 }
 
 // The entry of a node of space s.
-fn node_entry(s: u32, k: Key) -> Entry
-    ensures { list_of result ≡ (first_at (Query.Nodes s) k) }
+fn node_entry(s: u32, k: Key) -> Option<Entry>
+    ensures { list_of result ≡ name_at (NamesQuery.Nodes s) k }
 {
     if !is_node(k) {
-        return Entry {
-            there: false,
-            edge: 0,
-            node: 0,
-        };
+        return None;
     }
     if k.s != s {
-        return Entry {
-            there: false,
-            edge: 0,
-            node: 0,
-        };
+        return None;
     }
-    Entry {
-        there: true,
-        edge: 0,
-        node: k.n,
-    }
+    Some(Entry { edge: 0, node: k.n })
 }
 
 // The entry of a space.
-fn space_entry(k: Key) -> Entry
-    ensures { list_of result ≡ (first_at Query.Spaces k) }
+fn space_entry(k: Key) -> Option<Entry>
+    ensures { list_of result ≡ name_at NamesQuery.Spaces k }
 {
     if k.n != 0 {
-        return Entry {
-            there: false,
-            edge: 0,
-            node: 0,
-        };
+        return None;
     }
-    Entry {
-        there: true,
-        edge: 0,
-        node: k.s,
-    }
+    Some(Entry { edge: 0, node: k.s })
 }
 
 // The entry of a space that holds node n.
-fn holder_entry(n: u32, k: Key) -> Entry
-    ensures { list_of result ≡ (first_at (Query.SpacesOf n) k) }
+fn holder_entry(n: u32, k: Key) -> Option<Entry>
+    ensures { list_of result ≡ name_at (NamesQuery.SpacesOf n) k }
 {
     if !is_node(k) {
-        return Entry {
-            there: false,
-            edge: 0,
-            node: 0,
-        };
+        return None;
     }
     if k.n != n {
-        return Entry {
-            there: false,
-            edge: 0,
-            node: 0,
-        };
+        return None;
     }
-    Entry {
-        there: true,
-        edge: 0,
-        node: k.s,
-    }
+    Some(Entry { edge: 0, node: k.s })
 }
 
-// The entry of a name that is asked for.
-fn name_entry(q: Query, k: Key) -> Entry
-    requires { asks_names q ≡ true }
-    ensures { list_of result ≡ first_at q k }
-{
-    match q {
-        Query::Pairs(_) => Entry {
-            there: false,
-            edge: 0,
-            node: 0,
-        },
-        Query::Nodes(s) => node_entry(s, k),
-        Query::Spaces => space_entry(k),
-        Query::SpacesOf(n) => holder_entry(n, k),
+impl Source for NamesQuery {
+    ghost use Rattle.entries.specs.declared.Query.TheVariants.{Names};
+
+    ghost query = { Names };
+
+    fn is_past(self, k: Key) -> bool {
+        let NamesQuery::Nodes(s) = self else {
+            return false;
+        };
+        k.s != s
+    }
+
+    fn entry(self, k: Key) -> Option<Entry> {
+        match self {
+            NamesQuery::Nodes(s) => node_entry(s, k),
+            NamesQuery::Spaces => space_entry(k),
+            NamesQuery::SpacesOf(n) => holder_entry(n, k),
+        }
     }
 }
 
@@ -318,11 +240,19 @@ fn name_entry(q: Query, k: Key) -> Entry
 fn pairs_start(q: PairQuery) -> Key
     ensures { result ≡ pairs_start q.d q.s q.n }
 {
-    let d = q.d;
-    match d {
+    match q.d {
         Direction::Outpointing => words::node_key(q.s, q.n),
-        Direction::Inpointing => words::node_key(q.s, 0),
-        Direction::Adjacent => words::node_key(q.s, 0),
+        Direction::Inpointing | Direction::Adjacent => words::node_key(q.s, 0),
+    }
+}
+
+// No key below this one gives a name.
+fn names_start(w: NamesQuery) -> Key
+    ensures { result ≡ names_start w }
+{
+    match w {
+        NamesQuery::Nodes(s) => words::node_key(s, 0),
+        NamesQuery::Spaces | NamesQuery::SpacesOf(_) => words::node_key(0, 0),
     }
 }
 
@@ -332,9 +262,7 @@ fn start_key(q: Query) -> Key
 {
     match q {
         Query::Pairs(p) => pairs_start(p),
-        Query::Nodes(s) => words::node_key(s, 0),
-        Query::Spaces => words::node_key(0, 0),
-        Query::SpacesOf(_) => words::node_key(0, 0),
+        Query::Names(w) => names_start(w),
     }
 }
 
@@ -343,34 +271,7 @@ fn first_record(b: &[u32], hint: usize, q: Query) -> usize
     requires { Linked b.now × Hint b.now hint }
     ensures { result ≡ start_in b.now q }
 {
-    let place = chain::seek(b, hint, start_key(q));
-    place.at
-}
-
-// Is a key outside the space or the node whose pairs are asked for.
-fn outside_pairs(q: PairQuery, k: Key) -> bool
-    ensures { result ≡ outside (Query.Pairs q) k }
-{
-    if k.s != q.s {
-        return true;
-    }
-    let d = q.d;
-    match d {
-        Direction::Outpointing => k.n != q.n,
-        Direction::Inpointing => false,
-        Direction::Adjacent => false,
-    }
-}
-
-// Is a key outside the space whose names are asked for: behind the start no later key gives one then.
-fn names_end(q: Query, k: Key) -> bool
-    requires { asks_names q ≡ true }
-    ensures { result ≡ outside q k }
-{
-    let Query::Nodes(s) = q else {
-        return false;
-    };
-    k.s != s
+    chain::seek(b, hint, start_key(q)).at
 }
 
 // Can a key give two entries.
@@ -378,13 +279,8 @@ fn gives_two(q: Query) -> bool
     ensures { result ≡ gives_two q }
 {
     match q {
-        Query::Pairs(p) => {
-            let d = p.d;
-            chain::both_ways(d)
-        }
-        Query::Nodes(_) => false,
-        Query::Spaces => false,
-        Query::SpacesOf(_) => false,
+        Query::Pairs(p) => chain::both_ways(p.d),
+        Query::Names(_) => false,
     }
 }
 

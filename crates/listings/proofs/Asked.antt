@@ -1,6 +1,7 @@
 -- The list of each S operator's query (`queried`) is the list of document 01 (`listed`).
 use mathlib.Core.Bool.{Bool, true, false, cond}
 use mathlib.Core.List.{List, [], ◌∷◌, ◌++◌, map, append-nil}
+use mathlib.Core.Logic.{◌⊎◌, inl, inr}
 use mathlib.Core.Path.{◌≡◌, refl, sym, ap, ap₂, ◌∙◌, subst}
 use Prim.Native.Nat.{ℕ, ◌≤◌}
 use native.Mathlib.Omega.{arith}
@@ -24,8 +25,9 @@ use Rattle.entries.specs.declared.Part.{Part}
 use Rattle.entries.specs.declared.Part.TheVariants.{Both, Edge, Node}
 use Rattle.entries.specs.declared.PairQuery.{PairQuery}
 use Rattle.entries.specs.declared.Query.{Query}
-use Rattle.entries.specs.declared.Query.TheVariants.{Pairs, Nodes, Spaces, SpacesOf}
-use Rattle.entries.specs.Queries.{part_of, chosen, first_pairs, second_pairs, first_at, second_at, queried, written_pairs}
+use Rattle.entries.specs.declared.Query.TheVariants.{Pairs, Names}
+use Rattle.entries.specs.declared.NamesQuery.TheVariants.{Nodes, Spaces, SpacesOf}
+use Rattle.entries.specs.Queries.{part_of, chosen, first_pairs, second_pairs, first_at, name_at, second_at, queried, written_pairs}
 use Rattle.model.proofs.Counts.{listed_within}
 use Rattle.taken.specs.Selections.{passes}
 use Rattle.located.specs.declared.Near.{Near}
@@ -169,7 +171,7 @@ gather_first f ts = λ i. gather (λ (k : Key). append-nil (f k) i) ts
 
 -- the theorem: a query lists what its operator does
 pub asked_listed : (l : Listing) (f : Fields) (ts : Tuples) → NamesAsked l f → queried (query_of l f) ts ≡ listed l f ts
-unfolding query_of listed queried nodes_in spaces_in spaces_with first_at second_at
+unfolding query_of listed queried nodes_in spaces_in spaces_with first_at name_at second_at
 asked_listed (Listing.P d) f ts h = pairs_listed d f.s f.n ts
 asked_listed (Listing.G d) f ts h =
     edges_listed d f.s f.n 0 0 ts ∙ ap edge_names (any_passes (pairs_of d f.s f.n ts))
@@ -181,9 +183,9 @@ asked_listed (Listing.N d) f ts h =
 asked_listed (Listing.NG d) f ts h =
     nodes_listed d f.s f.n f.g 0 ts
     ∙ ap node_names (same_only (passes f.g 0) _ (pairs_of d f.s f.n ts) (passes_edge f.g h))
-asked_listed Listing.UN f ts h = ap ascending (gather_first (first_at (Nodes f.s)) ts)
-asked_listed Listing.US f ts h = ap ascending (gather_first (first_at Spaces) ts)
-asked_listed Listing.USn f ts h = ap ascending (gather_first (first_at (SpacesOf f.n)) ts)
+asked_listed Listing.UN f ts h = ap ascending (gather_first (first_at (Names (Nodes f.s))) ts)
+asked_listed Listing.US f ts h = ap ascending (gather_first (first_at (Names Spaces)) ts)
+asked_listed Listing.USn f ts h = ap ascending (gather_first (first_at (Names (SpacesOf f.n))) ts)
 
 -- ---- the list of the query that a function learnt
 
@@ -209,6 +211,25 @@ query_as l l' f q e Q = Q ∙ ap (λ (x : Listing). query_of x f) (sym e)
 
 pub hint_as : (l l' : Listing) (near : Near) (h : ℕ) → l ≡ l' → h ≡ list_hint l' near → h ≡ list_hint l near
 hint_as l l' near h e H = H ∙ ap (λ (x : Listing). list_hint x near) (sym e)
+
+pub space_hint : (d : Direction) (near : Near) → (d ≡ Inpointing) ⊎ (d ≡ Adjacent) → near.space ≡ pairs_hint d near
+unfolding pairs_hint
+space_hint d near (inl e) = ap (λ (x : Direction). pairs_hint x near) (sym e)
+space_hint d near (inr e) = ap (λ (x : Direction). pairs_hint x near) (sym e)
+
+pub pairs_place : (l : Listing) (d : Direction) (near : Near) (h : ℕ)
+    → (l ≡ Listing.P d) ⊎ ((l ≡ Listing.G d) ⊎ ((l ≡ Listing.GN d) ⊎ ((l ≡ Listing.N d) ⊎ (l ≡ Listing.NG d)))) → h ≡ pairs_hint d near → h ≡ list_hint l near
+unfolding list_hint
+pairs_place l d near h (inl e) H = hint_as l (Listing.P d) near h e H
+pairs_place l d near h (inr (inl e)) H = hint_as l (Listing.G d) near h e H
+pairs_place l d near h (inr (inr (inl e))) H = hint_as l (Listing.GN d) near h e H
+pairs_place l d near h (inr (inr (inr (inl e)))) H = hint_as l (Listing.N d) near h e H
+pairs_place l d near h (inr (inr (inr (inr e)))) H = hint_as l (Listing.NG d) near h e H
+
+pub no_place : (l : Listing) (near : Near) → (l ≡ Listing.US) ⊎ (l ≡ Listing.USn) → 0 ≡ list_hint l near
+unfolding list_hint
+no_place l near (inl e) = ap (λ (x : Listing). list_hint x near) (sym e)
+no_place l near (inr e) = ap (λ (x : Listing). list_hint x near) (sym e)
 
 pub pairs_hint_as : (d d' : Direction) (near : Near) (h : ℕ) → d ≡ d' → h ≡ pairs_hint d' near → h ≡ pairs_hint d near
 pairs_hint_as d d' near h e H = H ∙ ap (λ (x : Direction). pairs_hint x near) (sym e)

@@ -7,7 +7,8 @@ use Rattle.entries.specs.declared.Part.{Part}
 use Rattle.entries.specs.declared.Part.TheVariants.{Both, Edge, Node}
 use Rattle.entries.specs.declared.PairQuery.{PairQuery}
 use Rattle.entries.specs.declared.Query.{Query}
-use Rattle.entries.specs.declared.Query.TheVariants.{Pairs, Nodes, Spaces, SpacesOf}
+use Rattle.entries.specs.declared.Query.TheVariants.{Pairs, Names}
+use Rattle.entries.specs.declared.NamesQuery.TheVariants.{Nodes, Spaces, SpacesOf}
 use Rattle.model.specs.declared.Direction.TheVariants.{Outpointing, Inpointing, Adjacent}
 use Rattle.located.specs.declared.Near.{Near}
 
@@ -22,9 +23,9 @@ query_of (Listing.G d) f = Pairs (pair_query d f.s f.n 0 0 Edge)
 query_of (Listing.GN d) f = Pairs (pair_query d f.s f.n 0 f.m Edge)
 query_of (Listing.N d) f = Pairs (pair_query d f.s f.n 0 0 Node)
 query_of (Listing.NG d) f = Pairs (pair_query d f.s f.n f.g 0 Node)
-query_of Listing.UN f = Nodes f.s
-query_of Listing.US f = Spaces
-query_of Listing.USn f = SpacesOf f.n
+query_of Listing.UN f = Names (Nodes f.s)
+query_of Listing.US f = Names Spaces
+query_of Listing.USn f = Names (SpacesOf f.n)
 
 -- the edge or node that a pair must have is a name: in a query 0 stands for any
 abbrev pub NamesAsked : Listing → Fields → Type 0

@@ -1,16 +1,16 @@
 #![tactic(auto)]
 // The query of each S operator, and its list.
 // An inner layer: what its functions require, their callers have shown; only the entry refuses.
-ghost use Rattle.std.specs.Prelude.{◌≡◌, length, ◌≤◌, leb};
+ghost use Rattle.std.specs.Prelude.{◌≡◌, length, ◌≤◌};
 ghost use Rattle.layouts.specs.Buffer.{tuples_of};
 ghost use Rattle.model.specs.Steps.{listed};
 ghost use Rattle.entries.specs.Queries.{Readable, written_pairs};
-ghost use Rattle.chain.specs.Links.{Linked};
 ghost use Rattle.entries.specs.declared.Query.TheVariants.{Pairs};
 ghost use Rattle.listings.specs.Lists.{pairs_hint, list_hint, pair_query, query_of, NamesAsked};
 ghost use Rattle.located.specs.Located.{NearIn};
 
-use entries::{PairQuery, Part, Query};
+pub use entries::surely_fits;
+use entries::{NamesQuery, PairQuery, Part, Query};
 use located::Near;
 use model::{Direction, Fields, Listing};
 
@@ -38,9 +38,9 @@ pub fn query_of(l: Listing, f: Fields) -> Query
         Listing::GN(d) => pair_query(d, f, 0, f.m, Part::Edge),
         Listing::N(d) => pair_query(d, f, 0, 0, Part::Node),
         Listing::NG(d) => pair_query(d, f, f.g, 0, Part::Node),
-        Listing::UN => Query::Nodes(f.s),
-        Listing::US => Query::Spaces,
-        Listing::USn => Query::SpacesOf(f.n),
+        Listing::UN => Query::Names(NamesQuery::Nodes(f.s)),
+        Listing::US => Query::Names(NamesQuery::Spaces),
+        Listing::USn => Query::Names(NamesQuery::SpacesOf(f.n)),
     }
 }
 
@@ -50,8 +50,7 @@ fn pairs_hint(d: Direction, near: Near) -> usize
 {
     match d {
         Direction::Outpointing => near.node,
-        Direction::Inpointing => near.space,
-        Direction::Adjacent => near.space,
+        Direction::Inpointing | Direction::Adjacent => near.space,
     }
 }
 
@@ -60,14 +59,11 @@ fn list_hint(l: Listing, near: Near) -> usize
     ensures { result ≡ list_hint l near }
 {
     match l {
-        Listing::P(d) => pairs_hint(d, near),
-        Listing::G(d) => pairs_hint(d, near),
-        Listing::GN(d) => pairs_hint(d, near),
-        Listing::N(d) => pairs_hint(d, near),
-        Listing::NG(d) => pairs_hint(d, near),
+        Listing::P(d) | Listing::G(d) | Listing::GN(d) | Listing::N(d) | Listing::NG(d) => {
+            pairs_hint(d, near)
+        }
         Listing::UN => near.space,
-        Listing::US => 0,
-        Listing::USn => 0,
+        Listing::US | Listing::USn => 0,
     }
 }
 
@@ -77,14 +73,6 @@ pub fn count_listed(b: &[u32], near: Near, l: Listing, f: Fields) -> usize
     ensures { result ≡ length (listed l f (tuples_of b.now)) }
 {
     entries::count_entries(b, list_hint(l, near), query_of(l, f))
-}
-
-// Are there places for as many entries as there are tuples: no S operator lists more, so that they need not be counted.
-pub fn surely_fits(b: &[u32], room: usize) -> bool
-    requires { Linked b.now }
-    ensures { result ≡ leb (length (tuples_of b.now)) room }
-{
-    entries::surely_fits(b, room)
 }
 
 // The entries written to the first places of a list that has room for them, and their number; the rest stays.

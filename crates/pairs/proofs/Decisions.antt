@@ -30,7 +30,8 @@ use Rattle.layouts.specs.Buffer.{capacity_of, tuples_of, is_store}
 use Rattle.layouts.specs.Stored.{stored}
 use Rattle.layouts.proofs.Stored.{stored_lawful}
 use Rattle.entries.specs.declared.Query.{Query}
-use Rattle.entries.specs.declared.Query.TheVariants.{Spaces}
+use Rattle.entries.specs.declared.Query.TheVariants.{Names}
+use Rattle.entries.specs.declared.NamesQuery.TheVariants.{Spaces}
 use Rattle.entries.specs.Queries.{queried, Readable}
 use Rattle.model.proofs.Counts.{listed_within}
 use Rattle.listings.proofs.Asked.{asked_listed}
@@ -196,18 +197,18 @@ queries_below f (suc k) = operator_query (operator_of k) f ∷ queries_below f k
 
 abbrev spaces_below : ℕ → List Query
 spaces_below zero = []
-spaces_below (suc k) = Spaces ∷ spaces_below k
+spaces_below (suc k) = Names Spaces ∷ spaces_below k
 
-below_same : (f : Fields) (k : ℕ) → queries_below f k ≡ spaces_below k → (i : ℕ) → i < k → operator_query (operator_of i) f ≡ Spaces
+below_same : (f : Fields) (k : ℕ) → queries_below f k ≡ spaces_below k → (i : ℕ) → i < k → operator_query (operator_of i) f ≡ Names Spaces
 below_same f zero e i h = absurd (omega (arith, h))
 below_same f (suc k) e i h = go (eqb i k) refl (below_same f k (cc) i)
   where
-    go : (t : Bool) → eqb i k ≡ t → (i < k → operator_query (operator_of i) f ≡ Spaces) → operator_query (operator_of i) f ≡ Spaces
+    go : (t : Bool) → eqb i k ≡ t → (i < k → operator_query (operator_of i) f ≡ Names Spaces) → operator_query (operator_of i) f ≡ Names Spaces
     go true y rest = let z : i ≡ k = eqb-true i k y in cc
     go false y rest = let d : i ≡ k → ⊥ = eqb-false i k y in rest (omega (arith, h))
 
 -- no operator below 30 lists anything
-pub few_told : (c : Call) → c.operator < 30 → Spaces ≡ query_for c
+pub few_told : (c : Call) → c.operator < 30 → Names Spaces ≡ query_for c
 unfolding query_for operator_query operator_of table
 few_told c h = sym (below_same (fields_of c) 30 refl c.operator h)
 

@@ -13,7 +13,8 @@ use Rattle.model.proofs.Bools.{clash}
 use Rattle.chain.specs.Links.{Linked}
 use Rattle.entries.specs.declared.Progress.{Progress}
 use Rattle.entries.specs.declared.Query.{Query}
-use Rattle.entries.specs.declared.Query.TheVariants.{Spaces}
+use Rattle.entries.specs.declared.Query.TheVariants.{Names}
+use Rattle.entries.specs.declared.NamesQuery.TheVariants.{Spaces}
 use Rattle.entries.specs.Cursors.{entry_of, is_there}
 use Rattle.entries.specs.Queries.{Readable}
 use Rattle.entries.specs.Lists.{Begun, Reached, Next, NoEntries, GivenAs}
@@ -71,7 +72,7 @@ nothing_before p N = ended_before p N.nothing ∙ N.done
 -- ---- the list of a query
 
 query_in : Decision → Query
-query_in (Answered a) = Spaces
+query_in (Answered a) = Names Spaces
 query_in (Listed q) = q
 
 module _ (b : List ℕ) (d : Decision) (q : Query) (D : d ≡ Listed q) (L : Listable b d) where

@@ -11,7 +11,8 @@ use Rattle.model.specs.Operators.{operator_of}
 use Rattle.model.specs.Steps.{fields_of}
 use Rattle.layouts.specs.Buffer.{tuples_of}
 use Rattle.entries.specs.declared.Query.{Query}
-use Rattle.entries.specs.declared.Query.TheVariants.{Spaces}
+use Rattle.entries.specs.declared.Query.TheVariants.{Names}
+use Rattle.entries.specs.declared.NamesQuery.TheVariants.{Spaces}
 use Rattle.entries.specs.Queries.{queried, Readable}
 use Rattle.listings.specs.Lists.{query_of}
 use Rattle.pairs.specs.declared.Decision.{Decision}
@@ -30,11 +31,11 @@ list_refused (Counted k) = false
 
 -- the query of an S operator; what stands here for others has no effect
 unfoldable pub operator_query : Operator → Fields → Query
-operator_query (Create o) f = Spaces
-operator_query (Bind o) f = Spaces
-operator_query (Values o) f = Spaces
-operator_query (Exists o) f = Spaces
-operator_query (Destroy r) f = Spaces
+operator_query (Create o) f = Names Spaces
+operator_query (Bind o) f = Names Spaces
+operator_query (Values o) f = Names Spaces
+operator_query (Exists o) f = Names Spaces
+operator_query (Destroy r) f = Names Spaces
 operator_query (Lists l) f = query_of l f
 
 -- that of a call

@@ -11,7 +11,7 @@ ghost use Rattle.pairs.specs.InPairs.{CallInPairs};
 ghost use Rattle.pairs.specs.Decisions.{list_refused, operator_query, query_for, decided_list, answer_with, Decided};
 ghost use Rattle.pairs.specs.WrittenPairs.{Listable, written_before, Standing, PairWritten, PairsWritten};
 
-use entries::{Progress, Query};
+use entries::{NamesQuery, Progress, Query};
 use model::{Answer, Call, Fields, Operator, Pair};
 
 // The number of the first operator that lists pairs, and of the first one behind those of pairs.
@@ -57,11 +57,11 @@ fn query_in(op: Operator, f: Fields) -> Query
     ensures { result ≡ operator_query op f }
 {
     match op {
-        Operator::Create(_) => Query::Spaces,
-        Operator::Bind(_) => Query::Spaces,
-        Operator::Value(_) => Query::Spaces,
-        Operator::Exists(_) => Query::Spaces,
-        Operator::Destroy(_) => Query::Spaces,
+        Operator::Create(_) => Query::Names(NamesQuery::Spaces),
+        Operator::Bind(_) => Query::Names(NamesQuery::Spaces),
+        Operator::Value(_) => Query::Names(NamesQuery::Spaces),
+        Operator::Exists(_) => Query::Names(NamesQuery::Spaces),
+        Operator::Destroy(_) => Query::Names(NamesQuery::Spaces),
         Operator::List(l) => listings::query_of(l, f),
     }
 }
@@ -73,7 +73,7 @@ fn query_for(call: Call) -> Query
     let o = call.operator;
     let f = operators::fields_of(call);
     if o < FIRST_LISTING {
-        return Query::Spaces;
+        return Query::Names(NamesQuery::Spaces);
     }
     if o < FIRST_OTHER {
         return query_in(operators::pair_listing(o), f);

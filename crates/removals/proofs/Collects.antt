@@ -2,9 +2,10 @@
 use mathlib.Core.Bool.{true}
 use mathlib.Core.List.{List, [], ◌∷◌, ◌++◌, map}
 use mathlib.Core.Logic.{◌≢◌}
-use mathlib.Core.Path.{◌≡◌, refl, sym, ap, ◌∙◌, subst}
+use mathlib.Core.Path.{◌≡◌, refl, sym, ap, ap₂, ◌∙◌, subst}
 use Prim.Native.Nat.{ℕ, zero, suc, ◌+◌, ◌*◌, ◌≤◌, ◌<◌}
 use native.Mathlib.Omega.{arith}
+use lib.Seq.{take-length, length-take-le, take-append_seam}
 use lib.ListN.{length, take, drop, get_or, length-append, length-map}
 use Rattle.model.specs.declared.Fields.{Fields}
 use Rattle.model.specs.declared.Direction.{Direction}
@@ -21,12 +22,13 @@ use Rattle.model.proofs.Steps.{every_member, pair_named}
 use Rattle.chain.specs.Links.{Linked, Edited}
 use Rattle.edit.proofs.Built.{unedited, store_tuples}
 use Rattle.entries.specs.Queries.{Readable, written_pairs}
+use Rattle.entries.specs.declared.lists.TheConstants.{MOST_LISTED}
 use Rattle.entries.proofs.Counted.{entries_most}
 use Rattle.model.specs.declared.Fields.{Fields}
 use Rattle.steps.proofs.Named.{edited_twice}
 use Rattle.listings.specs.Lists.{query_of, NamesAsked}
 use Rattle.listings.proofs.Asked.{asked_listed}
-use Rattle.removals.specs.Collected.{remove_each, NamedBelow, NodeEntry, NodesListed}
+use Rattle.removals.specs.Collected.{remove_each, Named, NodeEntry, NodesListed}
 
 -- one more word of a list
 take_next : (i : ℕ) (ns : List ℕ) → i < length ns → take (suc i) ns ≡ take i ns ++ (get_or ns i 0 ∷ [])
@@ -41,38 +43,37 @@ remove_each_last s [] n ts = refl
 remove_each_last s (x ∷ ns) n ts = remove_each_last s ns n (remove (node_taken s x) ts)
 
 -- the first i nodes are removed
-pub record Removing (b₀ : List ℕ) (s : ℕ) (ns : List ℕ) (count : ℕ) (b : List ℕ) (i : ℕ) : Type 0 where
-  pub low : i ≤ count
+pub record Removing (b₀ : List ℕ) (s : ℕ) (ns : List ℕ) (b : List ℕ) (i : ℕ) : Type 0 where
+  pub low : i ≤ length ns
   pub done : Edited b₀ b (remove_each s (take i ns) (tuples_of b₀))
 
-pub removing_none : (b : List ℕ) (s : ℕ) (ns : List ℕ) (count : ℕ) → Linked b → Removing b s ns count b 0
-unfolding remove_each
-removing_none b s ns count L = record { low = omega arith; done = unedited b (tuples_of b) L refl }
+module _ (b₀ : List ℕ) (s : ℕ) (ns : List ℕ) where
+  pub removing_none : Linked b₀ → Removing b₀ s ns b₀ 0
+  unfolding remove_each
+  removing_none L = record { low = omega arith; done = unedited b₀ (tuples_of b₀) L refl }
 
-pub removing_linked : (b₀ : List ℕ) (s : ℕ) (ns : List ℕ) (count : ℕ) (b : List ℕ) (i : ℕ) → Removing b₀ s ns count b i → Linked b
-removing_linked b₀ s ns count b i R = R.done.linked
+  module _ (b : List ℕ) (i : ℕ) (R : Removing b₀ s ns b i) where
+    pub removing_linked : Linked b
+    removing_linked = R.done.linked
 
-pub removing_next : (b₀ : List ℕ) (s : ℕ) (ns : List ℕ) (count : ℕ) (b b' : List ℕ) (i : ℕ)
-    → Removing b₀ s ns count b i → i < count → count ≤ length ns → Edited b b' (remove (node_taken s (get_or ns i 0)) (tuples_of b))
-    → Removing b₀ s ns count b' (i + 1)
-removing_next b₀ s ns count b b' i R h room E =
-    record {
-      low = omega (arith, h);
-      done =
-          subst (Edited b₀ b')
-          (sym (ap (λ (xs : List ℕ). remove_each s xs (tuples_of b₀)) (ap (λ (n : ℕ). take n ns) next ∙ take_next i ns (omega (arith, h, room)))
-          ∙ remove_each_last s (take i ns) (get_or ns i 0) (tuples_of b₀)))
-          (edited_twice (remove (node_taken s (get_or ns i 0))) R.done E);
-    }
-  where
-    next : i + 1 ≡ suc i
-    next = omega arith
+    pub removing_next : (b' : List ℕ) → i < length ns → Edited b b' (remove (node_taken s (get_or ns i 0)) (tuples_of b)) → Removing b₀ s ns b' (i + 1)
+    removing_next b' h E =
+        record {
+          low = omega (arith, h);
+          done =
+              subst (Edited b₀ b')
+              (sym (ap (λ (xs : List ℕ). remove_each s xs (tuples_of b₀)) (ap (λ (n : ℕ). take n ns) next ∙ take_next i ns h)
+              ∙ remove_each_last s (take i ns) (get_or ns i 0) (tuples_of b₀)))
+              (edited_twice (remove (node_taken s (get_or ns i 0))) R.done E);
+        }
+      where
+        next : i + 1 ≡ suc i
+        next = omega arith
 
-pub removing_all : (b₀ : List ℕ) (s : ℕ) (ns : List ℕ) (count : ℕ) (b : List ℕ) (i : ℕ)
-    → Removing b₀ s ns count b i → count ≤ i → Edited b₀ b (remove_each s (take count ns) (tuples_of b₀))
-removing_all b₀ s ns count b i R h =
-    let same : i ≡ count = omega (arith, R.low, h) in
-    subst (λ (n : ℕ). Edited b₀ b (remove_each s (take n ns) (tuples_of b₀))) same R.done
+    pub removing_all : length ns ≤ i → Edited b₀ b (remove_each s ns (tuples_of b₀))
+    removing_all h =
+        let whole : take i ns ≡ ns = ap (λ (n : ℕ). take n ns) (omega (arith, R.low, h)) ∙ take-length ns in
+        subst (λ (xs : List ℕ). Edited b₀ b (remove_each s xs (tuples_of b₀))) whole R.done
 
 -- ---- the nodes of a list
 
@@ -84,43 +85,45 @@ pack_node p e = ap (λ (g : ℕ). g * name_count + node_of p) e ∙ none_before 
     none_before : (x : ℕ) → 0 * name_count + x ≡ x
     none_before x = omega arith
 
-named_written : (ps : List Pair) (rest : List ℕ) → NodesListed ps → (i : ℕ) → i < length ps → get_or (map pack ps ++ rest) i 0 ≢ 0
-named_written [] rest h i low = absurd (omega (arith, low))
-named_written (p ∷ ps) rest h zero low = λ e. h.0.1 (sym (pack_node p h.0.0) ∙ e)
-named_written (p ∷ ps) rest h (suc i) low = named_written ps rest h.1 i (omega (arith, low))
+nodes_named : (ps : List Pair) → NodesListed ps → Named (map pack ps)
+nodes_named [] h i low = absurd (omega (arith, low))
+nodes_named (p ∷ ps) h zero low = λ e. h.0.1 (sym (pack_node p h.0.0) ∙ e)
+nodes_named (p ∷ ps) h (suc i) low = nodes_named ps h.1 i (omega (arith, low))
 
-each_node : (s : ℕ) (ps : List Pair) (rest : List ℕ) (ts : Tuples) → NodesListed ps
-    → remove_each s (take (length ps) (map pack ps ++ rest)) ts ≡ remove_nodes s ps ts
+each_node : (s : ℕ) (ps : List Pair) (ts : Tuples) → NodesListed ps → remove_each s (map pack ps) ts ≡ remove_nodes s ps ts
 unfolding remove_each remove_nodes
-each_node s [] rest ts h = refl
-each_node s (p ∷ ps) rest ts h =
-    each_node s ps rest (remove (node_taken s (pack p)) ts) h.1
+each_node s [] ts h = refl
+each_node s (p ∷ ps) ts h =
+    each_node s ps (remove (node_taken s (pack p)) ts) h.1
     ∙ ap (λ (n : ℕ). remove_nodes s ps (remove (node_taken s n) ts)) (pack_node p h.0.0)
 
-pub collected_fits : (ps : List Pair) (l₀ l : List ℕ) (count : ℕ) → l ≡ written_pairs ps l₀ → count ≡ length ps → count ≤ length l
-unfolding written_pairs
-collected_fits ps l₀ l count e f =
-    let long : length l ≡ length (map pack ps) + length (drop (length ps) l₀) = ap length e ∙ length-append (map pack ps) (drop (length ps) l₀) in
-    omega (arith, long, length-map ps pack, f)
+module _ (ps : List Pair) (l₀ l : List ℕ) (count : ℕ) (e : l ≡ written_pairs ps l₀) (n : count ≡ length ps) where
+  pub collected_fits : count ≤ length l
+  unfolding written_pairs
+  collected_fits =
+      let long : length l ≡ length (map pack ps) + length (drop (length ps) l₀) = ap length e ∙ length-append (map pack ps) (drop (length ps) l₀) in
+      omega (arith, long, length-map ps pack, n)
 
-pub collected_named : (ps : List Pair) (l₀ l : List ℕ) (count : ℕ) → l ≡ written_pairs ps l₀ → count ≡ length ps → NodesListed ps → NamedBelow l count
-unfolding written_pairs
-collected_named ps l₀ l count e f h i low z =
-    named_written ps (drop (length ps) l₀) h i (omega (arith, low, f)) (ap (λ (xs : List ℕ). get_or xs i 0) (sym e) ∙ z)
+  pub collected_count : count ≡ length (take count l)
+  collected_count = sym (length-take-le count l collected_fits)
 
-pub collected_removed : {b b' : List ℕ} (ps : List Pair) (l₀ l : List ℕ) (count s : ℕ)
-    → l ≡ written_pairs ps l₀ → count ≡ length ps → NodesListed ps
-    → Edited b b' (remove_each s (take count l) (tuples_of b)) → Edited b b' (remove_nodes s ps (tuples_of b))
-unfolding written_pairs
-collected_removed {b} {b'} ps l₀ l count s e n h E =
-    subst (Edited b b') ((λ i. remove_each s (take (n i) (e i)) (tuples_of b)) ∙ each_node s ps (drop (length ps) l₀) (tuples_of b) h) E
+  -- the first words are those of the nodes
+  collected : take count l ≡ map pack ps
+  unfolding written_pairs
+  collected =
+      ap₂ (λ (k : ℕ) (xs : List ℕ). take k xs) (n ∙ sym (length-map ps pack)) e
+      ∙ take-append_seam (map pack ps) (drop (length ps) l₀)
 
-pub listed_most : {b : List ℕ} (l : Listing) (f : Fields) → Readable b → NamesAsked l f → length (listed l f (tuples_of b)) ≤ 4096
-listed_most {b} l f R asked = subst (λ (ps : List Pair). length ps ≤ 4096) (asked_listed l f (tuples_of b) asked) (entries_most b (query_of l f) R)
+  pub collected_named : NodesListed ps → Named (take count l)
+  collected_named h = subst Named (sym collected) (nodes_named ps h)
 
--- that many fit the local list, and the count is no greater
-pub collected_most : {b : List ℕ} (l : Listing) (f : Fields) (count : ℕ) → Readable b → NamesAsked l f → count ≡ length (listed l f (tuples_of b)) → count ≤ 4096
-collected_most {b} l f count R asked e = subst (λ (n : ℕ). n ≤ 4096) (sym e) (listed_most l f R asked)
+  pub collected_removed : {b b' : List ℕ} (s : ℕ) → NodesListed ps → Edited b b' (remove_each s (take count l) (tuples_of b))
+      → Edited b b' (remove_nodes s ps (tuples_of b))
+  collected_removed {b} {b'} s h E =
+      subst (Edited b b') (ap (λ (xs : List ℕ). remove_each s xs (tuples_of b)) collected ∙ each_node s ps (tuples_of b) h) E
+
+pub listed_most : {b : List ℕ} (l : Listing) (f : Fields) → Readable b → NamesAsked l f → length (listed l f (tuples_of b)) ≤ MOST_LISTED
+listed_most {b} l f R asked = subst (λ (ps : List Pair). length ps ≤ MOST_LISTED) (asked_listed l f (tuples_of b) asked) (entries_most b (query_of l f) R)
 
 -- ---- the nodes of pairs
 

@@ -1,5 +1,5 @@
 -- The edges that a D operator means; nodes removed one after the other, from a list of their names as words.
-use Rattle.std.specs.Prelude.{List, [], ◌∷◌, ◌≢◌, ◌≡◌, ℕ, ◌<◌, get_or}
+use Rattle.std.specs.Prelude.{List, [], ◌∷◌, ◌≢◌, ◌≡◌, ℕ, ◌<◌, length, get_or}
 use Rattle.model.specs.declared.Direction.{Direction}
 use Rattle.model.specs.declared.Fields.{Fields}
 use Rattle.model.specs.declared.Pair.{Pair}
@@ -17,9 +17,9 @@ unfoldable pub remove_each : ℕ → List ℕ → Tuples → Tuples
 remove_each s [] ts = ts
 remove_each s (n ∷ ns) ts = remove_each s ns (remove (node_taken s n) ts)
 
--- the first words of a list are names
-abbrev pub NamedBelow : List ℕ → ℕ → Type 0
-NamedBelow ns count = (i : ℕ) → i < count → get_or ns i 0 ≢ 0
+-- the words of a list are names
+abbrev pub Named : List ℕ → Type 0
+Named ns = (i : ℕ) → i < length ns → get_or ns i 0 ≢ 0
 
 -- an entry for a node: edge 0 and the name of a node
 abbrev pub NodeEntry : Pair → Type 0

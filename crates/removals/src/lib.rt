@@ -1,7 +1,7 @@
 #![tactic(auto)]
 // What the D operators remove from a store.
 // An inner layer: what its functions require, their callers have shown; only the entry refuses.
-ghost use Rattle.std.specs.Prelude.{◌≢◌, ◌≡◌, true, ◌≤◌, length, take};
+ghost use Rattle.std.specs.Prelude.{◌≢◌, ◌≡◌, true};
 ghost use Rattle.model.specs.declared.Removal.{Removal};
 ghost use Rattle.model.specs.Tuples.{remove};
 ghost use Rattle.layouts.specs.Buffer.{tuples_of, is_store};
@@ -11,7 +11,7 @@ ghost use Rattle.taken.specs.Selections.{passes};
 ghost use Rattle.located.specs.Located.{NearIn};
 ghost use Rattle.entries.specs.Queries.{Readable};
 ghost use Rattle.listings.specs.Lists.{NamesAsked};
-ghost use Rattle.removals.specs.Collected.{edges_of, remove_each, NamedBelow, NodesListed};
+ghost use Rattle.removals.specs.Collected.{edges_of, remove_each, Named, NodesListed};
 
 use located::Near;
 use model::{Direction, Fields, Listing};
@@ -104,18 +104,16 @@ pub fn destroy_space(b: &mut [u32], near: Near, f: Fields)
 
 // D 24–29: "the nodes of such pairs are collected first, then each is removed as by DUN".
 
-// Places for the nodes that are collected: two for each tuple that a store can hold.
-const MOST_COLLECTED: usize = 4096;
+// Places for the nodes that are collected: as many as any query lists.
+const MOST_COLLECTED: usize = entries::lists::MOST_LISTED;
 
-// Removes each of the first `count` nodes of a list from space s (0: from all spaces), with its edges.
-fn remove_each(b: &mut [u32], s: u32, nodes: &[u32], count: usize)
-    requires { Linked b.old × (count ≤ length nodes.now) × NamedBelow nodes.now count × (count ≤ 4096) }
-    ensures { Edited b.old b.new (remove_each s (take count nodes.now) (tuples_of b.old)) }
+// Removes each of some nodes from space s (0: from all spaces), with its edges.
+fn remove_each(b: &mut [u32], s: u32, nodes: &[u32])
+    requires { Linked b.old × Named nodes.now }
+    ensures { Edited b.old b.new (remove_each s nodes.now (tuples_of b.old)) }
 {
-    let mut i = 0;
-    while i < count {
-        remove_node(b, 0, NodeOf { s, n: nodes[i] });
-        i += 1;
+    for &n in nodes {
+        remove_node(b, 0, NodeOf { s, n });
     }
 }
 
@@ -126,7 +124,7 @@ fn remove_listed(b: &mut [u32], near: Near, l: Listing, f: Fields)
 {
     let mut nodes: [u32; MOST_COLLECTED] = [0; MOST_COLLECTED];
     let count = listings::write_listed(b, near, l, f, &mut nodes);
-    remove_each(b, f.s, &nodes, count);
+    remove_each(b, f.s, &nodes[..count]);
 }
 
 // D 24–26: removes the nodes of the pairs of node n.

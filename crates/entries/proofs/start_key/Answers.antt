@@ -1,19 +1,11 @@
-use Rattle.entries.proofs.KeyTests.{start_case}
 use Rattle.entries.specs.Queries.{start_key}
+use mathlib.Core.Path.{sym, ap, ◌∙◌}
 use Rattle.entries.proofs.start_key.Goals as goal
 
 pub returns-in-Pairs : goal.returns-in-Pairs
 unfolding start_key
-returns-in-Pairs c = search start_case
+returns-in-Pairs c = c.pairs_start.ensures ∙ sym (ap start_key c.in-Pairs.is)
 
-pub returns-in-Nodes : goal.returns-in-Nodes
+pub returns-in-Names : goal.returns-in-Names
 unfolding start_key
-returns-in-Nodes c = search start_case
-
-pub returns-in-Spaces : goal.returns-in-Spaces
-unfolding start_key
-returns-in-Spaces c = search start_case
-
-pub returns-in-SpacesOf : goal.returns-in-SpacesOf
-unfolding start_key
-returns-in-SpacesOf c = search start_case
+returns-in-Names c = c.names_start.ensures ∙ sym (ap start_key c.in-Names.is)

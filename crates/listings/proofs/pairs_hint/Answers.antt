@@ -1,4 +1,4 @@
-use Rattle.listings.proofs.Asked.{pairs_hint_as}
+use Rattle.listings.proofs.Asked.{space_hint, pairs_hint_as}
 use Rattle.listings.specs.Lists.{pairs_hint}
 use Rattle.listings.proofs.pairs_hint.Goals as goal
 
@@ -7,9 +7,4 @@ unfolding pairs_hint
 returns-in-Outpointing c = search pairs_hint_as
 
 pub returns-in-Inpointing : goal.returns-in-Inpointing
-unfolding pairs_hint
-returns-in-Inpointing c = search pairs_hint_as
-
-pub returns-in-Adjacent : goal.returns-in-Adjacent
-unfolding pairs_hint
-returns-in-Adjacent c = search pairs_hint_as
+returns-in-Inpointing c = search space_hint

@@ -1,6 +1,6 @@
 use Rattle.entries.specs.Cursors.{list_of}
 use Rattle.entries.proofs.EntryTests.{apart_first}
-use Rattle.entries.proofs.touching_entry.Goals as goal
+use Rattle.entries.proofs.PairQuerySource.entry.Goals as goal
 
 pub returns-then-not-touches : goal.returns-then-not-touches
 unfolding list_of
