@@ -45,6 +45,7 @@ fn list_at_once(b: &[u32], number: u32, f: Fields, list: &mut [u32]) -> Option<u
 }
 
 // A call on a store that no condition on the call alone stops, and whose space is looked up.
+#[tactic(auto, unfolding(model::specs::Refusals::first, model::specs::Refusals::of_call, model::specs::Refusals::selects_nothing))]
 fn look_up(store: &mut [u32], call: Call, d: Decoded, list: &mut [u32]) -> Result<Answer, Refusal>
     requires { (stored.is_store store.old ≡ true) × (d ≡ decoded call) × (first (of_call call) ≡ none) × (selects_nothing call ≡ false) × FieldsFit (fields_of call) }
     ensures { OnStore stored store.old list.old call result store.new list.new }

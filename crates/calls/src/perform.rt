@@ -12,6 +12,7 @@ use located::Near;
 use model::{Answer, Fields, Operator, Removal};
 
 // D: removes what the operator names.
+#[tactic(auto, unfolding(model::specs::Steps::destroyed, layouts::specs::Buffer::is_store, layouts::specs::Buffer::tuples_of))]
 fn destroy(b: &mut [u32], near: Near, r: Removal, f: Fields)
     requires { (is_store b.old ≡ true) × NearIn b.old near × NamesRead r f }
     ensures { Edited b.old b.new (destroyed r f (tuples_of b.old)) }
@@ -30,6 +31,7 @@ fn destroy(b: &mut [u32], near: Near, r: Removal, f: Fields)
 
 // What an operator answers with nothing as its space, where `name` is the call's first argument: no store is read or written.
 // Condition 12 stops V before.
+#[tactic(auto, unfolding(model::specs::OneCall::answer_of, model::specs::Steps::idle_reply))]
 pub fn idle(op: Operator, name: u16) -> Answer
     ensures { Ok result ≡ answer_of (idle_reply op name) }
 {

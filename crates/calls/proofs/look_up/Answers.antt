@@ -18,9 +18,6 @@ check_store-requires c =
     let U = universe_near _ L _ _ c.locate_universe-above.ensures in
     (c.requires.0, T, also_near _ L _ _ _ _ T.near U c.also_in_universe-universe.ensures, search unstopped)
 
-pub first_argument-name-requires : goal.first_argument-name-requires
-first_argument-name-requires c = search decoded_row
-
 pub returns-in_err-check_store : goal.returns-in_err-check_store
 returns-in_err-check_store c =
     let p = err_from_is_err_and c.from_residual.result c.from_residual.ensures.1 in

@@ -6,22 +6,13 @@ pub returns-then-not-row : goal.returns-then-not-row
 unfolding of_call
 returns-then-not-row c = search (stops, row_known)
 
-pub zero_name-requires : goal.zero_name-requires
-zero_name-requires c = search row_reads
-
 pub returns-then-zero_name : goal.returns-then-zero_name
 unfolding of_call
 returns-then-zero_name c = search (passes, stops, row_known) depth 14
 
-pub lacks_space-requires : goal.lacks_space-requires
-lacks_space-requires c = (search row_asks, search)
-
 pub returns-then-lacks_space : goal.returns-then-lacks_space
 unfolding of_call
 returns-then-lacks_space c = search (passes, stops, row_known) depth 14
-
-pub destroys_universe-requires : goal.destroys_universe-requires
-destroys_universe-requires c = search row_asks
 
 pub returns-then-destroys_universe : goal.returns-then-destroys_universe
 unfolding of_call

@@ -15,9 +15,6 @@ pub returns-then-node_absent : goal.returns-then-node_absent
 unfolding of_store of_tuples
 returns-then-node_absent c = search (passes, stops) depth 14
 
-pub second_absent-requires : goal.second_absent-requires
-second_absent-requires c = (search, search, search tested)
-
 pub returns-then-second_absent : goal.returns-then-second_absent
 unfolding of_store of_tuples
 returns-then-second_absent c = search (passes, stops) depth 14

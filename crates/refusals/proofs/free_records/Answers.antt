@@ -3,6 +3,3 @@ use Rattle.refusals.proofs.free_records.Goals as goal
 
 pub overflow_sub-result : goal.overflow_sub-result
 overflow_sub-result c = search used_fits
-
-pub returns : goal.returns
-returns c = search free_told

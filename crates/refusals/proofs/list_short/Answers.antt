@@ -12,6 +12,3 @@ returns-then-surely_fits c = search surely_not_short
 
 pub count_listed-requires : goal.count_listed-requires
 count_listed-requires c = search store_readable
-
-pub returns : goal.returns
-returns c = search short_counted
