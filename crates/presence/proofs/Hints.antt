@@ -16,7 +16,7 @@ use Rattle.model.specs.Tuples.{present}
 use Rattle.layouts.specs.Buffer.{capacity_of, key_at, tuples_of}
 use Rattle.model.proofs.Bools.{or_cases, and_left, and_right, not_yes}
 use Rattle.model.proofs.Tuples.{same_key_lem}
-use Rattle.presence.specs.Presence.{is_at, no_marks, Held, Marked, MarksHold, MarksFit, mark_count, mark_tries, mark_step, space_factor, edge_factor, second_factor}
+use Rattle.presence.specs.Presence.{is_at, no_marks, Held, Marked, MarksHold, MarksFit, mark_count, mark_tries, mark_step}
 use Rattle.presence.specs.Presence.{node_mark, edge_mark, edge_record, node_slot, edge_slot, with_mark, with_node_mark, with_edge_mark, with_named, look_from, Tells, LooksFor, node_shown, edge_shown}
 
 -- ---- places
@@ -36,14 +36,6 @@ node_slot_fits s n at e = omega (arith, e, node_slot_below s n)
 pub edge_slot_fits : (k : Key) (at : ℕ) → at ≡ edge_slot k → at < mark_count
 edge_slot_fits k at e = omega (arith, e, edge_slot_below k)
 
-pub node_slot_sum : (s n i j : ℕ) → i ≡ s → j ≡ n → (space_factor * i + j) % mark_count ≡ node_slot s n
-unfolding node_slot
-node_slot_sum s n i j p q = ap₂ (λ (x y : ℕ). (space_factor * x + y) % mark_count) p q
-
-pub edge_slot_sum : (k : Key) (n g m : ℕ) → n ≡ k.n → g ≡ k.g → m ≡ k.m → (n + edge_factor * g + second_factor * m) % mark_count ≡ edge_slot k
-unfolding edge_slot
-edge_slot_sum k n g m q r t = λ i. (q i + edge_factor * r i + second_factor * t i) % mark_count
-
 -- ---- one mark
 
 pub record_of_node : (w : ℕ) → w % name_count ≢ 0 → 0 ≡ edge_record w
@@ -53,9 +45,6 @@ record_of_node w h = simp (ne_eqb (w % name_count) 0 h)
 record_of_edge : (w : ℕ) → w % name_count ≡ 0 → w / name_count ≡ edge_record w
 unfolding edge_record
 record_of_edge w h = simp (eq-eqb (w % name_count) 0 h)
-
-pub record_told : (w i : ℕ) → w % name_count ≡ 0 → i ≡ w / name_count → i ≡ edge_record w
-record_told w i h e = e ∙ record_of_edge w h
 
 node_record : (s n : ℕ) → n ≢ 0 → n ≤ most_name → 0 ≡ edge_record (node_mark s n)
 unfolding node_mark
@@ -189,9 +178,6 @@ pub record LookingFor (told : ℕ → Bool → Type 0) (ms : List ℕ) (from at 
   pub rest : (p : ℕ → Bool) → Tells told ms p → Looking p ms from at tried
 
 module _ (told : ℕ → Bool → Type 0) (ms : List ℕ) (from : ℕ) where
-  pub looking_start : from < mark_count → LookingFor told ms from from 0
-  looking_start h = record { below = h; rest = λ p t. look_start p ms from }
-
   module _ (at tried : ℕ) (L : LookingFor told ms from at tried) where
     module _ (h : tried < mark_tries) (w : ℕ) (e : w ≡ get_or ms at 0) (r : Bool) (f : told w r) where
       answer : (p : ℕ → Bool) → Tells told ms p → p (get_or ms at 0) ≡ r
@@ -294,9 +280,6 @@ pub record Placing (ms₀ ms : List ℕ) (i at₀ at tried : ℕ) : Type 0 where
   pub rest : with_mark (mark_tries - tried) ms₀ at i ≡ with_mark mark_tries ms₀ at₀ i
 
 module _ (ms₀ : List ℕ) (i : ℕ) where
-  pub placing_start : (at : ℕ) → at < mark_count → Placing ms₀ ms₀ i at at 0
-  placing_start at h = record { same = refl; below = h; rest = refl }
-
   module _ (ms : List ℕ) (at₀ at tried : ℕ) (P : Placing ms₀ ms i at₀ at tried) where
     -- one more place is looked at
     one_place : tried < mark_tries

@@ -2,7 +2,7 @@
 use mathlib.Core.Bool.{Bool, true, false, cond, not, ◌&&◌, ◌||◌}
 use mathlib.Core.List.{List}
 use mathlib.Core.Logic.{◌≢◌}
-use mathlib.Core.Path.{◌≡◌, refl, sym, ap, ◌∙◌, subst}
+use mathlib.Core.Path.{◌≡◌, sym, ap, ◌∙◌, subst}
 use Prim.Native.Nat.{ℕ, ◌+◌, ◌-◌, ◌≤◌, ◌<◌}
 use native.Mathlib.Omega.{arith}
 use lib.Dec.{eqb, leb}
@@ -12,7 +12,7 @@ use borrow.Author.Tests.{eqb-true, eqb-false, eq-eqb, ne_eqb, leb-true}
 use Rattle.model.specs.declared.Key.{Key}
 use Rattle.model.specs.Keys.{most_name, node_key}
 use Rattle.model.specs.Tuples.{Tuples, present}
-use Rattle.layouts.specs.Buffer.{capacity_of, key_at, tuples_of}
+use Rattle.layouts.specs.Buffer.{key_at, tuples_of}
 use Rattle.model.specs.Numbers.{every_up_to}
 use Rattle.model.specs.Rules.{small_key, no_edge_without_node, edge_has_end}
 use Rattle.model.proofs.Bools.{and_left, and_right, not_yes, failed, clash}
@@ -95,9 +95,6 @@ none_kept_lem b kept e =
 pub record EndsThere (b : List ℕ) (kept : KeptRecords) (tried : ℕ) : Type 0 where
   pub each : (j : ℕ) → j < tried → end_there (tuples_of b) (key_at b (get_or kept.records j 0)) ≡ true
 
-pub ends_start : (b : List ℕ) (kept : KeptRecords) → EndsThere b kept 0
-ends_start b kept = record { each = λ j h. absurd (omega arith) }
-
 module _ (b : List ℕ) (kept : KeptRecords) (K : KeptHold b kept) (j : ℕ) (xs : List ℕ) (taken : xs ≡ take kept.count kept.records) where
   kept_length : length xs ≡ kept.count
   kept_length = ap length taken ∙ length-take-le kept.count kept.records (omega (arith, K.size, K.few))
@@ -116,10 +113,6 @@ module _ (b : List ℕ) (kept : KeptRecords) (K : KeptHold b kept) (j : ℕ) (xs
     same_record : i ≡ get_or kept.records j 0
     same_record = e ∙ ap (λ (ys : List ℕ). get_or ys j 0) taken ∙ get_or-take kept.count kept.records j 0 below
 
-    pub kept_record : (i ≢ 0) × (i ≤ capacity_of b) × (good_key (key_at b i) ≡ true)
-    kept_record =
-        subst (λ (x : ℕ). (x ≢ 0) × (x ≤ capacity_of b) × (good_key (key_at b x) ≡ true)) (sym same_record) (K.named j below)
-
     module _ (r : Bool) (f : r ≡ end_there (tuples_of b) (key_at b i)) where
       this_end : end_there (tuples_of b) (key_at b (get_or kept.records j 0)) ≡ r
       this_end = ap (λ (x : ℕ). end_there (tuples_of b) (key_at b x)) (sym same_record) ∙ sym f
@@ -133,10 +126,3 @@ module _ (b : List ℕ) (kept : KeptRecords) (K : KeptHold b kept) (j : ℕ) (xs
 
           here : test (j + 1) ≡ false
           here = let z : j + 1 - 1 ≡ j = omega arith in ap (λ (k : ℕ). end_there (tuples_of b) (key_at b (get_or kept.records k 0))) z ∙ this_end ∙ y
-
-      pub ends_next : EndsThere b kept j → r ≡ true → EndsThere b kept (j + 1)
-      ends_next E y = record { each = λ k l. go k (eqb k j) refl l }
-        where
-          go : (k : ℕ) (t : Bool) → eqb k j ≡ t → k < j + 1 → end_there (tuples_of b) (key_at b (get_or kept.records k 0)) ≡ true
-          go k true f l = ap (λ (x : ℕ). end_there (tuples_of b) (key_at b (get_or kept.records x 0))) (eqb-true k j f) ∙ this_end ∙ y
-          go k false f l = let other : k ≢ j = eqb-false k j f in E.each k (omega arith)

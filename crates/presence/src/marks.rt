@@ -32,6 +32,7 @@ const EDGE_FACTOR: usize = 3571;
 const SECOND_FACTOR: usize = 2741;
 
 // The mark of node n in s.
+#[tactic(auto, unfolding(crate::specs::Presence::node_mark))]
 fn node_mark(s: u32, n: u32) -> u32
     requires { (s ≤ most_name) × (n ≤ most_name) }
     ensures { result ≡ node_mark s n }
@@ -40,6 +41,7 @@ fn node_mark(s: u32, n: u32) -> u32
 }
 
 // The mark of the edge tuple of 0 in record i.
+#[tactic(auto, unfolding(crate::specs::Presence::edge_mark))]
 fn edge_mark(i: usize) -> u32
     requires { i ≤ most_index }
     ensures { result ≡ edge_mark i }
@@ -48,6 +50,7 @@ fn edge_mark(i: usize) -> u32
 }
 
 // The record of an edge tuple's mark; 0 for no mark and for the mark of a node.
+#[tactic(auto, unfolding(crate::specs::Presence::edge_record))]
 fn edge_record(w: u32) -> usize
     ensures { result ≡ edge_record w }
 {
@@ -58,6 +61,7 @@ fn edge_record(w: u32) -> usize
 }
 
 // The place where the mark of node n in s is sought first.
+#[tactic(auto, unfolding(crate::specs::Presence::node_slot))]
 fn node_slot(s: u32, n: u32) -> usize
     ensures { result ≡ node_slot s n }
 {
@@ -65,6 +69,7 @@ fn node_slot(s: u32, n: u32) -> usize
 }
 
 // The place where the mark of an edge tuple of 0 is sought first.
+#[tactic(auto, unfolding(crate::specs::Presence::edge_slot))]
 fn edge_slot(k: Key) -> usize
     ensures { result ≡ edge_slot k }
 {

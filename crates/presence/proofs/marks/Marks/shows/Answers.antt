@@ -1,12 +1,5 @@
-use native.Mathlib.Omega.{arith}
-use Rattle.presence.proofs.Hints.{looking_start, looking_found, looking_none, looking_next, looking_end}
+use Rattle.presence.proofs.Hints.{looking_found, looking_none, looking_next, looking_end}
 use Rattle.presence.proofs.marks.Marks.shows.Goals as goal
-
-pub loop-init : goal.loop-init
-loop-init g c = looking_start _ _ _ c.requires.0
-
-pub at-w-requires : goal.at-w-requires
-at-w-requires g c = omega (arith, c.loop.invariant.below)
 
 pub returns-then-is_wanted : goal.returns-then-is_wanted
 returns-then-is_wanted g c = looking_found _ _ _ _ _ c.loop.invariant c.loop-test.true _ c.at-w.ensures _ c.is_wanted.ensures c.if-is_wanted.true
