@@ -126,9 +126,6 @@ pub record Looking (p : ℕ → Bool) (ms : List ℕ) (from at tried : ℕ) : Ty
   pub rest : look_from p (mark_tries - tried) ms at ≡ look_from p mark_tries ms from
 
 module _ (p : ℕ → Bool) (ms : List ℕ) (from : ℕ) where
-  pub look_start : Looking p ms from from 0
-  look_start = record { rest = refl }
-
   module _ (at tried : ℕ) (L : Looking p ms from at tried) where
     one : tried < mark_tries
         → cond (p (get_or ms at 0)) true (cond (eqb (get_or ms at 0) 0) false (look_from p (mark_tries - (tried + 1)) ms ((at + mark_step) % mark_count)))

@@ -102,6 +102,7 @@ fn finish(b: &[u32], w: Walk) -> Option<Walked>
     let mut left = w.left;
     let mut at = w.at;
     let mut last = w.last;
+    // By hand: a turn takes a whole run of records, so no range of turns counts what is left.
     while at != 0 {
         if at > c {
             return None;

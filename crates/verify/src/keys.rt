@@ -106,6 +106,7 @@ pub fn walk_used(b: &[u32], marks: &mut Marks, kept: &mut KeptRecords) -> Option
     let mut left = c - 1;
     let mut last = words::head_word(b, 1);
     let mut at = chain::next_of(b, last);
+    // By hand: the walk ends where the chain does; a range of turns would be a second end beside it.
     while at != 0 {
         if !may_meet(c, left, at) {
             return None;
