@@ -70,7 +70,7 @@ impl KeptRecords {
 
     // Keeps record `at` of an edge with key k where its second end is not shown.
     #[tactic(auto, unfolding(crate::specs::Presence::kept_unless_shown))]
-    pub fn keep_end(&mut self, marks: &Marks, k: Key, at: usize)
+    pub(crate) fn keep_end(&mut self, marks: &Marks, k: Key, at: usize)
         requires { (self.old.count < kept_count) × (k.s ≤ most_name) × (k.m ≤ most_name) × (at ≤ most_index) }
         ensures { self.new ≡ kept_unless_shown marks.now.words self.old k at }
     {
@@ -80,7 +80,7 @@ impl KeptRecords {
     }
 
     // Are the second ends there of the records that are kept.
-    pub fn all_ends(&self, b: &[u32], marks: &Marks) -> bool
+    pub(crate) fn all_ends(&self, b: &[u32], marks: &Marks) -> bool
         requires { Sorted b.now × MarksHold b.now marks.now.words × KeptHold b.now self.now }
         ensures { result ≡ every_end b.now self.now }
     {

@@ -120,7 +120,7 @@ impl Marks {
 
     // Marks a key without g, where it is a node's.
     #[tactic(auto, using(crate::proofs::Hints::node_slot_fits), unfolding(crate::specs::Presence::with_node_mark))]
-    pub fn mark_node(&mut self, k: Key)
+    pub(crate) fn mark_node(&mut self, k: Key)
         requires { (k.s ≤ most_name) × (k.n ≤ most_name) }
         ensures { self.new.words ≡ with_node_mark self.old.words k }
     {
@@ -132,7 +132,7 @@ impl Marks {
 
     // Marks an edge tuple in record i, where it is one of 0.
     #[tactic(auto, using(crate::proofs::Hints::edge_slot_fits), unfolding(crate::specs::Presence::with_edge_mark))]
-    pub fn mark_edge(&mut self, k: Key, i: usize)
+    pub(crate) fn mark_edge(&mut self, k: Key, i: usize)
         requires { i ≤ most_index }
         ensures { self.new.words ≡ with_edge_mark self.old.words k i }
     {
@@ -162,7 +162,7 @@ impl Marks {
     }
 
     // Do the marks show node n in s.
-    pub fn shows_node(&self, s: u32, n: u32) -> bool
+    pub(crate) fn shows_node(&self, s: u32, n: u32) -> bool
         requires { (s ≤ most_name) × (n ≤ most_name) }
         ensures { result ≡ node_shown self.now.words s n }
     {
@@ -171,7 +171,7 @@ impl Marks {
     }
 
     // Do they show the edge tuple of 0 with the n, g, m of a key.
-    pub fn shows_edge(&self, b: &[u32], k: Key) -> bool
+    pub(crate) fn shows_edge(&self, b: &[u32], k: Key) -> bool
         requires { Walkable b.now × MarksFit b.now self.now.words }
         ensures { result ≡ edge_shown b.now self.now.words k }
     {
@@ -191,7 +191,7 @@ impl Marks {
     }
 
     // Is node n of s in the used chain: the marks are looked at first.
-    pub fn has_node(&self, b: &[u32], s: u32, n: u32) -> bool
+    pub(crate) fn has_node(&self, b: &[u32], s: u32, n: u32) -> bool
         requires { Sorted b.now × MarksHold b.now self.now.words × (s ≤ most_name) × (n ≤ most_name) × (n ≢ 0) }
         ensures { result ≡ present (node_key s n) (tuples_of b.now) }
     {
