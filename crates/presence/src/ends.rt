@@ -30,7 +30,7 @@ fn edge_sure(b: &[u32], marks: &Marks, sure: bool, key: Key, k: Key) -> bool
 
 // Takes record `at` with key k, which follows another: looks for what it names, keeps it where its second end is not shown, and marks it.
 // Gives whether all is there still that the tuples name, but for second ends that are kept; what is kept decides where it is.
-#[tactic(auto, using(crate::proofs::Shows::good_s, crate::proofs::Shows::good_n, crate::proofs::Shows::good_m), unfolding(crate::specs::Presence::settled, crate::specs::Presence::with_named, crate::specs::Presence::kept_with, crate::specs::Presence::nothing_kept, crate::specs::Presence::kept_unless_shown))]
+#[tactic(auto, unfolding(crate::specs::Presence::settled, crate::specs::Presence::with_named, crate::specs::Presence::kept_with, crate::specs::Presence::nothing_kept, crate::specs::Presence::kept_unless_shown))]
 pub fn take(
     b: &[u32],
     marks: &mut Marks,

@@ -7,7 +7,8 @@ ghost use Rattle.model.specs.Keys.{most_name, node_key};
 ghost use Rattle.model.specs.Tuples.{present};
 ghost use Rattle.layouts.specs.Buffer.{capacity_of, tuples_of};
 ghost use Rattle.words.specs.Words.{most_index};
-ghost use Rattle.presence.specs.Presence.{Walkable, Sorted, MarksHold, MarksFit, mark_count, mark_tries, no_marks, with_mark, with_node_mark, with_edge_mark, node_shown, edge_shown, node_mark, edge_mark, edge_record, node_slot, edge_slot, LooksFor, is_at};
+ghost use Rattle.presence.specs.Presence.{Walkable, Sorted, MarksHold, MarksFit, mark_count, mark_tries, no_marks, with_mark, with_node_mark, with_edge_mark};
+ghost use Rattle.presence.specs.Presence.{node_shown, edge_shown, node_mark, edge_mark, edge_record, node_slot, edge_slot, LooksFor, is_at};
 
 use super::seek::{holds_from, is_at};
 use model::Key;
