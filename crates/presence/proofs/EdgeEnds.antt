@@ -38,21 +38,6 @@ less_space j k e = go (compare j.s k.s) refl e
 other_space : (j k : Key) → (j.s ≡ k.s → ⊥) → same_key j k ≡ false
 other_space j k h = failed (same_key j k) (λ e. h (ap (λ (x : Key). x.s) (same_key_lem j k e)))
 
--- ---- the first record of a space
-
-module _ (b : List ℕ) (first i : ℕ) (k j : Key) (e : k ≡ key_at b first) (f : j ≡ key_at b i) where
-  pub start_same : k.s ≡ j.s → first ≡ space_start b first i
-  unfolding space_start
-  start_same h =
-      let same : (key_at b first).s ≡ (key_at b i).s = ap (λ (x : Key). x.s) (sym e) ∙ h ∙ ap (λ (x : Key). x.s) f in
-      simp (eq-eqb (key_at b first).s (key_at b i).s same)
-
-  pub start_other : (k.s ≡ j.s → ⊥) → i ≡ space_start b first i
-  unfolding space_start
-  start_other h =
-      let other : (key_at b first).s ≡ (key_at b i).s → ⊥ = λ z. h (ap (λ (x : Key). x.s) e ∙ z ∙ ap (λ (x : Key). x.s) (sym f)) in
-      simp (ne_eqb (key_at b first).s (key_at b i).s other)
-
 -- ---- the walk
 
 -- the tuples from `space` on are all of its space and later ones, those from `at` on all of later spaces

@@ -6,7 +6,7 @@ use mathlib.Core.Path.{◌≡◌, refl, sym, ap, ap₂, ◌∙◌, subst}
 use Prim.Native.Nat.{ℕ, zero, suc, ◌+◌, ◌-◌, ◌*◌, ◌/◌, ◌%◌, ◌≤◌, ◌<◌}
 use native.Mathlib.Omega.{arith}
 use lib.Dec.{eqb, ltb}
-use lib.ListN.{length, get_or, set, replicate, length-set, length-replicate, get_or-replicate, get_or-eq_default}
+use lib.ListN.{length, get_or, set, length-replicate, get_or-replicate, get_or-eq_default}
 use lib.Seq.{get_or-set_same, get_or-set_other, set_out}
 use borrow.Author.Tests.{eqb-true, eqb-false, eq-eqb, ne_eqb, ltb-true, ltb-false}
 use Rattle.model.specs.declared.Key.{Key}
@@ -16,7 +16,7 @@ use Rattle.model.specs.Tuples.{present}
 use Rattle.layouts.specs.Buffer.{capacity_of, key_at, tuples_of}
 use Rattle.model.proofs.Bools.{or_cases, and_left, and_right, not_yes}
 use Rattle.model.proofs.Tuples.{same_key_lem}
-use Rattle.presence.specs.Presence.{is_at, Held, Marked, Marks, MarksFit, mark_count, mark_tries, mark_step, space_factor, edge_factor, second_factor}
+use Rattle.presence.specs.Presence.{is_at, no_marks, Held, Marked, MarksHold, MarksFit, mark_count, mark_tries, mark_step}
 use Rattle.presence.specs.Presence.{node_mark, edge_mark, edge_record, node_slot, edge_slot, with_mark, with_node_mark, with_edge_mark, with_named, look_from, Tells, LooksFor, node_shown, edge_shown}
 
 -- ---- places
@@ -36,14 +36,6 @@ node_slot_fits s n at e = omega (arith, e, node_slot_below s n)
 pub edge_slot_fits : (k : Key) (at : ℕ) → at ≡ edge_slot k → at < mark_count
 edge_slot_fits k at e = omega (arith, e, edge_slot_below k)
 
-pub node_slot_sum : (s n i j : ℕ) → i ≡ s → j ≡ n → (space_factor * i + j) % mark_count ≡ node_slot s n
-unfolding node_slot
-node_slot_sum s n i j p q = ap₂ (λ (x y : ℕ). (space_factor * x + y) % mark_count) p q
-
-pub edge_slot_sum : (k : Key) (n g m : ℕ) → n ≡ k.n → g ≡ k.g → m ≡ k.m → (n + edge_factor * g + second_factor * m) % mark_count ≡ edge_slot k
-unfolding edge_slot
-edge_slot_sum k n g m q r t = λ i. (q i + edge_factor * r i + second_factor * t i) % mark_count
-
 -- ---- one mark
 
 pub record_of_node : (w : ℕ) → w % name_count ≢ 0 → 0 ≡ edge_record w
@@ -53,9 +45,6 @@ record_of_node w h = simp (ne_eqb (w % name_count) 0 h)
 record_of_edge : (w : ℕ) → w % name_count ≡ 0 → w / name_count ≡ edge_record w
 unfolding edge_record
 record_of_edge w h = simp (eq-eqb (w % name_count) 0 h)
-
-pub record_told : (w i : ℕ) → w % name_count ≡ 0 → i ≡ w / name_count → i ≡ edge_record w
-record_told w i h e = e ∙ record_of_edge w h
 
 node_record : (s n : ℕ) → n ≢ 0 → n ≤ most_name → 0 ≡ edge_record (node_mark s n)
 unfolding node_mark
@@ -113,7 +102,7 @@ looked p Q (suc left) ms at h e =
     ⊎_elim (λ t. h at t) (λ t. looked p Q left ms ((at + mark_step) % mark_count) h (and_right (not (eqb (get_or ms at 0) 0)) _ t))
     (or_cases (p (get_or ms at 0)) _ e)
 
-module _ (b ms : List ℕ) (M : Marks b ms) where
+module _ (b ms : List ℕ) (M : MarksHold b ms) where
   pub show_node : (s n : ℕ) → n ≢ 0 → n ≤ most_name → node_shown ms s n ≡ true → present (node_key s n) (tuples_of b) ≡ true
   unfolding node_shown
   show_node s n h l e =
@@ -129,17 +118,14 @@ module _ (b ms : List ℕ) (M : Marks b ms) where
       looked (λ (w : ℕ). is_at b (edge_record w) (edge_key 0 k.n k.g k.m)) (present (edge_key 0 k.n k.g k.m) (tuples_of b) ≡ true) mark_tries ms
       (edge_slot k) (λ j t. shown b (edge_record (get_or ms j 0)) (edge_key 0 k.n k.g k.m) (M.held j).edge t) e
 
-pub marks_fit : (b ms : List ℕ) → Marks b ms → MarksFit b ms
-marks_fit b ms M = record { size = M.size; low = λ j. (M.held j).edge.high }
+pub marks_fit : (b ms : List ℕ) → MarksHold b ms → MarksFit b ms
+marks_fit b ms M = record { low = λ j. (M.held j).edge.high }
 
 -- what is left of looking at the marks, at a place after so many
 pub record Looking (p : ℕ → Bool) (ms : List ℕ) (from at tried : ℕ) : Type 0 where
   pub rest : look_from p (mark_tries - tried) ms at ≡ look_from p mark_tries ms from
 
 module _ (p : ℕ → Bool) (ms : List ℕ) (from : ℕ) where
-  pub look_start : Looking p ms from from 0
-  look_start = record { rest = refl }
-
   module _ (at tried : ℕ) (L : Looking p ms from at tried) where
     one : tried < mark_tries
         → cond (p (get_or ms at 0)) true (cond (eqb (get_or ms at 0) 0) false (look_from p (mark_tries - (tried + 1)) ms ((at + mark_step) % mark_count)))
@@ -189,9 +175,6 @@ pub record LookingFor (told : ℕ → Bool → Type 0) (ms : List ℕ) (from at 
   pub rest : (p : ℕ → Bool) → Tells told ms p → Looking p ms from at tried
 
 module _ (told : ℕ → Bool → Type 0) (ms : List ℕ) (from : ℕ) where
-  pub looking_start : from < mark_count → LookingFor told ms from from 0
-  looking_start h = record { below = h; rest = λ p t. look_start p ms from }
-
   module _ (at tried : ℕ) (L : LookingFor told ms from at tried) where
     module _ (h : tried < mark_tries) (w : ℕ) (e : w ≡ get_or ms at 0) (r : Bool) (f : told w r) where
       answer : (p : ℕ → Bool) → Tells told ms p → p (get_or ms at 0) ≡ r
@@ -211,14 +194,11 @@ module _ (told : ℕ → Bool → Type 0) (ms : List ℕ) (from : ℕ) where
 
 -- ---- no marks
 
-abbrev pub no_marks : List ℕ
-no_marks = replicate mark_count 0
-
 length_no_marks : length no_marks ≡ mark_count
 length_no_marks = length-replicate {A = ℕ} mark_count 0
 
-pub no_marks_lem : (b : List ℕ) → Marks b no_marks
-no_marks_lem b = record { size = length_no_marks; held = λ j. subst (Marked b) (sym (none j)) (no_mark b) }
+pub no_marks_lem : (b ms : List ℕ) → ms ≡ no_marks → MarksHold b ms
+no_marks_lem b ms e = subst (MarksHold b) (sym e) (record { held = λ j. subst (Marked b) (sym (none j)) (no_mark b) })
   where
     none : (j : ℕ) → get_or no_marks j 0 ≡ 0
     none j = go (ltb j mark_count) refl
@@ -272,32 +252,11 @@ module _ (P : ℕ → Type 0) (k : Key) (i : ℕ) (n : k.g ≡ 0 → k.n ≢ 0 �
       go false e z f true = mark_all P (edge_mark i) r mark_tries ms (edge_slot k) h
       go false e z f false = h
 
-same_length : (t : Bool) (xs ys zs : List ℕ) → length xs ≡ length zs → length ys ≡ length zs → length (cond t xs ys) ≡ length zs
-same_length true xs ys zs x y = x
-same_length false xs ys zs x y = y
-
-mark_length : (left : ℕ) (ms : List ℕ) (at i : ℕ) → length (with_mark left ms at i) ≡ length ms
-unfolding with_mark
-mark_length zero ms at i = refl
-mark_length (suc left) ms at i =
-    same_length (eqb (get_or ms at 0) 0) (set ms at i) (with_mark left ms ((at + mark_step) % mark_count) i) ms (length-set ms at i)
-    (mark_length left ms ((at + mark_step) % mark_count) i)
-
-named_length : (ms : List ℕ) (k : Key) (i : ℕ) → length (with_named ms k i) ≡ length ms
-unfolding with_named with_node_mark with_edge_mark
-named_length ms k i =
-    same_length (eqb k.g 0) (cond (eqb k.n 0) ms (with_mark mark_tries ms (node_slot k.s k.n) (node_mark k.s k.n)))
-    (cond (eqb k.s 0) (with_mark mark_tries ms (edge_slot k) (edge_mark i)) ms) ms
-    (same_length (eqb k.n 0) ms (with_mark mark_tries ms (node_slot k.s k.n) (node_mark k.s k.n)) ms refl
-    (mark_length mark_tries ms (node_slot k.s k.n) (node_mark k.s k.n)))
-    (same_length (eqb k.s 0) (with_mark mark_tries ms (edge_slot k) (edge_mark i)) ms ms (mark_length mark_tries ms (edge_slot k) (edge_mark i)) refl)
-
 module _ (b ms : List ℕ) (k : Key) (i : ℕ) (low : k.n ≤ most_name) (ms' : List ℕ) (e : ms' ≡ with_named ms k i) where
-  pub named_marks : Marks b ms → Held b i → (k.g ≡ 0 → present (node_key k.s k.n) (tuples_of b) ≡ true) → Marks b ms'
+  pub named_marks : MarksHold b ms → Held b i → (k.g ≡ 0 → present (node_key k.s k.n) (tuples_of b) ≡ true) → MarksHold b ms'
   named_marks M H t =
-      subst (Marks b) (sym e)
+      subst (MarksHold b) (sym e)
       (record {
-        size = named_length ms k i ∙ M.size;
         held =
             named_all (Marked b) k i (λ g n. node_marked b k.s k.n n low (t g)) (edge_marked b i H) ms M.held;
       })
@@ -306,31 +265,10 @@ module _ (b ms : List ℕ) (k : Key) (i : ℕ) (low : k.n ≤ most_name) (ms' : 
   named_fit F h =
       subst (MarksFit b) (sym e)
       (record {
-        size = named_length ms k i ∙ F.size;
         low =
             named_all (λ (w : ℕ). edge_record w ≤ capacity_of b) k i (λ g n. omega (arith, node_record k.s k.n n low)) (omega (arith, edge_record_lem i)) ms
             F.low;
       })
-
--- ---- one mark put
-
-module _ (ms : List ℕ) (k : Key) where
-  pub node_none : k.n ≡ 0 → ms ≡ with_node_mark ms k
-  unfolding with_node_mark
-  node_none e = simp (eq-eqb k.n 0 e)
-
-  pub node_some : k.n ≢ 0 → (at w : ℕ) → at ≡ node_slot k.s k.n → w ≡ node_mark k.s k.n → (ms' : List ℕ) → ms' ≡ with_mark mark_tries ms at w → ms' ≡ with_node_mark ms k
-  unfolding with_node_mark
-  node_some n at w e f ms' g = g ∙ ap₂ (with_mark mark_tries ms) e f ∙ simp (ne_eqb k.n 0 n)
-
-  module _ (i : ℕ) where
-    pub edge_none : k.s ≢ 0 → ms ≡ with_edge_mark ms k i
-    unfolding with_edge_mark
-    edge_none n = simp (ne_eqb k.s 0 n)
-
-    pub edge_some : k.s ≡ 0 → (at w : ℕ) → at ≡ edge_slot k → w ≡ edge_mark i → (ms' : List ℕ) → ms' ≡ with_mark mark_tries ms at w → ms' ≡ with_edge_mark ms k i
-    unfolding with_edge_mark
-    edge_some e at w f g ms' h = h ∙ ap₂ (with_mark mark_tries ms) f g ∙ simp (eq-eqb k.s 0 e)
 
 -- what is left of the search for a place, at a place after so many
 pub record Placing (ms₀ ms : List ℕ) (i at₀ at tried : ℕ) : Type 0 where
@@ -339,9 +277,6 @@ pub record Placing (ms₀ ms : List ℕ) (i at₀ at tried : ℕ) : Type 0 where
   pub rest : with_mark (mark_tries - tried) ms₀ at i ≡ with_mark mark_tries ms₀ at₀ i
 
 module _ (ms₀ : List ℕ) (i : ℕ) where
-  pub placing_start : (at : ℕ) → at < mark_count → Placing ms₀ ms₀ i at at 0
-  placing_start at h = record { same = refl; below = h; rest = refl }
-
   module _ (ms : List ℕ) (at₀ at tried : ℕ) (P : Placing ms₀ ms i at₀ at tried) where
     -- one more place is looked at
     one_place : tried < mark_tries

@@ -2,24 +2,23 @@
 use mathlib.Core.Bool.{Bool, true, false, cond, not, ◌&&◌, ◌||◌}
 use mathlib.Core.List.{List}
 use mathlib.Core.Logic.{◌≢◌}
-use mathlib.Core.Path.{◌≡◌, refl, sym, ap, ap₂, ◌∙◌, subst}
-use Prim.Native.Nat.{ℕ, suc, ◌+◌, ◌-◌, ◌≤◌, ◌<◌}
+use mathlib.Core.Path.{◌≡◌, sym, ap, ◌∙◌, subst}
+use Prim.Native.Nat.{ℕ, ◌+◌, ◌-◌, ◌≤◌, ◌<◌}
 use native.Mathlib.Omega.{arith}
 use lib.Dec.{eqb, leb}
-use lib.ListN.{length, get_or, take, set}
+use lib.ListN.{length, length-replicate, get_or, take}
 use Rattle.std.proofs.lemmas.List.{length-take-le, get_or-take}
 use borrow.Author.Tests.{eqb-true, eqb-false, eq-eqb, ne_eqb, leb-true}
 use Rattle.model.specs.declared.Key.{Key}
 use Rattle.model.specs.Keys.{most_name, node_key}
 use Rattle.model.specs.Tuples.{Tuples, present}
-use Rattle.layouts.specs.Buffer.{capacity_of, key_at, tuples_of}
+use Rattle.layouts.specs.Buffer.{key_at, tuples_of}
 use Rattle.model.specs.Numbers.{every_up_to}
 use Rattle.model.specs.Rules.{small_key, no_edge_without_node, edge_has_end}
 use Rattle.model.proofs.Bools.{and_left, and_right, not_yes, failed, clash}
 use Rattle.model.proofs.Numbers.{every_up_to_lem, up_to_every}
-use Rattle.presence.specs.declared.ends.Found.{Found}
-use Rattle.presence.specs.Presence.{with_node_mark, with_edge_mark, with_named, node_settled, edge_settled, settled}
-use Rattle.presence.specs.Presence.{end_there, end_shown, nothing_kept, found_with, list_with, every_end, KeptRecords, good_key, shaped_key}
+use Rattle.presence.specs.declared.kept.KeptRecords.{KeptRecords}
+use Rattle.presence.specs.Presence.{end_there, every_end, none_kept, kept_count, KeptHold, good_key, shaped_key}
 
 -- ---- the words of a good key
 
@@ -88,95 +87,42 @@ module _ (ts : Tuples) (k : Key) where
 
 -- ---- second ends that are kept
 
-module _ (ms : List ℕ) (k : Key) (r : Bool) (e : r ≡ end_shown ms k) (list : List ℕ) (kept at : ℕ) where
-  pub keep_not_count : r ≡ true → kept ≡ cond (end_shown ms k) kept (suc kept)
-  keep_not_count y = sym (ap (λ (t : Bool). cond t kept (suc kept)) (sym e ∙ y))
-
-  pub keep_not_list : r ≡ true → list ≡ cond (end_shown ms k) list (set list kept at)
-  keep_not_list y = sym (ap (λ (t : Bool). cond t list (set list kept at)) (sym e ∙ y))
-
-  pub keep_count : r ≡ false → kept + 1 ≡ cond (end_shown ms k) kept (suc kept)
-  keep_count y = let z : kept + 1 ≡ suc kept = omega arith in z ∙ sym (ap (λ (t : Bool). cond t kept (suc kept)) (sym e ∙ y))
-
-  pub keep_list : r ≡ false → (list' : List ℕ) → list' ≡ set list kept at → list' ≡ cond (end_shown ms k) list (set list kept at)
-  keep_list y list' f = f ∙ sym (ap (λ (t : Bool). cond t list (set list kept at)) (sym e ∙ y))
-
--- ---- one record taken
-
-module _ (b ms list : List ℕ) (j k : Key) (f : Found) (at : ℕ) where
-  module _ (g : k.g ≡ 0) where
-    pub take_node_found : (r : Bool) → r ≡ (f.sure && node_settled ms j k) → record { sure = r; kept = f.kept } ≡ found_with b ms j k f
-    unfolding found_with settled nothing_kept
-    take_node_found r e = ap (λ (x : Bool). record { sure = x; kept = f.kept }) e ∙ simp (eq-eqb k.g 0 g)
-
-    pub take_node_marks : (ms' : List ℕ) → ms' ≡ with_node_mark ms k → ms' ≡ with_named ms k at
-    unfolding with_named
-    take_node_marks ms' e = e ∙ simp (eq-eqb k.g 0 g)
-
-    pub take_node_list : list ≡ list_with ms list k f.kept at
-    unfolding list_with nothing_kept
-    take_node_list = simp (eq-eqb k.g 0 g)
-
-  module _ (g : k.g ≢ 0) where
-    pub take_edge_found : (r : Bool) (m : ℕ) → r ≡ (f.sure && edge_settled b ms j k) → m ≡ cond (end_shown ms k) f.kept (suc f.kept)
-        → record { sure = r; kept = m } ≡ found_with b ms j k f
-    unfolding found_with settled nothing_kept
-    take_edge_found r m e h = ap₂ (λ (x : Bool) (y : ℕ). record { sure = x; kept = y }) e h ∙ simp (ne_eqb k.g 0 g)
-
-    pub take_edge_marks : (ms' : List ℕ) → ms' ≡ with_edge_mark ms k at → ms' ≡ with_named ms k at
-    unfolding with_named
-    take_edge_marks ms' e = e ∙ simp (ne_eqb k.g 0 g)
-
-    pub take_edge_list : (list' : List ℕ) → list' ≡ cond (end_shown ms k) list (set list f.kept at) → list' ≡ list_with ms list k f.kept at
-    unfolding list_with nothing_kept
-    take_edge_list list' e = e ∙ simp (ne_eqb k.g 0 g)
+pub none_kept_lem : (b : List ℕ) (kept : KeptRecords) → kept ≡ none_kept → KeptHold b kept
+none_kept_lem b kept e =
+    subst (KeptHold b) (sym e) (record { size = length-replicate {A = ℕ} kept_count 0; few = omega arith; named = λ j h. absurd (omega arith) })
 
 -- the second ends of the first so many kept records are there
-pub record EndsThere (b list : List ℕ) (tried : ℕ) : Type 0 where
-  pub each : (j : ℕ) → j < tried → end_there (tuples_of b) (key_at b (get_or list j 0)) ≡ true
+pub record EndsThere (b : List ℕ) (kept : KeptRecords) (tried : ℕ) : Type 0 where
+  pub each : (j : ℕ) → j < tried → end_there (tuples_of b) (key_at b (get_or kept.records j 0)) ≡ true
 
-pub ends_start : (b list : List ℕ) → EndsThere b list 0
-ends_start b list = record { each = λ j h. absurd (omega arith) }
+module _ (b : List ℕ) (kept : KeptRecords) (K : KeptHold b kept) (j : ℕ) (xs : List ℕ) (taken : xs ≡ take kept.count kept.records) where
+  kept_length : length xs ≡ kept.count
+  kept_length = ap length taken ∙ length-take-le kept.count kept.records (omega (arith, K.size, K.few))
 
-module _ (b list : List ℕ) (kept : ℕ) (K : KeptRecords b list kept) (j : ℕ) where
-  kept_length : length (take kept list) ≡ kept
-  kept_length = length-take-le kept list (omega (arith, K.size, K.few))
-
-  pub ends_all : EndsThere b list j → length (take kept list) ≤ j → true ≡ every_end b list kept
+  pub ends_all : EndsThere b kept j → length xs ≤ j → true ≡ every_end b kept
   unfolding every_end
   ends_all E h =
       sym
-      (up_to_every (λ (i : ℕ). end_there (tuples_of b) (key_at b (get_or list (i - 1) 0))) kept
+      (up_to_every (λ (i : ℕ). end_there (tuples_of b) (key_at b (get_or kept.records (i - 1) 0))) kept.count
       (λ i low high. E.each (i - 1) (omega (arith, kept_length))))
 
-  module _ (h : j < length (take kept list)) (i : ℕ) (e : i ≡ get_or (take kept list) j 0) where
-    below : j < kept
+  module _ (h : j < length xs) (i : ℕ) (e : i ≡ get_or xs j 0) where
+    below : j < kept.count
     below = omega (arith, kept_length)
 
-    same_record : i ≡ get_or list j 0
-    same_record = e ∙ get_or-take kept list j 0 below
-
-    pub kept_record : (i ≢ 0) × (i ≤ capacity_of b) × (good_key (key_at b i) ≡ true)
-    kept_record =
-        subst (λ (x : ℕ). (x ≢ 0) × (x ≤ capacity_of b) × (good_key (key_at b x) ≡ true)) (sym same_record) (K.named j below)
+    same_record : i ≡ get_or kept.records j 0
+    same_record = e ∙ ap (λ (ys : List ℕ). get_or ys j 0) taken ∙ get_or-take kept.count kept.records j 0 below
 
     module _ (r : Bool) (f : r ≡ end_there (tuples_of b) (key_at b i)) where
-      this_end : end_there (tuples_of b) (key_at b (get_or list j 0)) ≡ r
+      this_end : end_there (tuples_of b) (key_at b (get_or kept.records j 0)) ≡ r
       this_end = ap (λ (x : ℕ). end_there (tuples_of b) (key_at b x)) (sym same_record) ∙ sym f
 
-      pub ends_no : r ≡ false → false ≡ every_end b list kept
+      pub ends_no : r ≡ false → false ≡ every_end b kept
       unfolding every_end
-      ends_no y = sym (failed (every_up_to test kept) (λ t. clash (every_up_to_lem test kept t (j + 1) (omega arith) (omega (arith, below))) here))
+      ends_no y = sym (failed (every_up_to test kept.count) (λ t. clash (every_up_to_lem test kept.count t (j + 1) (omega arith) (omega (arith, below))) here))
         where
           test : ℕ → Bool
-          test k = end_there (tuples_of b) (key_at b (get_or list (k - 1) 0))
+          test k = end_there (tuples_of b) (key_at b (get_or kept.records (k - 1) 0))
 
           here : test (j + 1) ≡ false
-          here = let z : j + 1 - 1 ≡ j = omega arith in ap (λ (k : ℕ). end_there (tuples_of b) (key_at b (get_or list k 0))) z ∙ this_end ∙ y
-
-      pub ends_next : EndsThere b list j → r ≡ true → EndsThere b list (j + 1)
-      ends_next E y = record { each = λ k l. go k (eqb k j) refl l }
-        where
-          go : (k : ℕ) (t : Bool) → eqb k j ≡ t → k < j + 1 → end_there (tuples_of b) (key_at b (get_or list k 0)) ≡ true
-          go k true f l = ap (λ (x : ℕ). end_there (tuples_of b) (key_at b (get_or list x 0))) (eqb-true k j f) ∙ this_end ∙ y
-          go k false f l = let other : k ≢ j = eqb-false k j f in E.each k (omega arith)
+          here = let z : j + 1 - 1 ≡ j = omega arith in ap (λ (k : ℕ). end_there (tuples_of b) (key_at b (get_or kept.records k 0))) z ∙ this_end ∙ y

@@ -1,6 +1,6 @@
 -- Document 01, "nothing named is missing": whether all that the tuples of the used chain name is there, as the check of a store looks for it.
 use Rattle.std.specs.Prelude.{Bool, true, false, cond, not, ◌&&◌, ◌||◌, List, [], ◌∷◌, map, ◌≢◌, ◌≡◌, ℕ}
-use Rattle.std.specs.Prelude.{zero, suc, ◌+◌, ◌-◌, ◌*◌, ◌/◌, ◌%◌, ◌≤◌, ◌<◌, eqb, leb, ltb, length, get_or, set}
+use Rattle.std.specs.Prelude.{zero, suc, ◌+◌, ◌-◌, ◌*◌, ◌/◌, ◌%◌, ◌≤◌, ◌<◌, eqb, leb, ltb, length, get_or, set, replicate}
 use Rattle.std.proofs.Math.Option.{Option, none, some}
 use Rattle.model.specs.declared.Key.{Key}
 use Rattle.model.specs.Ordered.{is_less, Ascending}
@@ -11,7 +11,7 @@ use Rattle.model.specs.Numbers.{every_up_to}
 use Rattle.model.specs.OneCall.{name_count}
 use Rattle.model.specs.Rules.{ascends_from_universe, small_key, no_edge_without_node, edge_has_end, node_supported, edge_supported, every_key}
 use Rattle.layouts.specs.Chains.{Rest}
-use Rattle.presence.specs.declared.ends.Found.{Found}
+use Rattle.presence.specs.declared.kept.KeptRecords.{KeptRecords}
 
 -- ---- a chain that ends
 
@@ -127,6 +127,10 @@ edge_factor = 3571
 abbrev pub second_factor : ℕ
 second_factor = 2741
 
+-- no mark at any place
+abbrev pub no_marks : List ℕ
+no_marks = replicate mark_count 0
+
 -- the mark of node n in s; n is not 0
 unfoldable pub node_mark : ℕ → ℕ → ℕ
 node_mark s n = s * name_count + n
@@ -145,8 +149,7 @@ pub record Marked (b : List ℕ) (w : ℕ) : Type 0 where
   pub node : (s n : ℕ) → n ≢ 0 → n ≤ most_name → w ≡ node_mark s n → present (node_key s n) (tuples_of b) ≡ true
 
 -- what is known of marks
-pub record Marks (b marks : List ℕ) : Type 0 where
-  pub size : length marks ≡ mark_count
+pub record MarksHold (b marks : List ℕ) : Type 0 where
   pub held : (j : ℕ) → Marked b (get_or marks j 0)
 
 -- the places where the marks of a node and of an edge tuple of 0 are sought first
@@ -175,7 +178,6 @@ with_named marks k i = cond (eqb k.g 0) (with_node_mark marks k) (with_edge_mark
 
 -- marks whose records are records, whatever their keys
 pub record MarksFit (b marks : List ℕ) : Type 0 where
-  pub size : length marks ≡ mark_count
   pub low : (j : ℕ) → edge_record (get_or marks j 0) ≤ capacity_of b
 
 -- does one of the marks at so many places from a place on pass a test, up to one that is 0
@@ -230,28 +232,37 @@ nothing_kept marks k = eqb k.g 0 || end_shown marks k
 abbrev pub kept_count : ℕ
 kept_count = 2048
 
--- what the walk finds with one more record: is all there still, and how many are kept
-unfoldable pub found_with : List ℕ → List ℕ → Key → Key → Found → Found
-found_with b marks j k f = record { sure = f.sure && settled b marks j k; kept = cond (nothing_kept marks k) f.kept (suc f.kept) }
+-- no records kept
+abbrev pub none_kept : KeptRecords
+none_kept = record { records = replicate kept_count 0; count = 0 }
 
--- the list of the kept records with it
-unfoldable pub list_with : List ℕ → List ℕ → Key → ℕ → ℕ → List ℕ
-list_with marks list k kept i = cond (nothing_kept marks k) list (set list kept i)
+-- the kept records with one more
+unfoldable pub pushed : KeptRecords → ℕ → KeptRecords
+pushed kept i = record { records = set kept.records kept.count i; count = suc kept.count }
+
+-- with that of an edge, where its second end is not shown
+unfoldable pub kept_unless_shown : List ℕ → KeptRecords → Key → ℕ → KeptRecords
+kept_unless_shown marks kept k i = cond (end_shown marks k) kept (pushed kept i)
+
+-- with that of any key
+unfoldable pub kept_with : List ℕ → KeptRecords → Key → ℕ → KeptRecords
+kept_with marks kept k i = cond (nothing_kept marks k) kept (pushed kept i)
 
 -- ---- after the walk
 
--- are the second ends there of the first so many kept records
-unfoldable pub every_end : List ℕ → List ℕ → ℕ → Bool
-every_end b list kept = every_up_to (λ (j : ℕ). end_there (tuples_of b) (key_at b (get_or list (j - 1) 0))) kept
+-- are the second ends there of the kept records
+unfoldable pub every_end : List ℕ → KeptRecords → Bool
+every_end b kept = every_up_to (λ (j : ℕ). end_there (tuples_of b) (key_at b (get_or kept.records (j - 1) 0))) kept.count
 
--- the first so many places of a list name records with good keys
-pub record KeptRecords (b list : List ℕ) (kept : ℕ) : Type 0 where
-  pub size : length list ≡ kept_count
-  pub few : kept ≤ kept_count
-  pub named : (j : ℕ) → j < kept → (get_or list j 0 ≢ 0) × (get_or list j 0 ≤ capacity_of b) × (good_key (key_at b (get_or list j 0)) ≡ true)
+-- the kept records are records with good keys
+pub record KeptHold (b : List ℕ) (kept : KeptRecords) : Type 0 where
+  pub size : length kept.records ≡ kept_count
+  pub few : kept.count ≤ kept_count
+  pub named : (j : ℕ) → j < kept.count
+      → (get_or kept.records j 0 ≢ 0) × (get_or kept.records j 0 ≤ capacity_of b) × (good_key (key_at b (get_or kept.records j 0)) ≡ true)
 
 -- what a walk of the used chain finds of the tuples: marks, and records whose second ends decide where it is sure
-pub record Decided (b marks list : List ℕ) (f : Found) : Type 0 where
-  pub shows : Marks b marks
-  pub listed : KeptRecords b list f.kept
-  pub decided : f.sure ≡ true → every_key (supported (tuples_of b)) (tuples_of b) ≡ every_end b list f.kept
+pub record Decided (b marks : List ℕ) (kept : KeptRecords) (sure : Bool) : Type 0 where
+  pub shows : MarksHold b marks
+  pub listed : KeptHold b kept
+  pub decided : sure ≡ true → every_key (supported (tuples_of b)) (tuples_of b) ≡ every_end b kept

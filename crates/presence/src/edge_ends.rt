@@ -10,6 +10,7 @@ use super::seek::{holds_from, is_at, is_before};
 use words::node_key;
 
 // The first record of the space of record i, from that of the record before it.
+#[tactic(auto, unfolding(crate::specs::Presence::space_start))]
 fn space_start(b: &[u32], first: usize, i: usize) -> usize
     requires { Inside b.now first × Inside b.now i }
     ensures { result ≡ space_start b.now first i }

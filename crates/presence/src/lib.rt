@@ -4,7 +4,8 @@
 // An inner layer: what its functions require, their callers have shown; only the entry refuses.
 mod edge_ends;
 pub mod ends;
-mod marks;
+pub mod kept;
+pub mod marks;
 mod named;
 mod seek;
 
@@ -13,14 +14,14 @@ ghost use Rattle.layouts.specs.Buffer.{tuples_of};
 ghost use Rattle.model.specs.Rules.{every_key};
 ghost use Rattle.presence.specs.Presence.{Sorted, supported, Decided};
 
-use ends::Found;
+use kept::KeptRecords;
+use marks::Marks;
 
 // Is all there that the tuples name, after the walk of the used chain.
 // What the walk found can only say yes; where it does not, the whole chain is searched again, and the first edge tuple without both ends ends the check.
-pub fn named_right(b: &[u32], marks: &[u32], list: &[u16], found: Found) -> bool
-    requires { Sorted b.now × Decided b.now marks.now list.now found }
+pub fn named_right(b: &[u32], marks: &Marks, kept: &KeptRecords, sure: bool) -> bool
+    requires { Sorted b.now × Decided b.now marks.now.words kept.now sure }
     ensures { result ≡ every_key (supported (tuples_of b.now)) (tuples_of b.now) }
 {
-    found.sure && ends::all_ends(b, marks, list, found.kept)
-        || named::all_named(b) && edge_ends::edges_ended(b)
+    sure && kept.all_ends(b, marks) || named::all_named(b) && edge_ends::edges_ended(b)
 }

@@ -18,11 +18,11 @@ use Rattle.model.specs.Rules.{ascends_from_universe, every_key, small_key, no_ed
 use Rattle.model.specs.Numbers.{every_up_to}
 use Rattle.model.proofs.Bools.{and_left, and_right, and_both, not_yes, not_no}
 use Rattle.model.proofs.Tuples.{same_key_lem}
-use Rattle.presence.specs.Presence.{Walkable, ends_within, UsedEnds, Held, Marks, MarksFit, with_named, tuples_from, shaped_key}
-use Rattle.presence.specs.Presence.{good_key, supported, settled, end_there, nothing_kept, found_with, list_with, every_end, KeptRecords, kept_count}
+use Rattle.presence.specs.Presence.{Walkable, ends_within, UsedEnds, Held, MarksHold, MarksFit, with_named, tuples_from, shaped_key}
+use Rattle.presence.specs.Presence.{good_key, supported, settled, end_there, nothing_kept, pushed, kept_with, every_end, KeptHold, kept_count}
 use Rattle.verify.specs.Checks.{walked_on, walked_from, stepped, FreeWalk, UsedFound, keys_right, may_meet, key_follows, starts_right, used_walk}
 use Rattle.verify.specs.declared.chains.Walk.{Walk}
-use Rattle.presence.specs.declared.ends.Found.{Found}
+use Rattle.presence.specs.declared.kept.KeptRecords.{KeptRecords}
 use Rattle.std.specs.Prelude.{Some, None}
 use Rattle.layouts.proofs.Sizes.{some_record, few_records}
 use Rattle.presence.proofs.Rest.{ascends_empty, EveryLeft, every_start, every_next, every_no, every_end_lem, every_held, tuples_next, tuples_none}
@@ -38,7 +38,7 @@ use Rattle.verify.proofs.Settled.{Stands, Settled, settled_all, not_kept_there}
 pub record Keyed (b : List ℕ) (key : Key) (at : ℕ) (ms : List ℕ) : Type 0 where
   pub ascends : AscendsLeft b key at
   pub good : EveryLeft good_key b at
-  pub marks : Marks b ms
+  pub marks : MarksHold b ms
 
 -- the answer of the walk
 module _ (b : List ℕ) where
@@ -62,7 +62,7 @@ module _ (b : List ℕ) where
 
 module _ (b : List ℕ) (U : UsedEnds b) where
   pub keyed_start : (h n : ℕ) → h ≡ word b 1 → h ≢ 0 → n ≡ next b h → (k : Key) → k ≡ key_at b h → same_key k (space_key 0) ≡ true
-      → (ms : List ℕ) → Marks b ms → Keyed b k n ms
+      → (ms : List ℕ) → MarksHold b ms → Keyed b k n ms
   keyed_start h n e h≢ f k g t ms M =
       record {
         ascends = ascends_start b U h n e h≢ f k g t;
@@ -85,28 +85,29 @@ module _ (b : List ℕ) (U : UsedEnds b) where
 -- ---- records that are kept
 
 -- one record more, where its second end is not shown
-module _ (b : List ℕ) (list : List ℕ) (kept : ℕ) (L : KeptRecords b list kept) (at : ℕ) (at≢ : at ≢ 0) (high : at ≤ capacity_of b)
-    (good : good_key (key_at b at) ≡ true) (room : kept < kept_count) where
+module _ (b : List ℕ) (kept : KeptRecords) (L : KeptHold b kept) (at : ℕ) (at≢ : at ≢ 0) (high : at ≤ capacity_of b)
+    (good : good_key (key_at b at) ≡ true) (room : kept.count < kept_count) where
   abbrev Named : ℕ → Type 0
   Named x = (x ≢ 0) × (x ≤ capacity_of b) × (good_key (key_at b x) ≡ true)
 
-  kept_at : get_or (set list kept at) kept 0 ≡ at
-  kept_at = let h : kept < length list = omega (arith, L.size) in get_or-set_same list kept at 0 h
+  kept_at : get_or (set kept.records kept.count at) kept.count 0 ≡ at
+  kept_at = let h : kept.count < length kept.records = omega (arith, L.size) in get_or-set_same kept.records kept.count at 0 h
 
-  put_listed : KeptRecords b (set list kept at) (suc kept)
-  put_listed = record { size = length-set list kept at ∙ L.size; few = omega arith; named = λ j h. go j (eqb j kept) refl h }
+  put_listed : KeptHold b (pushed kept at)
+  unfolding pushed
+  put_listed = record { size = length-set kept.records kept.count at ∙ L.size; few = omega arith; named = λ j h. go j (eqb j kept.count) refl h }
     where
-      go : (j : ℕ) (t : Bool) → eqb j kept ≡ t → j < suc kept → Named (get_or (set list kept at) j 0)
+      go : (j : ℕ) (t : Bool) → eqb j kept.count ≡ t → j < suc kept.count → Named (get_or (set kept.records kept.count at) j 0)
       go j true e h =
-          subst Named (sym (ap (λ (x : ℕ). get_or (set list kept at) x 0) (eqb-true j kept e) ∙ kept_at)) (at≢, high, good)
+          subst Named (sym (ap (λ (x : ℕ). get_or (set kept.records kept.count at) x 0) (eqb-true j kept.count e) ∙ kept_at)) (at≢, high, good)
       go j false e h =
-          let n : j ≢ kept = eqb-false j kept e in
-          let l : j < kept = omega arith in
-          subst Named (sym (get_or-set_other list kept j at 0 n)) (L.named j l)
+          let n : j ≢ kept.count = eqb-false j kept.count e in
+          let l : j < kept.count = omega arith in
+          subst Named (sym (get_or-set_other kept.records kept.count j at 0 n)) (L.named j l)
 
-  pub keep_listed : (t : Bool) (list' : List ℕ) (kept' : ℕ) → list' ≡ cond t list (set list kept at) → kept' ≡ cond t kept (suc kept) → KeptRecords b list' kept'
-  keep_listed true list' kept' e f = subst (λ (x : ℕ). KeptRecords b list' x) (sym f) (subst (λ (xs : List ℕ). KeptRecords b xs kept) (sym e) L)
-  keep_listed false list' kept' e f = subst (λ (x : ℕ). KeptRecords b list' x) (sym f) (subst (λ (xs : List ℕ). KeptRecords b xs (suc kept)) (sym e) put_listed)
+  pub keep_listed : (t : Bool) (kept' : KeptRecords) → kept' ≡ cond t kept (pushed kept at) → KeptHold b kept'
+  keep_listed true kept' e = subst (KeptHold b) (sym e) L
+  keep_listed false kept' e = subst (KeptHold b) (sym e) put_listed
 
 -- the ends of the records before it are the same
 same_before : (b list : List ℕ) (kept at m : ℕ) → m ≤ kept
@@ -119,40 +120,53 @@ same_before b list kept at (suc m) h =
     ap₂ (λ (x : ℕ) (y : Bool). end_there (tuples_of b) (key_at b x) && y) (get_or-set_other list kept (suc m - 1) at 0 n)
     (same_before b list kept at m (omega arith))
 
-one_end_more : (b list : List ℕ) (kept at : ℕ) → kept < length list → every_end b (set list kept at) (suc kept) ≡ (end_there (tuples_of b) (key_at b at) && every_end b list kept)
-unfolding every_end every_up_to
-one_end_more b list kept at h =
-    let z : suc kept - 1 ≡ kept = omega arith in
+one_end_more : (b : List ℕ) (kept : KeptRecords) (at : ℕ) → kept.count < length kept.records
+    → every_end b (pushed kept at) ≡ (end_there (tuples_of b) (key_at b at) && every_end b kept)
+unfolding every_end every_up_to pushed
+one_end_more b kept at h =
+    let z : suc kept.count - 1 ≡ kept.count = omega arith in
     ap₂ (λ (x : ℕ) (y : Bool). end_there (tuples_of b) (key_at b x) && y)
-    (ap (λ (x : ℕ). get_or (set list kept at) x 0) z ∙ get_or-set_same list kept at 0 h) (same_before b list kept at kept (omega arith))
+    (ap (λ (x : ℕ). get_or (set kept.records kept.count at) x 0) z ∙ get_or-set_same kept.records kept.count at 0 h)
+    (same_before b kept.records kept.count at kept.count (omega arith))
 
 -- ---- what is left to decide
 
 -- at a record, where all before it is settled: the second ends that are kept, and the records from there on
-pub record Open (b list : List ℕ) (key : Key) (at kept : ℕ) : Type 0 where
+pub record Open (b : List ℕ) (kept : KeptRecords) (key : Key) (at : ℕ) : Type 0 where
   pub stands : Stands (tuples_of b) key
-  pub left : every_key (supported (tuples_of b)) (tuples_of b) ≡ (every_end b list kept && every_key (supported (tuples_of b)) (tuples_from b at))
+  pub left : every_key (supported (tuples_of b)) (tuples_of b) ≡ (every_end b kept && every_key (supported (tuples_of b)) (tuples_from b at))
 
 every_tuple : (p : Key → Bool) (b : List ℕ) (i : ℕ) (ts : List Tuple) → every_key p (tuple_at b i ∷ ts) ≡ (p (key_at b i) && every_key p ts)
 unfolding every_key tuple_at
 every_tuple p b i ts = refl
 
 module _ (b : List ℕ) (U : UsedEnds b) where
-  pub open_start : (h n : ℕ) → h ≡ word b 1 → h ≢ 0 → n ≡ next b h → (k : Key) → k ≡ key_at b h → same_key k (space_key 0) ≡ true → (list : List ℕ) → Open b list k n 0
+  pub open_start : (h n : ℕ) → h ≡ word b 1 → h ≢ 0 → n ≡ next b h → (k : Key) → k ≡ key_at b h → same_key k (space_key 0) ≡ true
+      → (kept : KeptRecords) → kept.count ≡ 0 → Open b kept k n
   unfolding every_end every_up_to supported node_supported edge_supported
-  open_start h n e h≢ f k g t list =
+  open_start h n e h≢ f k g t kept none =
       let z : k ≡ space_key 0 = same_key_lem k (space_key 0) t in
       let H : Held b h = every_held (supported (tuples_of b)) b h U.walkable (every_start (supported (tuples_of b)) b h U e) in
       let own : present (space_key 0) (tuples_of b) ≡ true = ap (λ (x : Key). present x (tuples_of b)) (sym z ∙ g) ∙ H.has h≢ in
       let yes' : supported (tuples_of b) (key_at b h) ≡ true = ap (supported (tuples_of b)) (sym g ∙ z) in
       let E : EveryLeft (supported (tuples_of b)) b n = every_next (supported (tuples_of b)) b h n U.walkable (every_start (supported (tuples_of b)) b h U e) h≢ f yes' in
-      record { stands = subst (Stands (tuples_of b)) (sym z) (record { space = own; node = own }); left = E.left }
+      record {
+        stands = subst (Stands (tuples_of b)) (sym z) (record { space = own; node = own });
+        left =
+            E.left
+            ∙ sym
+            (ap
+            (λ (c : ℕ).
+            every_up_to (λ (j : ℕ). end_there (tuples_of b) (key_at b (get_or kept.records (j - 1) 0))) c
+            && every_key (supported (tuples_of b)) (tuples_from b n))
+            none);
+      }
 
-  pub open_next : (list : List ℕ) (key : Key) (at kept : ℕ) (ms : List ℕ) → Open b list key at kept → Keyed b key at ms → at ≢ 0 → (n : ℕ) → n ≡ next b at
-      → (k : Key) → k ≡ key_at b at → good_key k ≡ true → settled b ms key k ≡ true → kept < length list
-      → (list' : List ℕ) (kept' : ℕ) → list' ≡ cond (nothing_kept ms k) list (set list kept at) → kept' ≡ cond (nothing_kept ms k) kept (suc kept) → Open b list' k n kept'
-  open_next list key at kept ms O K at≢ n e k g good t room list' kept' f h =
-      record { stands = S.stands; left = start ∙ go (nothing_kept ms k) refl (end_there (tuples_of b) k) refl f h }
+  pub open_next : (kept : KeptRecords) (key : Key) (at : ℕ) (ms : List ℕ) → Open b kept key at → Keyed b key at ms → at ≢ 0 → (n : ℕ) → n ≡ next b at
+      → (k : Key) → k ≡ key_at b at → good_key k ≡ true → settled b ms key k ≡ true → kept.count < length kept.records
+      → (kept' : KeptRecords) → kept' ≡ cond (nothing_kept ms k) kept (pushed kept at) → Open b kept' k n
+  open_next kept key at ms O K at≢ n e k g good t room kept' f =
+      record { stands = S.stands; left = start ∙ go (nothing_kept ms k) refl (end_there (tuples_of b) k) refl f }
     where
       own : present k (tuples_of b) ≡ true
       own = ap (λ (x : Key). present x (tuples_of b)) g ∙ (every_held good_key b at U.walkable K.good).has at≢
@@ -160,10 +174,10 @@ module _ (b : List ℕ) (U : UsedEnds b) where
       S : Settled (tuples_of b) k
       S = settled_all b ms key k K.marks O.stands own good t
 
-      start : every_key (supported (tuples_of b)) (tuples_of b) ≡ (every_end b list kept && (end_there (tuples_of b) k && every_key (supported (tuples_of b)) (tuples_from b n)))
+      start : every_key (supported (tuples_of b)) (tuples_of b) ≡ (every_end b kept && (end_there (tuples_of b) k && every_key (supported (tuples_of b)) (tuples_from b n)))
       start =
           O.left
-          ∙ ap (λ (x : Bool). every_end b list kept && x)
+          ∙ ap (λ (x : Bool). every_end b kept && x)
           (ap (every_key (supported (tuples_of b))) (tuples_next b at n U.walkable K.good.on at≢ e)
           ∙ every_tuple (supported (tuples_of b)) b at (tuples_from b n)
           ∙ ap (λ (x : Bool). x && every_key (supported (tuples_of b)) (tuples_from b n)) (ap (supported (tuples_of b)) (sym g) ∙ S.end))
@@ -174,33 +188,31 @@ module _ (b : List ℕ) (U : UsedEnds b) where
       swap false true z = refl
       swap false false z = refl
 
-      go : (s : Bool) → nothing_kept ms k ≡ s → (d : Bool) → end_there (tuples_of b) k ≡ d
-          → list' ≡ cond s list (set list kept at) → kept' ≡ cond s kept (suc kept)
-          → (every_end b list kept && (end_there (tuples_of b) k && every_key (supported (tuples_of b)) (tuples_from b n)))
-          ≡ (every_end b list' kept' && every_key (supported (tuples_of b)) (tuples_from b n))
-      go true a d c p q =
-          ap (λ (x : Bool). every_end b list kept && (x && every_key (supported (tuples_of b)) (tuples_from b n))) (not_kept_there b ms k K.marks good a)
-          ∙ ap₂ (λ (xs : List ℕ) (x : ℕ). every_end b xs x && every_key (supported (tuples_of b)) (tuples_from b n)) (sym p) (sym q)
-      go false a d c p q =
-          swap (every_end b list kept) (end_there (tuples_of b) k) (every_key (supported (tuples_of b)) (tuples_from b n))
+      go : (s : Bool) → nothing_kept ms k ≡ s → (d : Bool) → end_there (tuples_of b) k ≡ d → kept' ≡ cond s kept (pushed kept at)
+          → (every_end b kept && (end_there (tuples_of b) k && every_key (supported (tuples_of b)) (tuples_from b n)))
+          ≡ (every_end b kept' && every_key (supported (tuples_of b)) (tuples_from b n))
+      go true a d c p =
+          ap (λ (x : Bool). every_end b kept && (x && every_key (supported (tuples_of b)) (tuples_from b n))) (not_kept_there b ms k K.marks good a)
+          ∙ ap (λ (x : KeptRecords). every_end b x && every_key (supported (tuples_of b)) (tuples_from b n)) (sym p)
+      go false a d c p =
+          swap (every_end b kept) (end_there (tuples_of b) k) (every_key (supported (tuples_of b)) (tuples_from b n))
           ∙ ap (λ (x : Bool). x && every_key (supported (tuples_of b)) (tuples_from b n))
-          (ap (λ (x : Key). end_there (tuples_of b) x && every_end b list kept) g ∙ sym (one_end_more b list kept at room)
-          ∙ ap₂ (λ (xs : List ℕ) (x : ℕ). every_end b xs x) (sym p) (sym q))
+          (ap (λ (x : Key). end_there (tuples_of b) x && every_end b kept) g ∙ sym (one_end_more b kept at room) ∙ ap (every_end b) (sym p))
 
 -- ---- the walk
 
 -- what is left of the walk
-pub record Using (b ms list : List ℕ) (f : Found) (left last at : ℕ) (free : Walk) : Type 0 where
+pub record Using (b ms : List ℕ) (kept : KeptRecords) (sure : Bool) (left last at : ℕ) (free : Walk) : Type 0 where
   pub few : left ≤ capacity_of b
   pub same : walked_on b (record { at = at; left = left; last = last }) ≡ walked_from b (word b 1)
   pub met : last ≢ 0
   pub within : last ≤ capacity_of b
   pub fit : MarksFit b ms
-  pub listed : KeptRecords b list f.kept
-  pub room : f.kept + left < capacity_of b
+  pub listed : KeptHold b kept
+  pub room : kept.count + left < capacity_of b
   pub beside : FreeWalk b free left
   pub keyed : ends_within (capacity_of b) (used_chain b) ≡ true → Keyed b (key_at b last) at ms
-  pub undecided : ends_within (capacity_of b) (used_chain b) ≡ true → f.sure ≡ true → Open b list (key_at b last) at f.kept
+  pub undecided : ends_within (capacity_of b) (used_chain b) ≡ true → sure ≡ true → Open b kept (key_at b last) at
 
 module _ (b : List ℕ) where
   module _ (r : Bool) (e : r ≡ starts_right b) (y : r ≡ true) where
@@ -237,10 +249,10 @@ module _ (b : List ℕ) (w : Walkable b) where
           given_up (λ u. not_ascending b (ascends_not_first b (used_ends u) (word b 1) refl (eqb-false (word b 1) 0 z) (key_at b (word b 1)) refl t))
 
   pub using_start : (r : Bool) → r ≡ starts_right b → r ≡ true → (h : ℕ) → h ≡ word b 1
-      → (C n : ℕ) → C ≡ capacity_of b → n ≡ next b h → (ms : List ℕ) → Marks b ms → (list : List ℕ) → length list ≡ kept_count
-      → (v : Walk) → v ≡ record { at = word b 2; left = C; last = 0 } → Using b ms list (record { sure = true; kept = 0 }) (C - 1) h n v
+      → (C n : ℕ) → C ≡ capacity_of b → n ≡ next b h → (ms : List ℕ) → MarksHold b ms → (kept : KeptRecords) → KeptHold b kept
+      → kept.count ≡ 0 → (v : Walk) → v ≡ record { at = word b 2; left = C; last = 0 } → Using b ms kept true (C - 1) h n v
   unfolding walked_from
-  using_start r s y h e C n d f ms M list size v x =
+  using_start r s y h e C n d f ms M kept L none v x =
       let high : word b 1 ≤ capacity_of b = w.used_head in
       let h≢ : h ≢ 0 = head_some b r s y h e in
       let t : same_key (key_at b h) (space_key 0) ≡ true = head_key b r s y h e in
@@ -252,14 +264,14 @@ module _ (b : List ℕ) (w : Walkable b) where
         met = h≢;
         within = omega arith;
         fit = marks_fit b ms M;
-        listed = record { size = size; few = omega arith; named = λ j l. absurd (omega arith) };
+        listed = L;
         room = omega (arith, some_record b w.least w.most);
         beside = free_first b v C d x;
         keyed = λ u. keyed_start b (used_ends u) h n e h≢ f (key_at b h) refl t ms M;
-        undecided = λ u v. open_start b (used_ends u) h n e h≢ f (key_at b h) refl t list;
+        undecided = λ u v. open_start b (used_ends u) h n e h≢ f (key_at b h) refl t kept none;
       }
 
-  module _ (ms list : List ℕ) (f : Found) (left last at : ℕ) (v : Walk) (W : Using b ms list f left last at v) where
+  module _ (ms : List ℕ) (kept : KeptRecords) (sure : Bool) (left last at : ℕ) (v : Walk) (W : Using b ms kept sure left last at v) where
     ended : at ≡ 0 → ends_within (capacity_of b) (used_chain b) ≡ true
     unfolding used_chain
     ended z = sym (found_ends b (word b 1) _ (walked_end b left at last z ∙ W.same))
@@ -275,7 +287,7 @@ module _ (b : List ℕ) (w : Walkable b) where
         ∙ sym
         (ap (λ (t : Bool). cond t (walked_from b (word b 1)) None) (and_both (ends_within (capacity_of b) (used_chain b)) _ u (sym k)))
 
-    pub using_found : at ≡ 0 → UsedFound b ms list f v
+    pub using_found : at ≡ 0 → UsedFound b ms kept sure v
     unfolding every_key
     using_found z =
         let u = ended z in
@@ -287,8 +299,8 @@ module _ (b : List ℕ) (w : Walkable b) where
                 decided =
                     λ y.
                     (W.undecided u y).left
-                    ∙ ap (λ (ts : Tuples). every_end b list f.kept && every_key (supported (tuples_of b)) ts) (tuples_none b at z)
-                    ∙ and-true (every_end b list f.kept);
+                    ∙ ap (λ (ts : Tuples). every_end b kept && every_key (supported (tuples_of b)) ts) (tuples_none b at z)
+                    ∙ and-true (every_end b kept);
               };
           beside = record { few = W.beside.few; enough = omega arith; same = W.beside.same };
         }
@@ -320,7 +332,7 @@ module _ (b : List ℕ) (w : Walkable b) where
         pub using_low : at ≤ 4096
         using_low = omega (arith, using_high, few_records b w.least w.most)
 
-        pub using_room : f.kept < kept_count
+        pub using_room : kept.count < kept_count
         using_room = let n : left ≢ 0 = using_left in omega (arith, W.room, few_records b w.least w.most)
 
         pub using_enough : v.left ≢ 0
@@ -348,15 +360,13 @@ module _ (b : List ℕ) (w : Walkable b) where
             unfolding key_follows
             less = and_left (is_less (compare_keys (key_at b last) k)) _ (sym follows ∙ y)
 
-            pub using_next : (f' : Found) → f' ≡ found_with b ms key k f → (ms' : List ℕ) → ms' ≡ with_named ms k at
-                → (list' : List ℕ) → list' ≡ list_with ms list k f.kept at → (n : ℕ) → n ≡ next b at
-                → (v' : Walk) → v' ≡ stepped b v → Using b ms' list' f' (left - 1) at n v'
-            unfolding found_with list_with
-            using_next f' q ms' m list' l n i v' x =
+            pub using_next : (sure' : Bool) → sure' ≡ (sure && settled b ms key k) → (ms' : List ℕ) → ms' ≡ with_named ms k at
+                → (kept' : KeptRecords) → kept' ≡ kept_with ms kept k at → (n : ℕ) → n ≡ next b at
+                → (v' : Walk) → v' ≡ stepped b v → Using b ms' kept' sure' (left - 1) at n v'
+            unfolding kept_with pushed
+            using_next sure' q ms' m kept' l n i v' x =
                 let left≢ : left ≢ 0 = using_left in
-                let kept' : f'.kept ≡ cond (nothing_kept ms k) f.kept (suc f.kept) = ap (λ (z : Found). z.kept) q in
-                let sure' : f'.sure ≡ (f.sure && settled b ms (key_at b last) k)
-                = ap (λ (z : Found). z.sure) q ∙ ap (λ (z : Key). f.sure && settled b ms z k) p in
+                let now : sure' ≡ (sure && settled b ms (key_at b last) k) = q ∙ ap (λ (z : Key). sure && settled b ms z k) p in
                 record {
                   few = omega (arith, W.few);
                   same = walked_on_lem b left at last n at≢ left≢ W.few using_high i ∙ W.same;
@@ -364,9 +374,8 @@ module _ (b : List ℕ) (w : Walkable b) where
                   within = using_high;
                   fit = named_fit b ms k at (good_n k using_good) ms' m W.fit using_high;
                   listed =
-                      keep_listed b list f.kept W.listed at at≢ using_high (ap good_key (sym g) ∙ using_good) using_room (nothing_kept ms k) list'
-                      f'.kept l kept';
-                  room = more (nothing_kept ms k) left≢ kept';
+                      keep_listed b kept W.listed at at≢ using_high (ap good_key (sym g) ∙ using_good) using_room (nothing_kept ms k) kept' l;
+                  room = more (nothing_kept ms k) left≢ l;
                   beside = free_next b v left left≢ W.beside v' x;
                   keyed =
                       λ u.
@@ -374,13 +383,12 @@ module _ (b : List ℕ) (w : Walkable b) where
                       (keyed_next b (used_ends u) (key_at b last) at ms (W.keyed u) at≢ n i k g less using_good ms' m);
                   undecided =
                       λ u z.
-                      let both : (f.sure && settled b ms (key_at b last) k) ≡ true = sym sure' ∙ z in
-                      subst (λ (z : Key). Open b list' z n f'.kept) g
-                      (open_next b (used_ends u) list (key_at b last) at f.kept ms (W.undecided u (and_left f.sure _ both)) (W.keyed u) at≢ n i k g
-                      using_good (and_right f.sure _ both) (let room : f.kept < kept_count = using_room in omega (arith, W.listed.size)) list' f'.kept l
-                      kept');
+                      let both : (sure && settled b ms (key_at b last) k) ≡ true = sym now ∙ z in
+                      subst (λ (z : Key). Open b kept' z n) g
+                      (open_next b (used_ends u) kept (key_at b last) at ms (W.undecided u (and_left sure _ both)) (W.keyed u) at≢ n i k g
+                      using_good (and_right sure _ both) (let room : kept.count < kept_count = using_room in omega (arith, W.listed.size)) kept' l);
                 }
               where
-                more : (s : Bool) → left ≢ 0 → f'.kept ≡ cond s f.kept (suc f.kept) → f'.kept + (left - 1) < capacity_of b
-                more true n e = omega (arith, W.room)
-                more false n e = omega (arith, W.room)
+                more : (s : Bool) → left ≢ 0 → kept' ≡ cond s kept (pushed kept at) → kept'.count + (left - 1) < capacity_of b
+                more true n e = omega (arith, W.room, ap (λ (z : KeptRecords). z.count) e)
+                more false n e = omega (arith, W.room, ap (λ (z : KeptRecords). z.count) e)

@@ -81,9 +81,6 @@ module _ (b : List ℕ) (heads : Bool) (h : heads ≡ heads_fit b) where
     pub store_rest : (r : Bool) → r ≡ (links_right b && sound (tuples_of b)) → r ≡ is_store b
     store_rest r e = e ∙ sym (store_parts b ∙ simp (sym h ∙ h_yes))
 
-pub right_no_chains : (b : List ℕ) (chains : Bool) → chains ≡ links_right b → chains ≡ false → chains ≡ (links_right b && sound (tuples_of b))
-right_no_chains b chains c f = f ∙ sym (ap (λ (t : Bool). t && sound (tuples_of b)) (sym c ∙ f))
-
 module _ (b : List ℕ) (w : Walkable b) (r : Option Used) (a : option_map (λ (u : Used). u.walked) r ≡ used_walk b) where
   within : Bool
   within = ends_within (capacity_of b) (used_chain b)

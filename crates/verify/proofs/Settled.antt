@@ -12,12 +12,12 @@ use Rattle.model.specs.Tuples.{Tuples, present}
 use Rattle.layouts.specs.Buffer.{tuples_of}
 use Rattle.model.specs.Rules.{node_supported, edge_supported}
 use Rattle.model.proofs.Bools.{or_cases, and_left, and_right}
-use Rattle.presence.specs.Presence.{Marks, node_shown, edge_shown, node_settled, edge_settled, settled, end_there, end_shown, nothing_kept, supported, good_key}
+use Rattle.presence.specs.Presence.{MarksHold, node_shown, edge_shown, node_settled, edge_settled, settled, end_there, end_shown, nothing_kept, supported, good_key}
 use Rattle.presence.proofs.Hints.{show_node, show_edge}
 use Rattle.presence.proofs.Shows.{good_end, good_nameless, good_second, good_n, good_m, good_node}
 
 -- a second end that is not kept is there
-pub not_kept_there : (b ms : List ℕ) (k : Key) → Marks b ms → good_key k ≡ true → nothing_kept ms k ≡ true → end_there (tuples_of b) k ≡ true
+pub not_kept_there : (b ms : List ℕ) (k : Key) → MarksHold b ms → good_key k ≡ true → nothing_kept ms k ≡ true → end_there (tuples_of b) k ≡ true
 unfolding nothing_kept end_shown end_there
 not_kept_there b ms k M good e = go (eqb k.g 0) refl e
   where
@@ -39,7 +39,7 @@ pub record Settled (ts : Tuples) (k : Key) : Type 0 where
   pub stands : Stands ts k
   pub end : supported ts k ≡ end_there ts k
 
-module _ (b ms : List ℕ) (j k : Key) (M : Marks b ms) (S : Stands (tuples_of b) j) (own : present k (tuples_of b) ≡ true) (good : good_key k ≡ true) where
+module _ (b ms : List ℕ) (j k : Key) (M : MarksHold b ms) (S : Stands (tuples_of b) j) (own : present k (tuples_of b) ≡ true) (good : good_key k ≡ true) where
   abbrev ts : Tuples
   ts = tuples_of b
 

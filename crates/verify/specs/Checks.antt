@@ -8,8 +8,8 @@ use Rattle.model.specs.Tuples.{Tuples}
 use Rattle.layouts.specs.Buffer.{word, fits_length, capacity_of, size_word, next, key_at, walk, ends, used_chain, free_chain, used_of, free_of, tuples_of, count}
 use Rattle.model.specs.Numbers.{every_up_to}
 use Rattle.model.specs.Rules.{ascends_from_universe, every_key}
-use Rattle.presence.specs.declared.ends.Found.{Found}
-use Rattle.presence.specs.Presence.{ends_within, good_key, with_named, found_with, list_with, Decided}
+use Rattle.presence.specs.declared.kept.KeptRecords.{KeptRecords}
+use Rattle.presence.specs.Presence.{ends_within, good_key, with_named, settled, kept_with, Decided}
 use Rattle.verify.specs.declared.chains.Walk.{Walk}
 use Rattle.verify.specs.declared.chains.Walked.{Walked}
 use Rattle.verify.specs.declared.keys.Used.{Used}
@@ -107,43 +107,44 @@ used_walk b = cond (ends_within (capacity_of b) (used_chain b) && keys_right (tu
 
 -- ---- the whole walk of the used chain
 
--- what the walk leaves: what it finds, the marks and the list
+-- what the walk leaves: what it finds, the marks and the kept records
 pub record UsedRun : Type 0 where
   pub used : Option Used
   pub marks : List ℕ
-  pub list : List ℕ
+  pub kept : KeptRecords
 
 -- a walk that is given up
-abbrev pub run_stopped : List ℕ → List ℕ → UsedRun
-run_stopped marks list = record { used = None; marks = marks; list = list }
+abbrev pub run_stopped : List ℕ → KeptRecords → UsedRun
+run_stopped marks kept = record { used = None; marks = marks; kept = kept }
 
 -- a walk that has met so many records up to the end of the chain
-abbrev pub run_ended : ℕ → ℕ → Found → Walk → List ℕ → List ℕ → UsedRun
-run_ended count last f free marks list =
-    record { used = Some (record { walked = record { count = count; last = last }; found = f; free = free }); marks = marks; list = list }
+abbrev pub run_ended : ℕ → ℕ → Bool → Walk → List ℕ → KeptRecords → UsedRun
+run_ended count last sure free marks kept =
+    record { used = Some (record { walked = record { count = count; last = last }; sure = sure; free = free }); marks = marks; kept = kept }
 
 -- may the walk take a record after another, with so many to go
 unfoldable pub may_take : List ℕ → ℕ → ℕ → ℕ → Bool
 may_take b left last at = may_meet (capacity_of b) left at && key_follows (key_at b last) (key_at b at)
 
 -- the walk from a record on, with so many to go: each record is looked at, kept and marked, and the free chain is walked beside it
-unfoldable pub used_run : List ℕ → ℕ → ℕ → ℕ → Found → Walk → List ℕ → List ℕ → UsedRun
-used_run b zero at last f free marks list = cond (eqb at 0) (run_ended (capacity_of b - 0) last f free marks list) (run_stopped marks list)
-used_run b (suc left) at last f free marks list =
-    cond (eqb at 0) (run_ended (capacity_of b - suc left) last f free marks list)
+unfoldable pub used_run : List ℕ → ℕ → ℕ → ℕ → Bool → Walk → List ℕ → KeptRecords → UsedRun
+used_run b zero at last sure free marks kept =
+    cond (eqb at 0) (run_ended (capacity_of b - 0) last sure free marks kept) (run_stopped marks kept)
+used_run b (suc left) at last sure free marks kept =
+    cond (eqb at 0) (run_ended (capacity_of b - suc left) last sure free marks kept)
     (cond (may_take b (suc left) last at)
-    (used_run b left (next b at) at (found_with b marks (key_at b last) (key_at b at) f) (stepped b free) (with_named marks (key_at b at) at)
-    (list_with marks list (key_at b at) f.kept at))
-    (run_stopped marks list))
+    (used_run b left (next b at) at (sure && settled b marks (key_at b last) (key_at b at)) (stepped b free) (with_named marks (key_at b at) at)
+    (kept_with marks kept (key_at b at) at))
+    (run_stopped marks kept))
 
--- the whole walk, with these marks and this list at first
-unfoldable pub used_run_of : List ℕ → List ℕ → List ℕ → UsedRun
-used_run_of b marks list =
+-- the whole walk, with these marks and these kept records at first
+unfoldable pub used_run_of : List ℕ → List ℕ → KeptRecords → UsedRun
+used_run_of b marks kept =
     cond (starts_right b)
-    (used_run b (capacity_of b - 1) (next b (word b 1)) (word b 1) (record { sure = true; kept = 0 }) (record { at = word b 2; left = capacity_of b; last = 0 }) marks list)
-    (run_stopped marks list)
+    (used_run b (capacity_of b - 1) (next b (word b 1)) (word b 1) true (record { at = word b 2; left = capacity_of b; last = 0 }) marks kept)
+    (run_stopped marks kept)
 
 -- what the walk finds of the tuples, and the free chain walked beside it
-pub record UsedFound (b marks list : List ℕ) (f : Found) (free : Walk) : Type 0 where
-  pub tuples : Decided b marks list f
+pub record UsedFound (b marks : List ℕ) (kept : KeptRecords) (sure : Bool) (free : Walk) : Type 0 where
+  pub tuples : Decided b marks kept sure
   pub beside : FreeWalk b free 0

@@ -1,14 +1,16 @@
 // The keys of the used chain: do they ascend, and is each one that a store may hold.
 // An inner layer: what its functions require, their callers have shown; only the entry refuses.
-ghost use Rattle.std.specs.Prelude.{◌≡◌, length, option_map, IfSome};
+ghost use Rattle.std.specs.Prelude.{◌≡◌, option_map, IfSome};
 ghost use Rattle.layouts.specs.Buffer.{word};
 ghost use Rattle.model.specs.Rules.{small_key};
-ghost use Rattle.presence.specs.Presence.{Walkable, shaped_key, good_key, Marks, kept_count};
+ghost use Rattle.presence.specs.Presence.{Walkable, shaped_key, good_key, MarksHold, KeptHold};
 ghost use Rattle.verify.specs.Checks.{may_meet, key_follows, starts_right, used_walk, used_run_of, UsedFound};
 
 use super::chains::{Walk, Walked, step};
 use model::Key;
-use presence::ends::{Found, take};
+use presence::ends::take;
+use presence::kept::KeptRecords;
+use presence::marks::Marks;
 use words::{capacity, node_key};
 
 // The greatest name.
@@ -51,8 +53,8 @@ fn key_follows(key: Key, k: Key) -> bool
 pub struct Used {
     // What is found of the chain.
     pub walked: Walked,
-    // What is found of the tuples.
-    pub found: Found,
+    // Is all there that the tuples name, but for second ends that are kept.
+    pub sure: bool,
     // The free chain, walked as far.
     pub free: Walk,
 }
@@ -89,24 +91,22 @@ fn may_meet(c: usize, left: usize, at: usize) -> bool
 
 // Walks the used chain over at most C records, and the free chain beside it; gives up where its keys do not ascend from (0,0,0,0), a store may not hold one, or a next is above C.
 // It marks the tuples that others may name, but the first, and keeps the records whose second ends the marks do not show.
-pub fn walk_used(b: &[u32], marks: &mut [u32], list: &mut [u16]) -> Option<Used>
-    requires { Walkable b.now × Marks b.now marks.old × (length list.old ≡ kept_count) }
+pub fn walk_used(b: &[u32], marks: &mut Marks, kept: &mut KeptRecords) -> Option<Used>
+    requires { Walkable b.now × MarksHold b.now marks.old.words × KeptHold b.now kept.old × (kept.old.count ≡ 0) }
     ensures answer { option_map (λ u. u.walked) result ≡ used_walk b.now }
-    ensures lent { IfSome result (λ u. UsedFound b.now marks.new list.new u.found u.free) }
-    ensures run { record { used = result; marks = marks.new; list = list.new } ≡ used_run_of b.now marks.old list.old }
+    ensures lent { IfSome result (λ u. UsedFound b.now marks.new.words kept.new u.sure u.free) }
+    ensures run { record { used = result; marks = marks.new.words; kept = kept.new } ≡ used_run_of b.now marks.old.words kept.old }
 {
     if !starts_right(b) {
         return None;
     }
     let c = capacity(b);
     let mut free = free_start(b, c);
-    let mut found = Found {
-        sure: true,
-        kept: 0,
-    };
+    let mut sure = true;
     let mut left = c - 1;
     let mut last = words::head_word(b, 1);
     let mut at = chain::next_of(b, last);
+    // By hand: the walk ends where the chain does; a range of turns would be a second end beside it.
     while at != 0 {
         if !may_meet(c, left, at) {
             return None;
@@ -117,7 +117,7 @@ pub fn walk_used(b: &[u32], marks: &mut [u32], list: &mut [u16]) -> Option<Used>
         if !key_follows(key, k) {
             return None;
         }
-        found = take(b, marks, list, found, key, k, at);
+        sure = take(b, marks, kept, sure, key, k, at);
         free = step(b, c, free);
         last = at;
         at = after;
@@ -128,7 +128,7 @@ pub fn walk_used(b: &[u32], marks: &mut [u32], list: &mut [u16]) -> Option<Used>
             count: c - left,
             last,
         },
-        found,
+        sure,
         free,
     })
 }

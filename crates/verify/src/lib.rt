@@ -9,19 +9,21 @@ ghost use Rattle.model.specs.Rules.{sound};
 ghost use Rattle.presence.specs.Presence.{Walkable};
 ghost use Rattle.verify.specs.Checks.{links_right};
 
+use presence::kept::KeptRecords;
+use presence::marks::Marks;
 use presence::named_right;
 
-// Are the chains and the tuples of the used chain right; marks and list are local to one check.
+// Are the chains and the tuples of the used chain right; the marks and the kept records are local to one check.
 fn records_right(b: &[u32]) -> bool
     requires { Walkable b.now }
     ensures { result ≡ (links_right b.now && sound (tuples_of b.now)) }
 {
-    let mut marks: [u32; 4096] = [0; 4096];
-    let mut list: [u16; 2048] = [0; 2048];
-    let Some(used) = keys::walk_used(b, &mut marks, &mut list) else {
+    let mut marks = Marks::new();
+    let mut kept = KeptRecords::new();
+    let Some(used) = keys::walk_used(b, &mut marks, &mut kept) else {
         return false;
     };
-    chains::chains_right(b, used.walked, used.free) && named_right(b, &marks, &list, used.found)
+    chains::chains_right(b, used.walked, used.free) && named_right(b, &marks, &kept, used.sure)
 }
 
 // Is the buffer, of any length and with any words, a store.

@@ -1,9 +1,12 @@
+use mathlib.Core.Path.{ap}
+use Rattle.presence.specs.declared.kept.KeptRecords.{KeptRecords}
 use Rattle.presence.proofs.Hints.{no_marks_lem}
-use Rattle.verify.proofs.Parts.{right_no_walk, right_walk, right_sorted, right_no_chains, right_named}
+use Rattle.presence.proofs.Shows.{none_kept_lem}
+use Rattle.verify.proofs.Parts.{right_no_walk, right_walk, right_sorted, right_named}
 use Rattle.verify.proofs.records_right.Goals as goal
 
 pub walk_used-requires : goal.walk_used-requires
-walk_used-requires c = search no_marks_lem
+walk_used-requires c = (c.requires, no_marks_lem _ _ c.new-marks.ensures, none_kept_lem _ _ c.new-kept.ensures, ap (λ (k : KeptRecords). k.count) c.new-kept.ensures)
 
 pub returns-in_default : goal.returns-in_default
 returns-in_default c = search right_no_walk
@@ -14,9 +17,6 @@ chains_right-requires c = (
   right_walk c.args.b.now c.requires _ c.walk_used.ensures.answer c.in-Some.used c.in-Some.is,
   c.in-Some.ensures.lent.beside,
 )
-
-pub returns-else-chains_right : goal.returns-else-chains_right
-returns-else-chains_right c = search right_no_chains
 
 pub named_right-requires : goal.named_right-requires
 named_right-requires c = (

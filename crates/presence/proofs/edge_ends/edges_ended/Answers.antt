@@ -43,9 +43,6 @@ loop-end-init c =
     c.key_of-k.ensures in
     seek_start _ _ _ (own_space _ _ _ _ _ T)
 
-pub is_at-requires : goal.is_at-requires
-is_at-requires c = (c.loop-end.invariant.seekable.walkable, c.loop-end.invariant.seekable.on.high)
-
 pub next_of-seek-requires : goal.next_of-seek-requires
 next_of-seek-requires c =
     seek_inside _ _ _ _ c.loop-end.invariant _ c.is_before.ensures c.if-not-is_before.false

@@ -1,11 +1,5 @@
-use Rattle.presence.proofs.Rest.{seek_start, seek_inside, seek_next, seek_fewer, seek_told}
+use Rattle.presence.proofs.Rest.{seek_inside, seek_next, seek_fewer, seek_told}
 use Rattle.presence.proofs.seek.holds_from.Goals as goal
-
-pub loop-at-init : goal.loop-at-init
-loop-at-init c = search seek_start
-
-pub is_before-requires : goal.is_before-requires
-is_before-requires c = (c.loop-at.invariant.seekable.walkable, c.loop-at.invariant.seekable.on.high)
 
 pub next_of-at-requires : goal.next_of-at-requires
 next_of-at-requires c = search seek_inside

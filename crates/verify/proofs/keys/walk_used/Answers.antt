@@ -1,7 +1,7 @@
 use native.Mathlib.Omega.{arith}
 use Prim.Native.Nat.{ℕ, ◌-◌}
 use mathlib.Core.Logic.{◌≢◌}
-use mathlib.Core.Path.{refl, sym, ap, ◌∙◌}
+use mathlib.Core.Path.{refl, ap, ◌∙◌}
 use Rattle.std.specs.Prelude.{Some}
 use Rattle.layouts.proofs.Sizes.{some_record}
 use Rattle.presence.proofs.Rest.{record_inside}
@@ -58,12 +58,6 @@ next_of-after-requires c =
 pub key_of-key-requires : goal.key_of-key-requires
 key_of-key-requires c = search record_inside
 
-pub shape_of-marks-then-not-key_follows : goal.shape_of-marks-then-not-key_follows
-shape_of-marks-then-not-key_follows c = c.loop-at.invariant.1.fit.size ∙ sym c.requires.1.size
-
-pub shape_of-list-then-not-key_follows : goal.shape_of-list-then-not-key_follows
-shape_of-list-then-not-key_follows c = c.loop-at.invariant.1.listed.size ∙ sym c.requires.2
-
 pub returns-then-not-key_follows : goal.returns-then-not-key_follows
 returns-then-not-key_follows c =
     let I = c.loop-at.invariant in
@@ -80,15 +74,14 @@ returns-then-not-key_follows c =
       run = run_no _ _ _ _ _ _ _ _ some _ I.0 _ met yes _ k _ key _ told no _ refl ∙ I.2;
     }
 
-pub take-found-requires : goal.take-found-requires
-take-found-requires c =
+pub take-sure-requires : goal.take-sure-requires
+take-sure-requires c =
     let I = c.loop-at.invariant in
     let some = c.loop-at-test.true in
     let met = c.may_meet.ensures in
     let yes = c.if-not-may_meet.false in (
       c.requires.0,
       I.1.fit,
-      I.1.listed.size,
       using_room _ c.requires.0 _ _ _ _ _ _ _ I.1 some _ I.0 _ met yes,
       using_good _ c.requires.0 _ _ _ _ _ _ _ I.1 some _ I.0 _ met yes _ c.key_of-k.ensures _ c.key_of-key.ensures _ c.key_follows.ensures
           c.if-not-key_follows.false,
@@ -124,12 +117,12 @@ loop-at-preserved c =
     let key = c.key_of-key.ensures in
     let told = c.key_follows.ensures in
     let follows = c.if-not-key_follows.false in
-    let taken = c.take-found.ensures in
+    let taken = c.take-sure.ensures in
     let more = using_left _ c.requires.0 _ _ _ _ _ _ _ I.1 some _ I.0 _ met yes in (
       I.0,
-      using_next _ c.requires.0 _ _ _ _ _ _ _ I.1 some _ I.0 _ met yes _ k _ key _ told follows _ taken.answer _ taken.marked _ taken.listed _
+      using_next _ c.requires.0 _ _ _ _ _ _ _ I.1 some _ I.0 _ met yes _ k _ key _ told follows _ taken.answer _ taken.marked _ taken.kept _
           c.next_of-after.ensures _ c.step-free.ensures,
-      run_on _ _ _ _ _ _ _ _ some _ I.0 _ met yes _ k _ key _ told follows more _ taken.answer _ taken.marked _ taken.listed _
+      run_on _ _ _ _ _ _ _ _ some _ I.0 _ met yes _ k _ key _ told follows more _ taken.answer _ taken.marked _ taken.kept _
           c.next_of-after.ensures _ c.step-free.ensures
           ∙ I.2,
     )
