@@ -1,8 +1,8 @@
 -- Numbers printed in base ten: they read back, and how long they are.
 use mathlib.Core.Bool.{Bool, true, false, ◌&&◌, and-true, true≢false}
 use mathlib.Core.List.{[], ◌∷◌, ◌++◌}
-use mathlib.Core.Option.{some}
 use mathlib.Core.Path.{◌≡◌, refl, sym, ap, ◌∙◌, subst}
+use Rattle.std.specs.Prelude.{Some}
 use Prim.Native.Nat.{ℕ, zero, suc, ◌+◌, ◌-◌, ◌*◌, ◌/◌, ◌%◌, ◌^◌, ◌≤◌, ◌<◌}
 use native.Mathlib.Nat.{div-lt_iff_lt-mul, pow-suc}
 use native.Mathlib.Omega.{arith}
@@ -101,7 +101,7 @@ unfolding plain_digits printed_number printed_in is_digit
 plain_printed zero h = refl
 plain_printed (suc x) h = leading_plain (printed_number (suc x)) (leading_printed (suc x) h (omega arith)) (digits_printed (suc x) h)
 
-pub reads_back : (most x : ℕ) → x ≤ most → most ≤ 4294967295 → read_number most (printed_number x) ≡ some x
+pub reads_back : (most x : ℕ) → x ≤ most → most ≤ 4294967295 → read_number most (printed_number x) ≡ Some x
 unfolding read_number
 reads_back most x h k =
     let small : x ≤ 4294967295 = omega arith in
