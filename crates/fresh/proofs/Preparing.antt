@@ -7,8 +7,9 @@ use native.Mathlib.Omega.{arith}
 use lib.Dec.{eqb}
 use lib.ListN.{length, set, length-set}
 use borrow.Author.Tests.{eqb-true, eqb-false}
-use Rattle.model.specs.declared.Preparation.TheVariants.{Refused, Capacity}
+use Rattle.std.specs.Prelude.{Ok, Err}
 use Rattle.model.specs.declared.Key.{Key}
+use Rattle.model.specs.declared.Refusal.TheVariants.{NotAStore}
 use Rattle.model.specs.Keys.{NIL, space_key}
 use Rattle.layouts.specs.Buffer.{word, head_words, record_words, next_place, fits_length, capacity_of, next, tuple_at, past_records, follower, Prepared, Preparing}
 use Rattle.model.proofs.Bools.{clash, not_yes, not_no}
@@ -26,12 +27,19 @@ chained_length C b zero = refl
 chained_length C b (suc n) = length_put_word (chained C b n) (n + 2) next_place _ ∙ chained_length C b n
 
 -- one more record
-pub chained_more : (C : ℕ) (b : List ℕ) (n : ℕ) (b₁ b₂ : List ℕ) (j : ℕ) → b₁ ≡ chained C b n → j ≡ follower C (n + 2) → b₂ ≡ put_next b₁ (n + 2) j
-    → b₂ ≡ chained C b (n + 1)
+pub chained_more : (C : ℕ) (b : List ℕ) (i : ℕ) (b₁ b₂ : List ℕ) (j : ℕ) → 2 ≤ i → b₁ ≡ chained C b (i - 2) → j ≡ follower C i → b₂ ≡ put_next b₁ i j
+    → b₂ ≡ chained C b (i + 1 - 2)
 unfolding chained
-chained_more C b n b₁ b₂ j e f g =
-    let s : suc n ≡ n + 1 = omega arith in
-    g ∙ ap₂ (λ (l : List ℕ) (k : ℕ). put_next l (n + 2) k) e f ∙ ap (chained C b) s
+chained_more C b zero b₁ b₂ j low e f g = absurd (omega arith)
+chained_more C b (suc zero) b₁ b₂ j low e f g = absurd (omega arith)
+chained_more C b (suc (suc n)) b₁ b₂ j low e f g =
+    let s : suc (suc n) ≡ n + 2 = omega arith in
+    let before : suc (suc n) - 2 ≡ n = omega arith in
+    let after : suc (suc n) + 1 - 2 ≡ suc n = omega arith in
+    g
+    ∙ ap₂ (λ (l : List ℕ) (k : ℕ). put_next l (suc (suc n)) k) (e ∙ ap (chained C b) before) f
+    ∙ ap (λ (i : ℕ). put_next (chained C b n) i (follower C i)) s
+    ∙ ap (chained C b) (sym after)
 
 -- the record whose next is written is there
 pub chained_inside : (C : ℕ) (b b₁ : List ℕ) (n : ℕ) → head_words + record_words * C ≤ length b → b₁ ≡ chained C b n → n + 1 < C → Inside b₁ (n + 2)
@@ -219,19 +227,19 @@ module _ (b : List ℕ) (t : Bool) (tested : t ≡ fits_length b) where
   pub prepared_records : (c : ℕ) → not t ≡ false → c ≡ capacity_of b → c ≤ 2048
   prepared_records c n e = records_few b c (tested_fits n) e
 
-  pub prepares : (b' : List ℕ) (c : ℕ) → not t ≡ false → c ≡ capacity_of b → b' ≡ prepared_buffer b → Preparing b (Capacity c) b'
+  pub prepares : (b' : List ℕ) (c : ℕ) → not t ≡ false → c ≡ capacity_of b → b' ≡ prepared_buffer b → Preparing b (Ok c) b'
   prepares b' c n size whole =
       let fits = tested_fits n in
       record {
         outside = λ f. absurd (clash fits f);
-        inside = λ f. (ap Capacity size, subst (Prepared b) (sym whole) (prepared b fits));
+        inside = λ f. (ap Ok size, subst (Prepared b) (sym whole) (prepared b fits));
       }
 
   pub after_prepared : (b' : List ℕ) → not t ≡ false → b' ≡ prepared_buffer b → b' ≡ after_preparing b
   unfolding after_preparing
   after_prepared b' n whole = whole ∙ sym (ap (λ (x : Bool). cond x (prepared_buffer b) b) (tested_fits n))
 
-  pub refuses : not t ≡ true → Preparing b (Refused 1) b
+  pub refuses : not t ≡ true → Preparing b (Err NotAStore) b
   refuses n = record { outside = λ f. (refl, refl); inside = λ f. absurd (clash f (sym tested ∙ not_yes t n)) }
 
   pub after_refused : not t ≡ true → b ≡ after_preparing b

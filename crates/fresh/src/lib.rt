@@ -5,7 +5,7 @@ ghost use Rattle.layouts.specs.Buffer.{head_words, record_words, fits_length, ca
 ghost use Rattle.words.specs.Words.{most_index, Inside};
 ghost use Rattle.fresh.specs.Prepare.{headed, universe_in, chained, prepared_buffer, after_preparing};
 
-use model::Preparation;
+use model::Refusal;
 
 // The free record after record i in ascending order; 0 after the last.
 fn follower_of(c: usize, i: usize) -> usize
@@ -45,11 +45,9 @@ fn chain_free(b: &mut [u32], c: usize)
     requires { (head_words + record_words * c ≤ length b.old) × (c ≤ 2048) }
     ensures { b.new ≡ chained c b.old (c - 1) }
 {
-    let mut n = 0;
-    while n + 1 < c {
-        let j = follower_of(c, n + 2);
-        words::put_next(b, n + 2, j);
-        n += 1;
+    for i in 2..c + 1 {
+        let next = follower_of(c, i);
+        words::put_next(b, i, next);
     }
 }
 
@@ -67,13 +65,13 @@ fn fill(buffer: &mut [u32]) -> usize
 }
 
 // Prepares the buffer as a store that holds UNIVERSE alone, and gives C; a length that does not fit is refused (1).
-pub fn prepare(buffer: &mut [u32]) -> Preparation
+pub fn prepare(buffer: &mut [u32]) -> Result<u32, Refusal>
     ensures rules { Preparing buffer.old result buffer.new }
     ensures words { buffer.new ≡ after_preparing buffer.old }
 {
     if !words::fits_length(buffer) {
-        return Preparation::Refused(1);
+        return Err(Refusal::NotAStore);
     }
     let c = fill(buffer);
-    Preparation::Capacity(c as u32)
+    Ok(c as u32)
 }

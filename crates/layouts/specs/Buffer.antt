@@ -1,11 +1,11 @@
 -- Document 01, "The buffer of records": the layout, the rules of a store as a test that computes, and what preparing leaves.
 -- A buffer is the list of its words. The rules as statements are in Chains.antt, those on the tuples in Rules.antt of the model; proofs/Store.antt proves that the test says yes exactly when they hold.
-use Rattle.std.specs.Prelude.{Bool, true, false, cond, ◌&&◌, List, [], ◌∷◌, ◌++◌, map, ◌≡◌, ℕ, zero, suc, ◌+◌, ◌-◌, ◌*◌, ◌/◌, ◌≤◌, eqb, leb, ltb, length, get_or, drop}
+use Rattle.std.specs.Prelude.{Bool, true, false, cond, ◌&&◌, List, [], ◌∷◌, ◌++◌, map, ◌≡◌, ℕ, zero, suc, ◌+◌, ◌-◌, ◌*◌, ◌/◌, ◌≤◌, eqb, leb, ltb, length, get_or, drop, Result, Ok, Err}
 use Rattle.std.proofs.Math.Option
 use Rattle.std.proofs.Math.Option.{Option, none, some}
-use Rattle.model.specs.declared.Preparation.{Preparation}
-use Rattle.model.specs.declared.Preparation.TheVariants.{Refused, Capacity}
 use Rattle.model.specs.declared.Key.{Key}
+use Rattle.model.specs.declared.Refusal.{Refusal}
+use Rattle.model.specs.declared.Refusal.TheVariants.{NotAStore}
 use Rattle.model.specs.Keys.{NIL, Tuple, space_key}
 use Rattle.model.specs.Tuples.{Tuples}
 use Rattle.model.specs.Numbers.{every_up_to}
@@ -149,6 +149,6 @@ pub record Prepared (before after : List ℕ) : Type 0 where
   pub past : past_records after ≡ past_records before
 
 -- all that preparing does, on any buffer: condition 1, "a length outside 10 to 12,297 words", changes nothing; else it "returns C"
-pub record Preparing (b : List ℕ) (a : Preparation) (b' : List ℕ) : Type 0 where
-  pub outside : fits_length b ≡ false → (a ≡ Refused 1) × (b' ≡ b)
-  pub inside : fits_length b ≡ true → (a ≡ Capacity (capacity_of b)) × Prepared b b'
+pub record Preparing (b : List ℕ) (a : Result ℕ Refusal) (b' : List ℕ) : Type 0 where
+  pub outside : fits_length b ≡ false → (a ≡ Err NotAStore) × (b' ≡ b)
+  pub inside : fits_length b ≡ true → (a ≡ Ok (capacity_of b)) × Prepared b b'

@@ -8,8 +8,10 @@ use Prim.Native.Nat.{ℕ, ◌+◌, ◌*◌, ◌/◌, ◌%◌, ◌≤◌}
 use native.Mathlib.Omega.{arith}
 use lib.ListN.{length, drop, length-append, length-drop, length-map}
 use lib.Seq.{take_at}
+use Rattle.std.specs.Prelude.{Result}
 use Rattle.model.specs.declared.Call.{Call}
 use Rattle.model.specs.declared.Answer.{Answer}
+use Rattle.model.specs.declared.Refusal.{Refusal}
 use Rattle.model.specs.declared.Fields.{Fields}
 use Rattle.model.specs.declared.Pair.{Pair}
 use Rattle.model.specs.Keys.{most_name}
@@ -98,7 +100,7 @@ pub observed_machine : (C : ℕ) (ts : Tuples) (c : Call) (room : ℕ) (l : List
     → observed (answer_of (machine C ts c room).answer) (list_after (machine C ts c room).answer l) ≡ (machine C ts c room).answer
 unfolding observed answer_of
 observed_machine C ts c room l R =
-    answer_form (λ (r : Reply). observed (answer_of r) (list_after r l) ≡ r) C ts c room (λ number. refl) (λ x. refl) (λ x k. refl) (λ x k. refl)
+    answer_form (λ (r : Reply). observed (answer_of r) (list_after r l) ≡ r) C ts c room (λ condition. refl) (λ x. refl) (λ x k. refl) (λ x k. refl)
     (λ v. refl) (λ b. refl) refl
     (λ x. observed_list (listed x (fields_of c) ts) l (listed_small ts R x (fields_of c)))
 
@@ -107,7 +109,7 @@ listed_in_list : (C : ℕ) (ts : State) (c : Call) (room : ℕ) (l : List ℕ) �
     → list_count (answer_of (machine C ts c room).answer) ≤ length l
 unfolding list_after answer_of list_count
 listed_in_list C ts c room l =
-    answer_form (λ (r : Reply). length (list_after r l) ≡ length l → list_count (answer_of r) ≤ length l) C ts c room (λ number e. omega arith)
+    answer_form (λ (r : Reply). length (list_after r l) ≡ length l → list_count (answer_of r) ≤ length l) C ts c room (λ condition e. omega arith)
     (λ x e. omega arith) (λ x k e. omega arith) (λ x k e. omega arith) (λ v e. omega arith) (λ b e. omega arith) (λ e. omega arith)
     (λ x e.
     let ps : List Pair = listed x (fields_of c) ts in
@@ -126,9 +128,9 @@ abbrev pub MachineStep : Layout → List ℕ → Exchange → List ℕ → Type 
 MachineStep Y b x b' = Y.is_store b ≡ true → AsMachine Y b x b'
 
 -- a call on a store lists no more pairs than its list has places
-pub answer_within : (Y : Layout) (b l b' l' : List ℕ) (c : Call) (a : Answer) → OnStore Y b l c a b' l' → length l' ≡ length l → list_count a ≤ length l
+pub answer_within : (Y : Layout) (b l b' l' : List ℕ) (c : Call) (a : Result Answer Refusal) → OnStore Y b l c a b' l' → length l' ≡ length l → list_count a ≤ length l
 answer_within Y b l b' l' c a O e =
-    subst (λ (x : Answer). list_count x ≤ length l) (sym O.answer) (listed_in_list (Y.capacity_of b) (Y.state_of b) c (length l) l (ap length (sym O.list) ∙ e))
+    subst (λ (x : Result Answer Refusal). list_count x ≤ length l) (sym O.answer) (listed_in_list (Y.capacity_of b) (Y.state_of b) c (length l) l (ap length (sym O.list) ∙ e))
 
 module _ (Y : Layout) (L : Lawful Y) where
   -- ---- the whole list

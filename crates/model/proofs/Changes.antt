@@ -8,6 +8,7 @@ use lib.ListN.{length}
 use Rattle.model.specs.declared.Call.{Call}
 use Rattle.model.specs.declared.Fields.{Fields}
 use Rattle.model.specs.declared.Operator.{Operator}
+use Rattle.model.specs.declared.Refusal.{Refusal}
 use Rattle.model.specs.declared.Operator.TheVariants.{Create, Bind, Value as Values, Exists, Destroy, List as Lists}
 use Rattle.model.specs.Tuples.{Tuples}
 use Rattle.model.specs.Steps.{Reply, fields_of, decoded, first_argument, object_keys, created, after, reply, idle_reply}
@@ -47,21 +48,21 @@ pub counts_the_difference : (C : ℕ) (ts : Tuples) (r : Request) → TupleRules
 unfolding serve machine outcome_of added_in removed_in
 counts_the_difference C ts (calling r) R = go (refusal_of C ts r.call r.room)
   where
-    go : (x : Option ℕ) → Counted ts (outcome_of x ts r.call)
-    go (some number) = refl
+    go : (x : Option Refusal) → Counted ts (outcome_of x ts r.call)
+    go (some condition) = refl
     go none =
         either_outcome (Counted ts) (selects_nothing r.call) (idle r.call ts) (step r.call ts)
         (λ e. still ts (idle r.call ts).answer (idle_counted (operator_of r.call.operator) _))
         (λ e. step_counted (operator_of r.call.operator) (first_argument (decoded r.call)) (fields_of r.call) ts R)
 
 -- a refused call counts nothing
-pub refused_counts_nothing : (C : ℕ) (ts : Tuples) (c : Call) (room number : ℕ) → refusal_of C ts c room ≡ some number → CountsNothing (machine C ts c room).answer
+pub refused_counts_nothing : (C : ℕ) (ts : Tuples) (c : Call) (room : ℕ) (condition : Refusal) → refusal_of C ts c room ≡ some condition → CountsNothing (machine C ts c room).answer
 unfolding machine outcome_of added_in removed_in
-refused_counts_nothing C ts c room number e = subst (λ (x : Option ℕ). CountsNothing (outcome_of x ts c).answer) (sym e) (refl, refl)
+refused_counts_nothing C ts c room condition e = subst (λ (x : Option Refusal). CountsNothing (outcome_of x ts c).answer) (sym e) (refl, refl)
 
 -- a call with no selection counts nothing
 pub unselected_counts_nothing : (C : ℕ) (ts : Tuples) (c : Call) (room : ℕ) → selects_nothing c ≡ true → CountsNothing (machine C ts c room).answer
 unfolding added_in removed_in
 unselected_counts_nothing C ts c room e =
     subst (λ (o : Outcome). CountsNothing o.answer) (sym (nothing_idle C ts c room e))
-    (nothing_form CountsNothing (λ number. (refl, refl)) (λ x. (refl, refl)) (λ x. (refl, refl)) (λ x. (refl, refl)) (λ v. (refl, refl)) (refl, refl) (refl, refl) c)
+    (nothing_form CountsNothing (λ condition. (refl, refl)) (λ x. (refl, refl)) (λ x. (refl, refl)) (λ x. (refl, refl)) (λ v. (refl, refl)) (refl, refl) (refl, refl) c)

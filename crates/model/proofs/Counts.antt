@@ -1,13 +1,14 @@
 -- How many pairs a call can list: no more than there are tuples, so that 2,048 places are enough for any call.
 use mathlib.Core.Bool.{Bool, true, false, cond, ◌&&◌, ◌||◌, false≢true, or-false}
 use mathlib.Core.List.{List, [], ◌∷◌, ◌++◌, map}
-use mathlib.Core.Option.{some}
+use mathlib.Core.Option.{some, none-ne-some, some-injective}
 use mathlib.Core.Path.{◌≡◌, refl, sym, ap, ◌∙◌, subst}
 use Prim.Native.Nat.{ℕ, suc, ◌≤◌, Ordering}
 use native.Mathlib.Omega.{arith}
 use lib.Dec.{eqb}
 use lib.ListN.{length, length-map}
 use borrow.Author.Tests.{eqb-true, eq-eqb, ltb-true}
+use Rattle.std.specs.Prelude.{Result}
 use Rattle.model.specs.declared.Answer.{Answer}
 use Rattle.model.specs.declared.Call.{Call}
 use Rattle.model.specs.declared.Fields.{Fields}
@@ -18,6 +19,9 @@ use Rattle.model.specs.declared.Listing.{Listing}
 use Rattle.model.specs.declared.Operator.{Operator}
 use Rattle.model.specs.declared.Operator.TheVariants.{Create, Bind, Value as Values, Exists, Destroy, List as Lists}
 use Rattle.model.specs.declared.Pair.{Pair}
+use Rattle.model.specs.declared.Refusal.{Refusal}
+use Rattle.model.specs.declared.Refusal.TheVariants.{ListTooShort, Full}
+use Rattle.model.specs.Numbered.{number_of}
 use Rattle.model.specs.Ordered.{by_order, put}
 use Rattle.model.specs.Keys.{is_node, is_edge}
 use Rattle.model.specs.Tuples.{Tuples}
@@ -30,7 +34,7 @@ use Rattle.model.specs.Layouts.{Layout, Lawful}
 use Rattle.model.specs.OneCall.{answer_of, list_count, OnStore}
 use Rattle.model.proofs.Order.{pairs}
 use Rattle.model.proofs.Bools.{or_left, or_right, and_right, and_both}
-use Rattle.model.proofs.Refusals.{none≢some, answer_form}
+use Rattle.model.proofs.Refusals.{answer_form}
 
 -- ---- ascending lists
 
@@ -184,42 +188,48 @@ module _ (Y : Layout) (L : Lawful Y) where
   machine_most : (b : List ℕ) (c : Call) (room : ℕ) → Y.is_store b ≡ true → list_count (answer_of (machine (Y.capacity_of b) (Y.state_of b) c room).answer) ≤ 2048
   unfolding answer_of list_count
   machine_most b c room store =
-      answer_form (λ (r : Reply). list_count (answer_of r) ≤ 2048) (Y.capacity_of b) (Y.state_of b) c room (λ number. omega arith) (λ x. omega arith)
+      answer_form (λ (r : Reply). list_count (answer_of r) ≤ 2048) (Y.capacity_of b) (Y.state_of b) c room (λ condition. omega arith) (λ x. omega arith)
       (λ x k. omega arith) (λ x k. omega arith) (λ v. omega arith) (λ t. omega arith) (omega arith) (λ l. omega (arith, listed_within (Y.state_of b) l (fields_of c), store_most b store))
 
   -- .. nor does a call
-  pub answer_most : (b l b' l' : List ℕ) (c : Call) (a : Answer) → Y.is_store b ≡ true → OnStore Y b l c a b' l' → list_count a ≤ 2048
-  answer_most b l b' l' c a store O = subst (λ (x : Answer). list_count x ≤ 2048) (sym O.answer) (machine_most b c _ store)
+  pub answer_most : (b l b' l' : List ℕ) (c : Call) (a : Result Answer Refusal) → Y.is_store b ≡ true → OnStore Y b l c a b' l' → list_count a ≤ 2048
+  answer_most b l b' l' c a store O = subst (λ (x : Result Answer Refusal). list_count x ≤ 2048) (sym O.answer) (machine_most b c _ store)
 
 -- ---- 2,048 places are enough for any call
 
--- the condition that wins applies
-abbrev any_applies : ℕ → List Stop → Bool
-any_applies n [] = false
-any_applies n (x ∷ xs) = (eqb x.number n && x.applies) || any_applies n xs
+-- is it this condition
+abbrev is_condition : Refusal → Refusal → Bool
+is_condition r x = eqb (number_of x) (number_of r)
 
-winner_applies : (n : ℕ) (xs : List Stop) → first xs ≡ some n → any_applies n xs ≡ true
+-- the condition that wins applies
+abbrev any_applies : Refusal → List Stop → Bool
+any_applies r [] = false
+any_applies r (x ∷ xs) = (is_condition r x.condition && x.applies) || any_applies r xs
+
+winner_applies : (r : Refusal) (xs : List Stop) → first xs ≡ some r → any_applies r xs ≡ true
 unfolding first
-winner_applies n [] e = absurd (none≢some e)
-winner_applies n (x ∷ xs) e = go x.applies (winner_applies n xs) e
+winner_applies r [] e = absurd (none-ne-some _ e)
+winner_applies r (x ∷ xs) e = go x.applies (winner_applies r xs) e
   where
-    go : (b : Bool) → (first xs ≡ some n → any_applies n xs ≡ true) → cond b (some x.number) (first xs) ≡ some n
-        → ((eqb x.number n && b) || any_applies n xs) ≡ true
-    go true ih f = or_left (eqb x.number n && true) (any_applies n xs) (and_both (eqb x.number n) true (eq-eqb x.number n cc) refl)
-    go false ih f = or_right (eqb x.number n && false) (any_applies n xs) (ih f)
+    go : (b : Bool) → (first xs ≡ some r → any_applies r xs ≡ true) → cond b (some x.condition) (first xs) ≡ some r
+        → ((is_condition r x.condition && b) || any_applies r xs) ≡ true
+    go true ih f =
+        let same = eq-eqb (number_of x.condition) (number_of r) (ap number_of (some-injective _ _ f)) in
+        or_left (is_condition r x.condition && true) (any_applies r xs) (and_both (is_condition r x.condition) true same refl)
+    go false ih f = or_right (is_condition r x.condition && false) (any_applies r xs) (ih f)
 
 -- condition 9 wins only where the list is shorter than k
-short_applies : (C : ℕ) (ts : Tuples) (c : Call) (room : ℕ) → refusal_of C ts c room ≡ some 9 → list_short (decoded c) ts room ≡ true
-unfolding refusal_of earlier of_call of_tuples if_looked_up
-short_applies C ts c room e = go (selects_nothing c) (winner_applies 9 _ e)
+short_applies : (C : ℕ) (ts : Tuples) (c : Call) (room : ℕ) → refusal_of C ts c room ≡ some ListTooShort → list_short (decoded c) ts room ≡ true
+unfolding refusal_of earlier of_call of_tuples if_looked_up number_of
+short_applies C ts c room e = go (selects_nothing c) (winner_applies ListTooShort _ e)
   where
-    go : (t : Bool) → any_applies 9 ((of_call c ++ cond t [] (of_tuples ts (decoded c) room)) ++ cond t [] (stop 10 (full C (decoded c) ts) ∷ [])) ≡ true → list_short (decoded c) ts room ≡ true
+    go : (t : Bool) → any_applies ListTooShort ((of_call c ++ cond t [] (of_tuples ts (decoded c) room)) ++ cond t [] (stop Full (full C (decoded c) ts) ∷ [])) ≡ true → list_short (decoded c) ts room ≡ true
     go true h = absurd (false≢true h)
     go false h = sym (or-false _) ∙ h
 
 -- on a store no call with 2,048 places or more is refused 9
 pub places_enough : (Y : Layout) → Lawful Y → (b : List ℕ) (c : Call) (room : ℕ) → Y.is_store b ≡ true → 2048 ≤ room
-    → refusal_of (Y.capacity_of b) (Y.state_of b) c room ≡ some 9 → ⊥
+    → refusal_of (Y.capacity_of b) (Y.state_of b) c room ≡ some ListTooShort → ⊥
 unfolding list_short
 places_enough Y L b c room store enough e =
     let short = ltb-true room _ (short_applies (Y.capacity_of b) (Y.state_of b) c room e) in

@@ -1,4 +1,5 @@
 pub mod Bools
+pub mod Numbered
 pub mod Numbers
 pub mod Order
 pub mod Ordered

@@ -5,6 +5,7 @@ use mathlib.Core.Option.{Option, none, some}
 use mathlib.Core.Path.{◌≡◌, refl, sym, ap, ◌∙◌}
 use Prim.Native.Nat.{ℕ}
 use Rattle.model.specs.declared.Call.{Call}
+use Rattle.model.specs.declared.Refusal.{Refusal}
 use Rattle.model.specs.Keys.{Value}
 use Rattle.model.specs.Steps.{decoded, first_argument, Reply, refusal, name, added, removed, valued, yes_no, pairs, idle_reply}
 use Rattle.model.specs.Refusals.{selects_nothing, first, of_call}
@@ -18,20 +19,20 @@ use Rattle.model.proofs.Cases.{computed}
 -- "C, B and D change nothing ..": whatever the state, C and the list, the answer is that of the call alone, and the state stays
 pub nothing_idle : (C : ℕ) (ts : State) (c : Call) (room : ℕ) → selects_nothing c ≡ true → machine C ts c room ≡ record { answer = nothing_reply c; state = ts }
 unfolding machine outcome_of nothing_reply refusal_or
-nothing_idle C ts c room e = ap (λ (r : Option ℕ). outcome_of r ts c) (not_looked_up C ts c room e) ∙ go (first (of_call c))
+nothing_idle C ts c room e = ap (λ (r : Option Refusal). outcome_of r ts c) (not_looked_up C ts c room e) ∙ go (first (of_call c))
   where
-    go : (r : Option ℕ) → outcome_of r ts c ≡ record { answer = refusal_or (idle c ts).answer r; state = ts }
-    go (some number) = refl
+    go : (r : Option Refusal) → outcome_of r ts c ≡ record { answer = refusal_or (idle c ts).answer r; state = ts }
+    go (some condition) = refl
     go none = rw e
 
 -- the answer is a refusal, a name (alone, or with no tuple added or removed), a value, a no or an empty list
-pub nothing_form : (P : Reply → Type 0) → ((number : ℕ) → P (refusal number)) → ((x : ℕ) → P (name x)) → ((x : ℕ) → P (added x 0))
+pub nothing_form : (P : Reply → Type 0) → ((condition : Refusal) → P (refusal condition)) → ((x : ℕ) → P (name x)) → ((x : ℕ) → P (added x 0))
     → ((x : ℕ) → P (removed x 0)) → ((v : Value) → P (valued v)) → P (yes_no false) → P (pairs 0 []) → (c : Call) → P (nothing_reply c)
 unfolding nothing_reply refusal_or
 nothing_form P refused named added_so removed_so Valued-as no_said none_listed c = go (first (of_call c))
   where
-    go : (r : Option ℕ) → P (refusal_or (idle_reply (decoded c).operator (first_argument (decoded c))) r)
-    go (some number) = refused number
+    go : (r : Option Refusal) → P (refusal_or (idle_reply (decoded c).operator (first_argument (decoded c))) r)
+    go (some condition) = refused condition
     go none = idle_form P named added_so removed_so Valued-as no_said none_listed (decoded c).operator _
 
 -- ---- in a list of calls

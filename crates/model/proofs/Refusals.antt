@@ -2,7 +2,7 @@
 use mathlib.Core.Bool.{Bool, true, false, cond, not, ◌&&◌, ◌||◌, false≢true, true≢false, and-true}
 use mathlib.Core.List.{List, [], ◌∷◌, ◌++◌}
 use mathlib.Core.Logic.{◌↔◌}
-use mathlib.Core.Option.{Option, none, some}
+use mathlib.Core.Option.{Option, none, some, none-ne-some, some-ne-none, some-injective}
 use mathlib.Core.Path.{◌≡◌, refl, sym, ap, ◌∙◌}
 use Prim.Native.Nat.{ℕ, ◌+◌, ◌≤◌, ◌<◌}
 use native.Mathlib.Omega.{arith}
@@ -12,6 +12,9 @@ use borrow.Author.Tests.{ltb-true, lt-ltb}
 use Rattle.model.specs.declared.Call.{Call}
 use Rattle.model.specs.declared.Fields.{Fields}
 use Rattle.model.specs.declared.Pair.{Pair}
+use Rattle.model.specs.declared.Refusal.{Refusal}
+use Rattle.model.specs.declared.Refusal.TheVariants.{NoOperator, ZeroName, UniverseDestroyed, SpaceAbsent, NodeAbsent, SecondAbsent, EdgeAbsent, ListTooShort, Full}
+use Rattle.model.specs.Numbered.{number_of}
 use Rattle.model.specs.declared.Key.{Key}
 use Rattle.model.specs.declared.Listing.{Listing}
 use Rattle.model.specs.Keys.{Value}
@@ -41,15 +44,15 @@ either_outcome P false x y p q = q refl
 -- where the space is looked up: conditions 2 to 10
 abbrev pub asked : ℕ → Tuples → Call → ℕ → List Stop
 asked C ts c room =
-    stop 2 (no_operator c)
-    ∷ stop 3 (zero_name c)
-    ∷ stop 4 (destroys_universe c)
-    ∷ stop 5 (space_absent (decoded c) ts)
-    ∷ stop 6 (node_absent (decoded c) ts)
-    ∷ stop 7 (second_absent (decoded c) ts)
-    ∷ stop 8 (edge_absent (decoded c) ts)
-    ∷ stop 9 (list_short (decoded c) ts room)
-    ∷ stop 10 (full C (decoded c) ts)
+    stop NoOperator (no_operator c)
+    ∷ stop ZeroName (zero_name c)
+    ∷ stop UniverseDestroyed (destroys_universe c)
+    ∷ stop SpaceAbsent (space_absent (decoded c) ts)
+    ∷ stop NodeAbsent (node_absent (decoded c) ts)
+    ∷ stop SecondAbsent (second_absent (decoded c) ts)
+    ∷ stop EdgeAbsent (edge_absent (decoded c) ts)
+    ∷ stop ListTooShort (list_short (decoded c) ts room)
+    ∷ stop Full (full C (decoded c) ts)
     ∷ []
 
 pub looked_up : (C : ℕ) (ts : Tuples) (c : Call) (room : ℕ) → selects_nothing c ≡ false → refusal_of C ts c room ≡ first (asked C ts c room)
@@ -67,11 +70,11 @@ not_looked_up C ts c room e = rw e
 pub idle_stays : (c : Call) (ts : State) → (idle c ts).state ≡ ts
 idle_stays c ts = refl
 
-pub stopped : (C : ℕ) (ts : Tuples) (c : Call) (room number : ℕ) → refusal_of C ts c room ≡ some number
-    → ((machine C ts c room).answer ≡ refusal number) × ((machine C ts c room).state ≡ ts)
+pub stopped : (C : ℕ) (ts : Tuples) (c : Call) (room : ℕ) (condition : Refusal) → refusal_of C ts c room ≡ some condition
+    → ((machine C ts c room).answer ≡ refusal condition) × ((machine C ts c room).state ≡ ts)
 unfolding machine outcome_of
-stopped C ts c room number e =
-    (ap (λ (r : Option ℕ). (outcome_of r ts c).answer) e, ap (λ (r : Option ℕ). (outcome_of r ts c).state) e)
+stopped C ts c room condition e =
+    (ap (λ (r : Option Refusal). (outcome_of r ts c).answer) e, ap (λ (r : Option Refusal). (outcome_of r ts c).state) e)
 
 after_reading : (op : Operator) (f : Fields) (ts : Tuples) → writes op ≡ false → after op f ts ≡ ts
 unfolding writes after
@@ -87,89 +90,83 @@ pub reading : (C : ℕ) (ts : Tuples) (c : Call) (room : ℕ) → writes (operat
 unfolding machine outcome_of
 reading C ts c room w = go (refusal_of C ts c room)
   where
-    go : (r : Option ℕ) → (outcome_of r ts c).state ≡ ts
-    go (some number) = refl
+    go : (r : Option Refusal) → (outcome_of r ts c).state ≡ ts
+    go (some condition) = refl
     go none =
         either_outcome (λ (o : Outcome). o.state ≡ ts) (selects_nothing c) (idle c ts) (step c ts) (λ e. idle_stays c ts) (λ e. after_reading (operator_of c.operator) (fields_of c) ts w)
 
 -- ---- full
-
-some_injective : {a b : ℕ} → some a ≡ some b → a ≡ b
-some_injective e = cc
-
-pub none≢some : {a : ℕ} → none ≡ some a → ⊥
-none≢some {a} e = let z : ◌≡◌ {A = ℕ} 0 1 = cc in omega arith
 
 pub first_none : (xs ys : List Stop) → first xs ≡ none → first (xs ++ ys) ≡ first ys
 unfolding first
 first_none [] ys e = refl
 first_none (x ∷ xs) ys e = go x.applies (first_none xs ys) e
   where
-    go : (b : Bool) → (first xs ≡ none → first (xs ++ ys) ≡ first ys) → cond b (some x.number) (first xs) ≡ none
-        → cond b (some x.number) (first (xs ++ ys)) ≡ first ys
-    go true ih f = absurd (none≢some (sym f))
+    go : (b : Bool) → (first xs ≡ none → first (xs ++ ys) ≡ first ys) → cond b (some x.condition) (first xs) ≡ none
+        → cond b (some x.condition) (first (xs ++ ys)) ≡ first ys
+    go true ih f = absurd (some-ne-none _ f)
     go false ih f = ih f
 
-pub first_some : (xs ys : List Stop) (n : ℕ) → first xs ≡ some n → first (xs ++ ys) ≡ some n
+pub first_some : (xs ys : List Stop) (r : Refusal) → first xs ≡ some r → first (xs ++ ys) ≡ some r
 unfolding first
-first_some [] ys n e = absurd (none≢some e)
-first_some (x ∷ xs) ys n e = go x.applies (first_some xs ys n) e
+first_some [] ys r e = absurd (none-ne-some _ e)
+first_some (x ∷ xs) ys r e = go x.applies (first_some xs ys r) e
   where
-    go : (b : Bool) → (first xs ≡ some n → first (xs ++ ys) ≡ some n) → cond b (some x.number) (first xs) ≡ some n
-        → cond b (some x.number) (first (xs ++ ys)) ≡ some n
+    go : (b : Bool) → (first xs ≡ some r → first (xs ++ ys) ≡ some r) → cond b (some x.condition) (first xs) ≡ some r
+        → cond b (some x.condition) (first (xs ++ ys)) ≡ some r
     go true ih f = f
     go false ih f = ih f
 
--- the number that wins is that of one of the conditions
-abbrev pub every_number : (ℕ → Bool) → List Stop → Bool
-every_number p [] = true
-every_number p (x ∷ xs) = p x.number && every_number p xs
+-- the condition that wins is one of them
+abbrev pub every_condition : (Refusal → Bool) → List Stop → Bool
+every_condition p [] = true
+every_condition p (x ∷ xs) = p x.condition && every_condition p xs
 
-pub first_number : (p : ℕ → Bool) (xs : List Stop) (n : ℕ) → every_number p xs ≡ true → first xs ≡ some n → p n ≡ true
+pub first_condition : (p : Refusal → Bool) (xs : List Stop) (r : Refusal) → every_condition p xs ≡ true → first xs ≡ some r → p r ≡ true
 unfolding first
-first_number p [] n h e = absurd (none≢some e)
-first_number p (x ∷ xs) n h e = go x.applies (first_number p xs n (and_right (p x.number) (every_number p xs) h)) e
+first_condition p [] r h e = absurd (none-ne-some _ e)
+first_condition p (x ∷ xs) r h e = go x.applies (first_condition p xs r (and_right (p x.condition) (every_condition p xs) h)) e
   where
-    go : (b : Bool) → (first xs ≡ some n → p n ≡ true) → cond b (some x.number) (first xs) ≡ some n → p n ≡ true
-    go true ih f = ap p (sym (some_injective f)) ∙ and_left (p x.number) (every_number p xs) h
+    go : (b : Bool) → (first xs ≡ some r → p r ≡ true) → cond b (some x.condition) (first xs) ≡ some r → p r ≡ true
+    go true ih f = ap p (sym (some-injective _ _ f)) ∙ and_left (p x.condition) (every_condition p xs) h
     go false ih f = ih f
 
-abbrev not_ten : ℕ → Bool
-not_ten n = not (eqb n 10)
+abbrev not_full : Refusal → Bool
+not_full r = not (eqb (number_of r) 10)
 
-earlier_not_ten : (ts : Tuples) (c : Call) (room : ℕ) → every_number not_ten (earlier ts c room) ≡ true
-unfolding of_call of_tuples if_looked_up earlier
-earlier_not_ten ts c room = go (selects_nothing c)
+earlier_not_full : (ts : Tuples) (c : Call) (room : ℕ) → every_condition not_full (earlier ts c room) ≡ true
+unfolding of_call of_tuples if_looked_up earlier number_of
+earlier_not_full ts c room = go (selects_nothing c)
   where
-    go : (t : Bool) → every_number not_ten (of_call c ++ cond t [] (of_tuples ts (decoded c) room)) ≡ true
+    go : (t : Bool) → every_condition not_full (of_call c ++ cond t [] (of_tuples ts (decoded c) room)) ≡ true
     go true = refl
     go false = refl
 
 -- condition 10 wins exactly when no earlier one applies, the space is looked up and it applies
-abbrev WinsTen : ℕ → Tuples → Call → ℕ → Type 0
-WinsTen C ts c room = (first (earlier ts c room) ≡ none) × (selects_nothing c ≡ false) × (full C (decoded c) ts ≡ true)
+abbrev WinsFull : ℕ → Tuples → Call → ℕ → Type 0
+WinsFull C ts c room = (first (earlier ts c room) ≡ none) × (selects_nothing c ≡ false) × (full C (decoded c) ts ≡ true)
 
-ten_wins : (C : ℕ) (ts : Tuples) (c : Call) (room : ℕ) → refusal_of C ts c room ≡ some 10 → WinsTen C ts c room
-unfolding refusal_of if_looked_up first
-ten_wins C ts c room e = go (first (earlier ts c room)) refl
+full_wins : (C : ℕ) (ts : Tuples) (c : Call) (room : ℕ) → refusal_of C ts c room ≡ some Full → WinsFull C ts c room
+unfolding refusal_of if_looked_up first number_of
+full_wins C ts c room e = go (first (earlier ts c room)) refl
   where
-    last : (t b : Bool) → first (cond t [] (stop 10 b ∷ [])) ≡ some 10 → (t ≡ false) × (b ≡ true)
-    last true b f = absurd (none≢some f)
+    last : (t b : Bool) → first (cond t [] (stop Full b ∷ [])) ≡ some Full → (t ≡ false) × (b ≡ true)
+    last true b f = absurd (none-ne-some _ f)
     last false true f = (refl, refl)
-    last false false f = absurd (none≢some f)
+    last false false f = absurd (none-ne-some _ f)
 
-    go : (r : Option ℕ) → first (earlier ts c room) ≡ r → WinsTen C ts c room
+    go : (r : Option Refusal) → first (earlier ts c room) ≡ r → WinsFull C ts c room
     go none f = let l = last (selects_nothing c) (full C (decoded c) ts) (sym (first_none (earlier ts c room) _ f) ∙ e) in (f, l.0, l.1)
-    go (some n) f =
-        let ten : n ≡ 10 = some_injective (sym (first_some (earlier ts c room) _ n f) ∙ e) in
-        absurd (false≢true (sym (ap not_ten ten) ∙ first_number not_ten (earlier ts c room) n (earlier_not_ten ts c room) f))
+    go (some x) f =
+        let last_one : x ≡ Full = some-injective _ _ (sym (first_some (earlier ts c room) _ x f) ∙ e) in
+        absurd (false≢true (sym (ap not_full last_one) ∙ first_condition not_full (earlier ts c room) x (earlier_not_full ts c room) f))
 
-wins_ten : (C : ℕ) (ts : Tuples) (c : Call) (room : ℕ) → WinsTen C ts c room → refusal_of C ts c room ≡ some 10
+wins_full : (C : ℕ) (ts : Tuples) (c : Call) (room : ℕ) → WinsFull C ts c room → refusal_of C ts c room ≡ some Full
 unfolding refusal_of if_looked_up first
-wins_ten C ts c room w =
+wins_full C ts c room w =
     first_none (earlier ts c room) _ w.0
-    ∙ ap (λ (t : Bool). first (cond t [] (stop 10 (full C (decoded c) ts) ∷ []))) w.1
-    ∙ ap (λ (b : Bool). first (stop 10 b ∷ [])) w.2
+    ∙ ap (λ (t : Bool). first (cond t [] (stop Full (full C (decoded c) ts) ∷ []))) w.1
+    ∙ ap (λ (b : Bool). first (stop Full b ∷ [])) w.2
 
 -- ---- the forms of an answer
 
@@ -197,15 +194,15 @@ reply_form P first f ts named added_so removed_so Valued-as said all_listed (Des
 reply_form P first f ts named added_so removed_so Valued-as said all_listed (Lists l) = all_listed l
 
 -- what holds of each form holds of every answer of the machine
-pub answer_form : (P : Reply → Type 0) (C : ℕ) (ts : Tuples) (c : Call) (room : ℕ) → ((number : ℕ) → P (refusal number)) → ((x : ℕ) → P (name x))
+pub answer_form : (P : Reply → Type 0) (C : ℕ) (ts : Tuples) (c : Call) (room : ℕ) → ((condition : Refusal) → P (refusal condition)) → ((x : ℕ) → P (name x))
     → ((x k : ℕ) → P (added x k)) → ((x k : ℕ) → P (removed x k)) → ((v : Value) → P (valued v)) → ((b : Bool) → P (yes_no b)) → P (pairs 0 [])
     → ((l : Listing) → P (pairs (length (listed l (fields_of c) ts)) (listed l (fields_of c) ts)))
     → P (machine C ts c room).answer
 unfolding machine outcome_of
 answer_form P C ts c room refused named added_so removed_so Valued-as said none_listed all_listed = go (refusal_of C ts c room)
   where
-    go : (r : Option ℕ) → P (outcome_of r ts c).answer
-    go (some number) = refused number
+    go : (r : Option Refusal) → P (outcome_of r ts c).answer
+    go (some condition) = refused condition
     go none =
         either_outcome (λ (o : Outcome). P o.answer) (selects_nothing c) (idle c ts) (step c ts)
         (λ e. idle_form P named (λ x. added_so x 0) (λ x. removed_so x 0) Valued-as (said false) none_listed (operator_of c.operator) _)
@@ -213,7 +210,7 @@ answer_form P C ts c room refused named added_so removed_so Valued-as said none_
 
 -- no step answers a refusal
 abbrev is_refusal : Reply → Bool
-is_refusal (refusal n) = true
+is_refusal (refusal condition) = true
 is_refusal (name x) = false
 is_refusal (added x k) = false
 is_refusal (removed x k) = false
@@ -222,13 +219,13 @@ is_refusal (yes_no b) = false
 is_refusal (pairs k ps) = false
 
 -- a refusal is answered exactly when the call is stopped by that condition
-pub refused_exactly : (C : ℕ) (ts : Tuples) (c : Call) (room number : ℕ)
-    → ((machine C ts c room).answer ≡ refusal number) ↔ (refusal_of C ts c room ≡ some number)
+pub refused_exactly : (C : ℕ) (ts : Tuples) (c : Call) (room : ℕ) (condition : Refusal)
+    → ((machine C ts c room).answer ≡ refusal condition) ↔ (refusal_of C ts c room ≡ some condition)
 unfolding machine outcome_of
-refused_exactly C ts c room number = (λ e. go (refusal_of C ts c room) e, λ e. ap (λ (r : Option ℕ). (outcome_of r ts c).answer) e)
+refused_exactly C ts c room condition = (λ e. go (refusal_of C ts c room) e, λ e. ap (λ (r : Option Refusal). (outcome_of r ts c).answer) e)
   where
-    go : (r : Option ℕ) → (outcome_of r ts c).answer ≡ refusal number → r ≡ some number
-    go (some n) e = cc
+    go : (r : Option Refusal) → (outcome_of r ts c).answer ≡ refusal condition → r ≡ some condition
+    go (some x) e = cc
     go none e = absurd (true≢false (ap is_refusal (sym e) ∙ answers_none))
       where
         answers_none : is_refusal (cond (selects_nothing c) (idle c ts) (step c ts)).answer ≡ false
@@ -254,13 +251,13 @@ adding_selects C ts c fits = go (selects_nothing c)
     go false h = refl
 
 -- "'full' is answered exactly when no earlier refusal applies and tuples present plus to add exceed C", where those present do not
-pub full_exactly_lem : (C : ℕ) (ts : Tuples) (r : Request) → length ts ≤ C → ((serve C ts r).answer ≡ refusal 10) ↔ Exceeds C ts r
+pub full_exactly_lem : (C : ℕ) (ts : Tuples) (r : Request) → length ts ≤ C → ((serve C ts r).answer ≡ refusal Full) ↔ Exceeds C ts r
 unfolding full serve
 full_exactly_lem C ts (calling r) fits =
     let c = r.call in
-    let i = refused_exactly C ts c r.room 10 in (
-      λ e. let w = ten_wins C ts c r.room (i.0 e) in (w.0, omega (arith, ltb-true C _ w.2, with_added ts c w.1)),
-      λ h. let e = adding_selects C ts c fits h.1 in i.1 (wins_ten C ts c r.room (h.0, e, lt-ltb C _ (omega (arith, h.1, with_added ts c e)))),
+    let i = refused_exactly C ts c r.room Full in (
+      λ e. let w = full_wins C ts c r.room (i.0 e) in (w.0, omega (arith, ltb-true C _ w.2, with_added ts c w.1)),
+      λ h. let e = adding_selects C ts c fits h.1 in i.1 (wins_full C ts c r.room (h.0, e, lt-ltb C _ (omega (arith, h.1, with_added ts c e)))),
     )
 
 -- ---- nodes that were collected

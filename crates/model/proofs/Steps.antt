@@ -2,7 +2,7 @@
 use mathlib.Core.Bool.{Bool, true, false, cond, not, ◌&&◌, ◌||◌, false≢true, true≢false}
 use mathlib.Core.List.{List, [], ◌∷◌}
 use mathlib.Core.Logic.{⊎_elim, ◌≢◌}
-use mathlib.Core.Option.{Option, none, some}
+use mathlib.Core.Option.{Option, none, some, some-ne-none}
 use mathlib.Core.Path.{◌≡◌, refl, sym, ◌∙◌, subst}
 use Prim.Native.Nat.{ℕ, ◌+◌, ◌≤◌}
 use native.Mathlib.Omega.{arith}
@@ -24,6 +24,7 @@ use Rattle.model.specs.declared.Listing.{Listing}
 use Rattle.model.specs.declared.Object.{Object}
 use Rattle.model.specs.declared.Operator.{Operator}
 use Rattle.model.specs.declared.Operator.TheVariants.{Create, Bind, Value as Values, Exists, Destroy, List as Lists}
+use Rattle.model.specs.declared.Refusal.{Refusal}
 use Rattle.model.specs.declared.Removal.{Removal}
 use Rattle.model.specs.Operators.{table, operator_of, within, reads_of}
 use Rattle.model.specs.Pairs.{node_of, member, pairs_of, node_names, with_edge, EveryPair}
@@ -38,7 +39,7 @@ use Rattle.model.proofs.Numbers.{every_up_to_lem}
 use Rattle.model.proofs.Tuples.{same_key_lem, own_key, among, present_add_all, length_add_all, length_remove, length_assign}
 use Rattle.model.proofs.Rules.{has_universe, assign_all_rules, Fitting, add_all_rules, remove_rules}
 use Rattle.model.proofs.Taken.{edges_fair, node_fair, NodeNamed, remove_nodes_rules, space_fair}
-use Rattle.model.proofs.Refusals.{either_outcome, looked_up, none≢some}
+use Rattle.model.proofs.Refusals.{either_outcome, looked_up}
 use Rattle.model.proofs.Entries.{Member, same_pair, own_pair, pairs_sound, nodes_sound, only_sound}
 
 -- ---- a call that is not stopped, and whose space is looked up, has passed each condition
@@ -59,8 +60,8 @@ pub first_passed : (x : Stop) (xs : List Stop) → first (x ∷ xs) ≡ none →
 unfolding first
 first_passed x xs e = go x.applies e
   where
-    go : (b : Bool) → cond b (some x.number) (first xs) ≡ none → (b ≡ false) × (first xs ≡ none)
-    go true f = absurd (none≢some (sym f))
+    go : (b : Bool) → cond b (some x.condition) (first xs) ≡ none → (b ≡ false) × (first xs ≡ none)
+    go true f = absurd (some-ne-none _ f)
     go false f = (refl, f)
 
 pub passed : (C : ℕ) (ts : Tuples) (c : Call) (room : ℕ) → selects_nothing c ≡ false → refusal_of C ts c room ≡ none → Passed C ts c room
@@ -435,8 +436,8 @@ pub machine_good : (C : ℕ) (ts : Tuples) (c : Call) (room : ℕ) → FieldsFit
 unfolding machine outcome_of full
 machine_good C ts c room F G = go (refusal_of C ts c room) refl
   where
-    go : (r : Option ℕ) → refusal_of C ts c room ≡ r → Good C (outcome_of r ts c).state
-    go (some number) e = G
+    go : (r : Option Refusal) → refusal_of C ts c room ≡ r → Good C (outcome_of r ts c).state
+    go (some condition) e = G
     go none e = either_outcome (λ (o : Outcome). Good C o.state) (selects_nothing c) (idle c ts) (step c ts) (λ t. G) stepped
       where
         stepped : selects_nothing c ≡ false → Good C (step c ts).state

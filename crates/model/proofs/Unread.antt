@@ -8,6 +8,8 @@ use native.Mathlib.Omega.{arith}
 use lib.Dec.{eqb, leb}
 use borrow.Author.Tests.{eqb-true, eqb-false, leb-true}
 use Rattle.model.specs.declared.Call.{Call}
+use Rattle.model.specs.declared.Refusal.{Refusal}
+use Rattle.model.specs.declared.Refusal.TheVariants.{NoOperator}
 use Rattle.model.specs.Operators.{table, operator_of, within, reads_of}
 use Rattle.model.specs.Steps.{Reply, refusal, decoded, object_keys, created, destroyed, listed, first_argument, would_list, would_add, reply, idle_reply, after}
 use Rattle.model.specs.Refusals.{Stop, first, selects_nothing, no_operator, zero_name, lacks_space, destroys_universe, space_absent, node_absent, second_absent}
@@ -117,10 +119,10 @@ module _ (C : ℕ) (ts : State) (room : ℕ) where
   -- 1 to 57: the same refusal, or the same answer and state
   of_operator : (c : Call) → no_operator c ≡ false → machine C ts c room ≡ machine C ts (readable c) room
   unfolding machine outcome_of
-  of_operator c e = ap (λ (x : Option ℕ). outcome_of x ts c) (refused_unread c e) ∙ go (refusal_of C ts (readable c) room)
+  of_operator c e = ap (λ (x : Option Refusal). outcome_of x ts c) (refused_unread c e) ∙ go (refusal_of C ts (readable c) room)
     where
-      go : (x : Option ℕ) → outcome_of x ts c ≡ outcome_of x ts (readable c)
-      go (some number) = refl
+      go : (x : Option Refusal) → outcome_of x ts c ≡ outcome_of x ts (readable c)
+      go (some condition) = refl
       go none =
           cc (
             unread selects_nothing c e (selects_unread c),
@@ -130,7 +132,7 @@ module _ (C : ℕ) (ts : State) (room : ℕ) where
           )
 
   -- any other number: refusal 2
-  of_none : (c : Call) → no_operator c ≡ true → machine C ts c room ≡ record { answer = refusal 2; state = ts }
+  of_none : (c : Call) → no_operator c ≡ true → machine C ts c room ≡ record { answer = refusal NoOperator; state = ts }
   unfolding machine outcome_of refusal_of earlier of_call first
   of_none c e = rw e
 

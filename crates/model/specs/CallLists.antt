@@ -1,8 +1,10 @@
 -- Document 01, "A list of calls, as demand 3 has it": calls one after the other, and what is claimed of the whole list, over any layout of the buffer.
-use Rattle.std.specs.Prelude.{true, cond, List, [], ◌∷◌, map, ◌↔◌, ◌≡◌, ℕ, ◌+◌, ◌≤◌, ◌<◌, length}
+use Rattle.std.specs.Prelude.{true, cond, List, [], ◌∷◌, map, ◌↔◌, ◌≡◌, ℕ, ◌+◌, ◌≤◌, ◌<◌, length, Result}
 use Rattle.std.proofs.Math.Option.{none}
 use Rattle.model.specs.declared.Call.{Call}
 use Rattle.model.specs.declared.Answer.{Answer}
+use Rattle.model.specs.declared.Refusal.{Refusal}
+use Rattle.model.specs.declared.Refusal.TheVariants.{Full}
 use Rattle.model.specs.Ordered.{Ascending}
 use Rattle.model.specs.declared.Key.{Key}
 use Rattle.model.specs.Keys.{key_of, compare_keys}
@@ -23,7 +25,7 @@ use Rattle.model.specs.Demand1.{Demand1}
 pub record Made (A : Type 0) : Type 0 where
   pub call : Call
   pub lent : List A
-  pub answer : Answer
+  pub answer : Result Answer Refusal
   pub left : List A
 
 -- a call whose answer list is one of words
@@ -71,7 +73,7 @@ Exceeds C ts (calling r) =
 abbrev pub FullExactly : ℕ → State → List Exchange → Type 0
 FullExactly C ts [] = Unit {0}
 FullExactly C ts (x ∷ xs) =
-    ((x.reply ≡ refusal 10) ↔ Exceeds C ts x.request) × FullExactly C (serve C ts x.request).state xs
+    ((x.reply ≡ refusal Full) ↔ Exceeds C ts x.request) × FullExactly C (serve C ts x.request).state xs
 
 -- what is claimed of a list of calls made from a store of C records that holds the tuples ts, to the buffer b
 pub record WholeList (Y : Layout) (C : ℕ) (ts : State) (xs : List Exchange) (b : List ℕ) : Type 0 where

@@ -4,7 +4,7 @@ use Rattle.model.specs.Steps.{Reply, refusal, name, added, removed, valued, yes_
 
 -- "An answer from C .. carries the number of tuples added", and no other answer says that any were
 unfoldable pub added_in : Reply → ℕ
-added_in (refusal number) = 0
+added_in (refusal condition) = 0
 added_in (name x) = 0
 added_in (added x k) = k
 added_in (removed x k) = 0
@@ -14,7 +14,7 @@ added_in (pairs k ps) = 0
 
 -- ".. or D carries the number of tuples .. removed"
 unfoldable pub removed_in : Reply → ℕ
-removed_in (refusal number) = 0
+removed_in (refusal condition) = 0
 removed_in (name x) = 0
 removed_in (added x k) = 0
 removed_in (removed x k) = k

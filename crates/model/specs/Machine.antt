@@ -3,6 +3,7 @@ use Rattle.std.specs.Prelude.{cond, List, [], ◌∷◌, ℕ, ◌≤◌}
 use Rattle.std.proofs.Math.Option.{Option, none, some}
 use Rattle.model.specs.declared.Call.{Call}
 use Rattle.model.specs.declared.Fields.{Fields}
+use Rattle.model.specs.declared.Refusal.{Refusal}
 use Rattle.model.specs.Tuples.{Tuples}
 use Rattle.model.specs.Keys.{most_name}
 use Rattle.model.specs.Steps.{Reply, refusal, decoded, first_argument, reply, idle_reply, after}
@@ -28,8 +29,8 @@ abbrev pub idle : Call → State → Outcome
 idle c ts = record { answer = idle_reply (decoded c).operator (first_argument (decoded c)); state = ts }
 
 -- "A call that 'Where a call is stopped' stops leaves the state as it is, and its answer is the refusal of that number."
-unfoldable pub outcome_of : Option ℕ → State → Call → Outcome
-outcome_of (some number) ts c = record { answer = refusal number; state = ts }
+unfoldable pub outcome_of : Option Refusal → State → Call → Outcome
+outcome_of (some condition) ts c = record { answer = refusal condition; state = ts }
 outcome_of none ts c = cond (selects_nothing c) (idle c ts) (step c ts)
 
 -- "It is fed only the calls: operator, fields and the length of the call's answer list."

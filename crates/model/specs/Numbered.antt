@@ -1,5 +1,5 @@
 -- Document 01, "Where a call is stopped": the number of each condition.
-use Rattle.std.specs.Prelude.{ℕ}
+use Rattle.std.specs.Prelude.{cond, ℕ, eqb}
 use Rattle.model.specs.declared.Refusal.{Refusal}
 use Rattle.model.specs.declared.Refusal.TheVariants.{NotAStore, NoOperator, ZeroName, UniverseDestroyed, SpaceAbsent, NodeAbsent, SecondAbsent, EdgeAbsent, ListTooShort, Full, Unreadable, NoSelection}
 
@@ -17,3 +17,15 @@ number_of ListTooShort = 9
 number_of Full = 10
 number_of Unreadable = 11
 number_of NoSelection = 12
+
+-- the condition of a number; any number above 11 is read as 12, and nothing rests on that
+unfoldable pub refusal_in : ℕ → Refusal
+refusal_in number =
+    cond (eqb number 1) NotAStore
+    (cond (eqb number 2) NoOperator
+    (cond (eqb number 3) ZeroName
+    (cond (eqb number 4) UniverseDestroyed
+    (cond (eqb number 5) SpaceAbsent
+    (cond (eqb number 6) NodeAbsent
+    (cond (eqb number 7) SecondAbsent
+    (cond (eqb number 8) EdgeAbsent (cond (eqb number 9) ListTooShort (cond (eqb number 10) Full (cond (eqb number 11) Unreadable NoSelection))))))))))

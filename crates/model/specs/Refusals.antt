@@ -6,6 +6,8 @@ use Rattle.std.proofs.Math.Option.{Option, none, some}
 use Rattle.model.specs.declared.Call.{Call}
 use Rattle.model.specs.declared.Decoded.{Decoded}
 use Rattle.model.specs.declared.Fields.{Fields}
+use Rattle.model.specs.declared.Refusal.{Refusal}
+use Rattle.model.specs.declared.Refusal.TheVariants.{NoOperator, ZeroName, UniverseDestroyed, SpaceAbsent, NodeAbsent, SecondAbsent, EdgeAbsent, ListTooShort, Full, NoSelection}
 use Rattle.model.specs.declared.Space.{Space}
 use Rattle.model.specs.declared.Space.TheVariants.{Universe, Numbered, Nothing}
 use Rattle.model.specs.declared.Key.{Key}
@@ -16,18 +18,18 @@ use Rattle.model.specs.declared.Operator.TheVariants.{Create, Bind, Value as Val
 use Rattle.model.specs.Operators.{row_of}
 use Rattle.model.specs.Steps.{n_of, g_of, m_of, decoded, object_keys, would_list, would_add}
 
--- the number of a condition, and whether it applies
+-- a condition, and whether it applies
 pub record Stop : Type 0 where
-  pub number : ℕ
+  pub condition : Refusal
   pub applies : Bool
 
-abbrev pub stop : ℕ → Bool → Stop
-stop number applies = record { number = number; applies = applies }
+abbrev pub stop : Refusal → Bool → Stop
+stop condition applies = record { condition = condition; applies = applies }
 
 -- "The first that applies wins."
-unfoldable pub first : List Stop → Option ℕ
+unfoldable pub first : List Stop → Option Refusal
 first [] = none
-first (x ∷ xs) = cond x.applies (some x.number) (first xs)
+first (x ∷ xs) = cond x.applies (some x.condition) (first xs)
 
 -- the space of the call is a number, and that is 0
 unfoldable pub zero_space : Space → Bool
@@ -106,16 +108,16 @@ full C d ts = ltb C (length ts + length (missing (would_add d.operator d.fields)
 
 -- the conditions on the call alone
 unfoldable pub of_call : Call → List Stop
-of_call c = stop 2 (no_operator c) ∷ stop 3 (zero_name c) ∷ stop 12 (lacks_space c) ∷ stop 4 (destroys_universe c) ∷ []
+of_call c = stop NoOperator (no_operator c) ∷ stop ZeroName (zero_name c) ∷ stop NoSelection (lacks_space c) ∷ stop UniverseDestroyed (destroys_universe c) ∷ []
 
 -- the conditions on what is present; room is the length of the call's answer list
 unfoldable pub of_tuples : Tuples → Decoded → ℕ → List Stop
 of_tuples ts d room =
-    stop 5 (space_absent d ts)
-    ∷ stop 6 (node_absent d ts)
-    ∷ stop 7 (second_absent d ts)
-    ∷ stop 8 (edge_absent d ts)
-    ∷ stop 9 (list_short d ts room)
+    stop SpaceAbsent (space_absent d ts)
+    ∷ stop NodeAbsent (node_absent d ts)
+    ∷ stop SecondAbsent (second_absent d ts)
+    ∷ stop EdgeAbsent (edge_absent d ts)
+    ∷ stop ListTooShort (list_short d ts room)
     ∷ []
 
 -- request 1: "nothing is looked up in the graph, so conditions 5 to 10 are not tested"
@@ -126,6 +128,6 @@ if_looked_up c xs = cond (selects_nothing c) [] xs
 unfoldable pub earlier : Tuples → Call → ℕ → List Stop
 earlier ts c room = of_call c ++ if_looked_up c (of_tuples ts (decoded c) room)
 
--- the number of the refusal, or none where the call is not stopped
-unfoldable pub refusal_of : ℕ → Tuples → Call → ℕ → Option ℕ
-refusal_of C ts c room = first (earlier ts c room ++ if_looked_up c (stop 10 (full C (decoded c) ts) ∷ []))
+-- the refusal, or none where the call is not stopped
+unfoldable pub refusal_of : ℕ → Tuples → Call → ℕ → Option Refusal
+refusal_of C ts c room = first (earlier ts c room ++ if_looked_up c (stop Full (full C (decoded c) ts) ∷ []))

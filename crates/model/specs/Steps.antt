@@ -6,6 +6,7 @@ use Rattle.model.specs.declared.Fields.{Fields}
 use Rattle.model.specs.declared.Space.{Space}
 use Rattle.model.specs.declared.Space.TheVariants.{Universe, Numbered, Nothing}
 use Rattle.model.specs.declared.Pair.{Pair}
+use Rattle.model.specs.declared.Refusal.{Refusal}
 use Rattle.model.specs.declared.Key.{Key}
 use Rattle.model.specs.Keys.{Value, NIL, space_key, node_key}
 use Rattle.model.specs.Tuples.{Tuples, any_present, value_at, add_all, assign_all, remove}
@@ -116,7 +117,7 @@ first_argument d = cond d.row.first d.fields.s d.fields.n
 -- "Answers are equal when they are of the same kind (refusal, name, value, yes or no, list) and carry the same; a list carries k and its k pairs in order."
 -- Request 2, "The machine's answers gain the same number": of C the tuples added, of D the tuples removed.
 pub data Reply : Type 0 where
-  refusal : ℕ → Reply
+  refusal : Refusal → Reply
   name : ℕ → Reply
   added : ℕ → ℕ → Reply
   removed : ℕ → ℕ → Reply

@@ -216,12 +216,10 @@ impl From<Refusal> for u32 {
     }
 }
 
-// "C, B and D return the first argument; V a value; X yes or no; S a count k"; a call that is stopped, its refusal's number.
+// "C, B and D return the first argument; V a value; X yes or no; S a count k"; a call that is stopped gives its `Refusal` in place of an answer.
 // By request 2 an answer "from C or D carries the number of tuples added or removed"; the first argument is a node's name, or a space's (0 for UNIVERSE).
 #[derive(Clone, Copy)]
 pub enum Answer {
-    // The number of the condition that stopped the call.
-    Refusal(u32),
     // B: the first argument.
     Name(u16),
     // C: the first argument, and how many tuples were added.
@@ -251,13 +249,4 @@ pub struct Key {
 pub struct Pair {
     pub edge: EdgeName,
     pub node: NodeName,
-}
-
-// What preparing answers.
-#[derive(Clone, Copy)]
-pub enum Preparation {
-    // The number of the condition that stopped it.
-    Refused(u32),
-    // C, the number of records.
-    Capacity(u32),
 }

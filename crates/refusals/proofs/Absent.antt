@@ -21,7 +21,7 @@ use Rattle.model.proofs.Bools.{or_left, or_right, and_left, and_right, and_no, n
 use Rattle.model.proofs.Numbers.{every_up_to_lem}
 use Rattle.located.specs.declared.Located.{Located}
 use Rattle.located.specs.Located.{Told}
-use Rattle.refusals.specs.Numbers.{Unstopped}
+use Rattle.refusals.specs.Checks.{Unstopped}
 
 pub absent_told : (k : Key) (ts : Tuples) (x : Bool) → x ≡ present k ts → not x ≡ not (present k ts)
 absent_told k ts x X = ap not X

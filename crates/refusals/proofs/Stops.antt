@@ -1,14 +1,14 @@
--- The first condition that applies, as a number (specs/Numbers.antt), and conditions 9 and 10 by what they count.
+-- The first condition that applies, as an error (specs/Checks.antt), and conditions 9 and 10 by what they count.
 use mathlib.Core.Bool.{Bool, true, false, cond, not}
 use mathlib.Core.List.{List, [], ◌∷◌, ◌++◌}
-use mathlib.Core.Logic.{◌↔◌, ◌≢◌}
 use mathlib.Core.Option.{Option, none, some}
 use mathlib.Core.Path.{◌≡◌, refl, sym, ap, ap₂, ◌∙◌, subst}
 use Prim.Native.Nat.{ℕ, suc, ◌+◌, ◌-◌, ◌≤◌}
 use native.Mathlib.Omega.{arith}
-use lib.Dec.{eqb, ltb}
+use lib.Dec.{ltb}
 use lib.ListN.{length}
-use borrow.Author.Tests.{ltb-true, lt-ltb, eqb-false, le-ltb}
+use borrow.Author.Tests.{ltb-true, lt-ltb, le-ltb}
+use Rattle.std.specs.Prelude.{Result, Ok, Err}
 use Rattle.model.specs.declared.Call.{Call}
 use Rattle.model.specs.declared.Decoded.{Decoded}
 use Rattle.model.specs.declared.Key.{Key}
@@ -19,86 +19,63 @@ use Rattle.model.specs.declared.Object.{Object}
 use Rattle.model.specs.declared.Operator.TheVariants.{Create, Bind, Value as Values, Exists, Destroy, List as Lists}
 use Rattle.model.specs.declared.Fields.{Fields}
 use Rattle.model.specs.declared.Pair.{Pair}
+use Rattle.model.specs.declared.Refusal.{Refusal}
+use Rattle.model.specs.declared.Refusal.TheVariants.{Full}
 use Rattle.model.specs.declared.Row.{Row}
 use Rattle.model.specs.Operators.{reads_of, asks_of, row_of}
 use Rattle.model.specs.Tuples.{Tuples, present, add, missing}
 use Rattle.layouts.specs.Buffer.{word, capacity_of, tuples_of}
 use Rattle.model.specs.Steps.{decoded, object_keys, created, listed, would_list, would_add}
 use Rattle.model.specs.Refusals.{Stop, stop, first, selects_nothing, no_operator, list_short, full, of_call, of_tuples, if_looked_up, earlier, refusal_of}
-use Rattle.model.proofs.Bools.{equal, not_yes}
+use Rattle.model.proofs.Bools.{equal}
 use Rattle.layouts.proofs.Store.{tuples_fit}
-use Rattle.model.proofs.Refusals.{every_number, first_number, first_none, first_some, not_looked_up}
+use Rattle.model.proofs.Refusals.{first_none, first_some, not_looked_up}
 use Rattle.model.proofs.Steps.{first_passed}
 use Rattle.chain.specs.Links.{Linked}
-use Rattle.refusals.specs.Numbers.{stop_number, of_store, Unstopped}
+use Rattle.refusals.specs.Checks.{checked, of_store, Unstopped}
 use Rattle.listings.specs.Lists.{NamesAsked}
 use Rattle.listings.proofs.Stores.{names_asked}
 
 -- ---- the first condition that applies, one after the other
 
 -- a condition that applies stops the call, whatever comes after it
-pub stops : (number : ℕ) (applies x : Bool) (xs : List Stop) → x ≡ applies → x ≡ true → number ≡ stop_number (first (stop number applies ∷ xs))
-unfolding stop_number first
-stops number applies x xs X e = ap (λ (b : Bool). stop_number (cond b (some number) (first xs))) (sym e ∙ X)
+pub stops : (condition : Refusal) (applies x : Bool) (xs : List Stop) → x ≡ applies → x ≡ true → Err condition ≡ checked (first (stop condition applies ∷ xs))
+unfolding checked first
+stops condition applies x xs X e = ap (λ (b : Bool). checked (cond b (some condition) (first xs))) (sym e ∙ X)
 
 -- one that does not leaves it to the rest
-pub passes : (number : ℕ) (applies x : Bool) (xs : List Stop) (r : ℕ) → x ≡ applies → x ≡ false → r ≡ stop_number (first xs)
-    → r ≡ stop_number (first (stop number applies ∷ xs))
-unfolding stop_number first
-passes number applies x xs r X e R = R ∙ ap (λ (b : Bool). stop_number (cond b (some number) (first xs))) (sym e ∙ X)
+pub passes : (condition : Refusal) (applies x : Bool) (xs : List Stop) (r : Result (Unit {0}) Refusal) → x ≡ applies → x ≡ false → r ≡ checked (first xs)
+    → r ≡ checked (first (stop condition applies ∷ xs))
+unfolding checked first
+passes condition applies x xs r X e R = R ∙ ap (λ (b : Bool). checked (cond b (some condition) (first xs))) (sym e ∙ X)
 
 -- what was tested of a condition
 pub tested : (applies x t : Bool) → x ≡ applies → x ≡ t → applies ≡ t
 tested applies x t X e = sym X ∙ e
 
-pub nothing_left : 0 ≡ stop_number (first [])
-unfolding stop_number first
+pub nothing_left : Ok tt ≡ checked (first [])
+unfolding checked first
 nothing_left = refl
 
--- ---- what the number says
+-- ---- what the answer says
 
-abbrev pub not_zero : ℕ → Bool
-not_zero number = not (eqb number 0)
+-- no error says that no condition applies
+pub none_applied : (x : Option Refusal) (u : Unit {0}) → Ok u ≡ checked x → x ≡ none
+unfolding checked
+none_applied none u e = refl
+none_applied (some condition) u e = cc
 
-numbered : (number : ℕ) → not_zero number ≡ true → number ≢ 0
-numbered number e = eqb-false number 0 (not_yes (eqb number 0) e)
-
--- 0 says that no condition applies, where no condition has number 0
-pub none_exactly : (xs : List Stop) → every_number not_zero xs ≡ true → (stop_number (first xs) ≡ 0) ↔ (first xs ≡ none)
-unfolding stop_number
-none_exactly xs h = (λ e. go (first xs) refl e, λ e. ap stop_number e)
-  where
-    go : (r : Option ℕ) → first xs ≡ r → stop_number r ≡ 0 → r ≡ none
-    go none f e = refl
-    go (some number) f e = absurd (numbered number (first_number not_zero xs number h f) e)
-
--- any other number says which one stops the call
-pub some_exactly : (r : Option ℕ) (number : ℕ) → number ≢ 0 → (stop_number r ≡ number) ↔ (r ≡ some number)
-unfolding stop_number
-some_exactly r number h = (λ e. go r e, λ e. ap stop_number e)
-  where
-    go : (r : Option ℕ) → stop_number r ≡ number → r ≡ some number
-    go none e = absurd (h (sym e))
-    go (some k) e = ap some e
+-- an error says which one stops the call
+pub one_applied : (x : Option Refusal) (condition : Refusal) → Err condition ≡ checked x → x ≡ some condition
+unfolding checked
+one_applied none condition e = cc
+one_applied (some other) condition e = cc
 
 -- ---- the conditions in two parts
 
-no_zero : (xs : List Stop) → every_number not_zero xs ≡ true → stop_number (first xs) ≡ 0 → first xs ≡ none
-no_zero xs h = (none_exactly xs h).0
-
 -- no condition on the call applies
-pub call_passes : (c : Call) (x : ℕ) → x ≡ stop_number (first (of_call c)) → x ≡ 0 → first (of_call c) ≡ none
-call_passes c x X e = no_zero (of_call c) numbers (sym X ∙ e)
-  where
-    numbers : every_number not_zero (of_call c) ≡ true
-    numbers = unfold of_call in refl
-
--- none on what the store holds does
-pub store_passes : (C : ℕ) (ts : Tuples) (d : Decoded) (room x : ℕ) → x ≡ stop_number (first (of_store C ts d room)) → x ≡ 0 → first (of_store C ts d room) ≡ none
-store_passes C ts d room x X e = no_zero (of_store C ts d room) numbers (sym X ∙ e)
-  where
-    numbers : every_number not_zero (of_store C ts d room) ≡ true
-    numbers = unfold of_store of_tuples in refl
+pub call_passes : (c : Call) (r : Result (Unit {0}) Refusal) (u : Unit {0}) → r ≡ checked (first (of_call c)) → r ≡ Ok u → first (of_call c) ≡ none
+call_passes c r u R e = none_applied (first (of_call c)) u (sym e ∙ R)
 
 -- what is read of a call that passes
 pub unstopped : (c : Call) (d : Decoded) → d ≡ decoded c → first (of_call c) ≡ none → Unstopped d
@@ -108,32 +85,32 @@ unstopped c d e p =
     record { call = c; same = e; known = known.0; named = (first_passed _ _ known.1).0 }
 
 -- a condition on the call stops it
-pub call_stops : (C : ℕ) (ts : Tuples) (c : Call) (room x : ℕ) → x ≡ stop_number (first (of_call c)) → x ≢ 0 → refusal_of C ts c room ≡ some x
+pub call_stops : (C : ℕ) (ts : Tuples) (c : Call) (room : ℕ) (r : Result (Unit {0}) Refusal) (condition : Refusal)
+    → r ≡ checked (first (of_call c)) → r ≡ Err condition → refusal_of C ts c room ≡ some condition
 unfolding refusal_of earlier of_call
-call_stops C ts c room x X h = first_some (of_call c) _ x ((some_exactly (first (of_call c)) x h).0 (sym X))
+call_stops C ts c room r condition R e = first_some (of_call c) _ condition (one_applied (first (of_call c)) condition (sym e ∙ R))
 
 -- where none does, and the space is looked up, those on what the store holds decide
 pub store_decides : (C : ℕ) (ts : Tuples) (c : Call) (room : ℕ) → first (of_call c) ≡ none → selects_nothing c ≡ false
     → refusal_of C ts c room ≡ first (of_store C ts (decoded c) room)
 unfolding refusal_of earlier of_call if_looked_up of_store
 store_decides C ts c room p e =
-    let looked : List Stop = cond (selects_nothing c) [] (of_tuples ts (decoded c) room) ++ cond (selects_nothing c) [] (stop 10 (full C (decoded c) ts) ∷ []) in
+    let looked : List Stop = cond (selects_nothing c) [] (of_tuples ts (decoded c) room) ++ cond (selects_nothing c) [] (stop Full (full C (decoded c) ts) ∷ []) in
     first_none (of_call c) looked p
-    ∙ ap (λ (t : Bool). first (cond t [] (of_tuples ts (decoded c) room) ++ cond t [] (stop 10 (full C (decoded c) ts) ∷ []))) e
+    ∙ ap (λ (t : Bool). first (cond t [] (of_tuples ts (decoded c) room) ++ cond t [] (stop Full (full C (decoded c) ts) ∷ []))) e
 
 -- with nothing as the space nothing else is asked
 pub nothing_passes : (C : ℕ) (ts : Tuples) (c : Call) (room : ℕ) → first (of_call c) ≡ none → selects_nothing c ≡ true → refusal_of C ts c room ≡ none
 nothing_passes C ts c room p e = not_looked_up C ts c room e ∙ p
 
 -- a call that passes all
-pub all_pass : (C : ℕ) (ts : Tuples) (c : Call) (room x : ℕ) → first (of_call c) ≡ none → selects_nothing c ≡ false
-    → x ≡ stop_number (first (of_store C ts (decoded c) room)) → x ≡ 0 → refusal_of C ts c room ≡ none
-all_pass C ts c room x p e X z = store_decides C ts c room p e ∙ store_passes C ts (decoded c) room x X z
+pub all_pass : (C : ℕ) (ts : Tuples) (c : Call) (room : ℕ) (r : Result (Unit {0}) Refusal) (u : Unit {0}) → first (of_call c) ≡ none → selects_nothing c ≡ false
+    → r ≡ checked (first (of_store C ts (decoded c) room)) → r ≡ Ok u → refusal_of C ts c room ≡ none
+all_pass C ts c room r u p e R z = store_decides C ts c room p e ∙ none_applied (first (of_store C ts (decoded c) room)) u (sym z ∙ R)
 
-pub store_stops : (C : ℕ) (ts : Tuples) (c : Call) (room x : ℕ) → first (of_call c) ≡ none → selects_nothing c ≡ false
-    → x ≡ stop_number (first (of_store C ts (decoded c) room)) → x ≢ 0 → refusal_of C ts c room ≡ some x
-store_stops C ts c room x p e X h =
-    store_decides C ts c room p e ∙ (some_exactly (first (of_store C ts (decoded c) room)) x h).0 (sym X)
+pub store_stops : (C : ℕ) (ts : Tuples) (c : Call) (room : ℕ) (r : Result (Unit {0}) Refusal) (condition : Refusal) → first (of_call c) ≡ none → selects_nothing c ≡ false
+    → r ≡ checked (first (of_store C ts (decoded c) room)) → r ≡ Err condition → refusal_of C ts c room ≡ some condition
+store_stops C ts c room r condition p e R h = store_decides C ts c room p e ∙ one_applied (first (of_store C ts (decoded c) room)) condition (sym h ∙ R)
 
 -- ---- the row of a call
 

@@ -10,10 +10,10 @@ ghost use Rattle.layouts.specs.Buffer.{capacity_of, tuples_of, is_store};
 ghost use Rattle.chain.specs.Links.{Linked, Hint};
 ghost use Rattle.listings.specs.Lists.{NamesAsked};
 ghost use Rattle.located.specs.Located.{NearIn, Told};
-ghost use Rattle.refusals.specs.Numbers.{stop_number, of_store, of_step, Unstopped};
+ghost use Rattle.refusals.specs.Checks.{checked, of_store, of_step, Unstopped};
 
 use located::{Located, Near};
-use model::{Call, Decoded, Fields, Key, Listing, Operator, Row};
+use model::{Call, Decoded, Fields, Key, Listing, Operator, Refusal, Row};
 
 // Is there no tuple with this key.
 fn key_absent(b: &[u32], hint: usize, k: Key) -> bool
@@ -155,61 +155,67 @@ fn is_full(b: &[u32], near: Near, universe: Near, d: Decoded) -> bool
     free < count_added(b, near, universe, d)
 }
 
-// The number of the first of the conditions 2, 3, 12 and 4 that stops a call, whatever the store holds; 0 for none.
+// Conditions 2, 3, 12 and 4, whatever the store holds: the first that stops the call is the error.
 // `nothing` says that the space of the call is read and nothing.
-pub fn refusal_of_call(c: Call, row: Row, nothing: bool) -> u32
+pub fn check_call(c: Call, row: Row, nothing: bool) -> Result<(), Refusal>
     requires { (row ≡ row_of c.operator) × (nothing ≡ selects_nothing c) }
-    ensures { result ≡ stop_number (first (of_call c)) }
+    ensures { result ≡ checked (first (of_call c)) }
 {
     let reads = row.reads;
     let asks = row.asks;
     if !row.known {
-        return 2;
+        return Err(Refusal::NoOperator);
     }
     if operators::zero_name(c, reads) {
-        return 3;
+        return Err(Refusal::ZeroName);
     }
     if operators::lacks_space(c, asks, nothing) {
-        return 12;
+        return Err(Refusal::NoSelection);
     }
     if operators::destroys_universe(c, asks) {
-        return 4;
+        return Err(Refusal::UniverseDestroyed);
     }
-    0
+    Ok(())
 }
 
-// The number of the first of the conditions 8 to 10 that stops a call on a store; 0 for none.
-fn refusal_of_step(b: &[u32], d: Decoded, near: Near, universe: Near, room: usize) -> u32
+// Conditions 8 to 10 on a store: the first that stops the call is the error.
+fn check_step(b: &[u32], d: Decoded, near: Near, universe: Near, room: usize) -> Result<(), Refusal>
     requires { (is_store b.now ≡ true) × NearIn b.now near × NearIn b.now universe × Unstopped d }
-    ensures { result ≡ stop_number (first (of_step (capacity_of b.now) (tuples_of b.now) d room)) }
+    ensures { result ≡ checked (first (of_step (capacity_of b.now) (tuples_of b.now) d room)) }
 {
     if edge_absent(b, d, near) {
-        return 8;
+        return Err(Refusal::EdgeAbsent);
     }
     if is_short(b, near, d, room) {
-        return 9;
+        return Err(Refusal::ListTooShort);
     }
     if is_full(b, near, universe, d) {
-        return 10;
+        return Err(Refusal::Full);
     }
-    0
+    Ok(())
 }
 
-// The number of the first of the conditions 5 to 10 that stops a call on a store; 0 for none. `room` is the length of the call's answer list,
+// Conditions 5 to 10 on a store: the first that stops the call is the error. `room` is the length of the call's answer list,
 // `l` tells what the call names in its space, `universe` has hints in UNIVERSE.
-pub fn refusal_of(b: &[u32], d: Decoded, l: Located, universe: Near, room: usize) -> u32
+pub fn check_store(
+    b: &[u32],
+    d: Decoded,
+    l: Located,
+    universe: Near,
+    room: usize,
+) -> Result<(), Refusal>
     requires { (is_store b.now ≡ true) × Told b.now d l × NearIn b.now universe × Unstopped d }
-    ensures { result ≡ stop_number (first (of_store (capacity_of b.now) (tuples_of b.now) d room)) }
+    ensures { result ≡ checked (first (of_store (capacity_of b.now) (tuples_of b.now) d room)) }
 {
     if space_absent(b, d, l) {
-        return 5;
+        return Err(Refusal::SpaceAbsent);
     }
     if node_absent(b, d, l) {
-        return 6;
+        return Err(Refusal::NodeAbsent);
     }
     if second_absent(b, d, l) {
-        return 7;
+        return Err(Refusal::SecondAbsent);
     }
     let near = l.near;
-    refusal_of_step(b, d, near, universe, room)
+    check_step(b, d, near, universe, room)
 }

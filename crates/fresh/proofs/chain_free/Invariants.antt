@@ -3,8 +3,5 @@ use mathlib.Core.Path.{◌≡◌}
 use Rattle.fresh.specs.Prepare.{chained}
 use Rattle.fresh.proofs.chain_free.Given as goal
 
-abbrev pub invariant-loop-n : goal.invariant-loop-n
-invariant-loop-n l = (l.n ≤ l.c - 1) × (l.b ≡ chained l.c l.initial.b l.n)
-
-abbrev pub decreases-loop-n : goal.decreases-loop-n
-decreases-loop-n l = l.c - l.n
+abbrev pub invariant-loop-i : goal.invariant-loop-i
+invariant-loop-i l = (l.i - 2 ≤ l.c - 1) × (l.b ≡ chained l.c l.initial.b (l.i - 2))

@@ -1,8 +1,8 @@
-use Rattle.refusals.specs.Numbers.{of_store}
+use Rattle.refusals.specs.Checks.{of_store}
 use Rattle.model.specs.Refusals.{of_tuples}
 use Rattle.edit.proofs.Built.{store_linked}
 use Rattle.refusals.proofs.Stops.{stops, passes, tested}
-use Rattle.refusals.proofs.refusal_of.Goals as goal
+use Rattle.refusals.proofs.check_store.Goals as goal
 
 pub returns-then-space_absent : goal.returns-then-space_absent
 unfolding of_store of_tuples

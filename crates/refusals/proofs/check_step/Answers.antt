@@ -1,6 +1,6 @@
 use Rattle.edit.proofs.Built.{store_linked}
 use Rattle.refusals.proofs.Stops.{stops, passes, nothing_left}
-use Rattle.refusals.proofs.refusal_of_step.Goals as goal
+use Rattle.refusals.proofs.check_step.Goals as goal
 
 pub edge_absent-requires : goal.edge_absent-requires
 edge_absent-requires c = search store_linked
