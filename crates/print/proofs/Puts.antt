@@ -4,10 +4,10 @@ use mathlib.Core.Path.{◌≡◌, refl, sym, ap, ap₂, ◌∙◌, subst}
 use Prim.Native.Nat.{ℕ, ◌+◌, ◌-◌, ◌%◌, ◌^◌, ◌≤◌, ◌<◌}
 use native.Mathlib.Nat.{add-zero, add_assoc}
 use native.Mathlib.Omega.{arith}
-use lib.ListN.{length, take, drop, set, length-append, take-append-drop}
+use lib.ListN.{length, take, drop, length-append, take-append-drop}
 use lib.Seq.{drop-drop}
 use Rattle.text.specs.Bytes.{Text, written}
-use Rattle.text.proofs.Written.{written_nil, written_byte, written_twice, length_written}
+use Rattle.text.proofs.Written.{written_nil, written_twice, length_written}
 use Rattle.text.specs.Numerals.{digit, printed_number}
 use Rattle.text.proofs.Printing.{of_printed}
 use borrow.Rule.Slice.PartMut.{put_mid}
@@ -45,10 +45,6 @@ adds_same {xs} {ys} {l} {l'} e p = subst (λ (bs : Text). Adds bs l l') e p
 -- room behind a text that is put
 pub room_after : (n : ℕ) {bs : Text} {l l' : Line} → Adds bs l l' → l.at + (length bs + n) ≤ length l.out.now → l'.at + n ≤ length l'.out.now
 room_after n {bs} {l} {l'} p h = omega (arith, put_length p.put (omega arith), p.put.place)
-
--- one byte
-pub byte_put : (out : Text) (at b : ℕ) → Fits (b ∷ []) out at → Put (b ∷ []) out at (at + 1) (set out at b)
-byte_put out at b h = record { place = refl; bytes = written_byte out at b (omega arith) }
 
 -- what `{}` writes for a number of 32 bits
 pub decimal_printed : (x : ℕ) → x ≤ 4294967295 → decimal x ≡ printed_number x

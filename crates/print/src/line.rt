@@ -35,8 +35,7 @@ impl Line<'_> {
         requires { Room (b ∷ []) self.old }
         ensures { Adds (b ∷ []) self.old self.new }
     {
-        self.out[self.at] = b;
-        self.at += 1;
+        self.put_text(&[b]);
     }
 
     // Writes a text.
