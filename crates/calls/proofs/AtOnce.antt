@@ -9,6 +9,8 @@ use native.Mathlib.Omega.{arith}
 use lib.Dec.{eqb, leb, ltb}
 use lib.ListN.{length}
 use borrow.Author.Tests.{eqb-true, eq-eqb, ne_eqb, le-ltb, ltb-false}
+use Rattle.std.specs.Prelude.{Result, Ok, Some, None}
+use Rattle.std.specs.Prelude.{Option as Maybe}
 use Rattle.model.specs.declared.Answer.{Answer}
 use Rattle.model.specs.declared.Answer.TheVariants.{List as Listed}
 use Rattle.model.specs.declared.Call.{Call}
@@ -17,6 +19,7 @@ use Rattle.model.specs.declared.Key.{Key}
 use Rattle.model.specs.declared.Operator.{Operator}
 use Rattle.model.specs.declared.Operator.TheVariants.{List as Lists}
 use Rattle.model.specs.declared.Pair.{Pair}
+use Rattle.model.specs.declared.Refusal.{Refusal}
 use Rattle.model.specs.Keys.{space_key, node_key, edge_key}
 use Rattle.model.specs.Operators.{table, operator_of, within, reads_of, row_of}
 use Rattle.model.specs.Ordered.{holds}
@@ -38,8 +41,25 @@ use Rattle.edit.proofs.Built.{store_linked, store_tuples}
 use Rattle.entries.specs.Queries.{written_pairs}
 use Rattle.listings.proofs.Asked.{surely_not_short}
 use Rattle.refusals.proofs.Stops.{passes, nothing_left, all_pass}
-use Rattle.refusals.specs.Numbers.{stop_number, of_store}
-use Rattle.calls.specs.AtOnce.{sin, at_once, listed_at_once}
+use Rattle.refusals.specs.Checks.{checked, of_store}
+use Rattle.calls.specs.AtOnce.{sin, at_once, listed_at_once, some_count}
+
+-- ---- how many entries there are
+
+count_some : (ps : List Pair) (k : ℕ) → k ≡ length ps → k ≢ 0 → Some k ≡ some_count ps
+unfolding some_count
+count_some [] k K h = absurd (h K)
+count_some (p ∷ ps) k K h = ap Some K
+
+count_none : (ps : List Pair) (k : ℕ) → k ≡ length ps → k ≡ 0 → None ≡ some_count ps
+unfolding some_count
+count_none [] k K z = refl
+count_none (p ∷ ps) k K z = absurd (omega (arith, K))
+
+counted : (ps : List Pair) (k : ℕ) → Some k ≡ some_count ps → (k ≡ length ps) × (k ≢ 0)
+unfolding some_count
+counted [] k e = cc
+counted (p ∷ ps) k e = let same : k ≡ length (p ∷ ps) = cc in (same, λ z. omega (arith, same))
 
 -- ---- an entry shows what the call names
 
@@ -117,31 +137,31 @@ module _ (C : ℕ) (ts : Tuples) (c : Call) (room : ℕ) (e : c.operator ≡ 40)
       (not_absent (row_of c.operator).asks.universe (present (node_key 0 f.n) ts) T.also)
 
   none_applies : leb (length ts) room ≡ true → length ts ≤ C → There f.s f.n ts
-      → 0 ≡ stop_number (first (of_store C ts (decoded c) room))
+      → Ok tt ≡ checked (first (of_store C ts (decoded c) room))
   unfolding of_store of_tuples
   none_applies fits h T =
-      passes _ _ false _ 0 (sym (space_there_lem T)) refl
-      (passes _ _ false _ 0 (sym (node_there_lem T)) refl
-      (passes _ _ false _ 0 (sym second_unread) refl
-      (passes _ _ false _ 0 (sym edge_unasked) refl
-      (passes _ _ false _ 0 (sym (roomy fits)) refl (passes _ _ false _ 0 (sym (nothing_added h)) refl nothing_left)))))
+      passes _ _ false _ (Ok tt) (sym (space_there_lem T)) refl
+      (passes _ _ false _ (Ok tt) (sym (node_there_lem T)) refl
+      (passes _ _ false _ (Ok tt) (sym second_unread) refl
+      (passes _ _ false _ (Ok tt) (sym edge_unasked) refl
+      (passes _ _ false _ (Ok tt) (sym (roomy fits)) refl (passes _ _ false _ (Ok tt) (sym (nothing_added h)) refl nothing_left)))))
 
 -- ---- the call
 
 -- a call that lists and that nothing stops
 listed_known : (b l l' : List ℕ) (c : Call) (k : ℕ) → is_store b ≡ true → selects_nothing c ≡ false → operator_of c.operator ≡ Lists sin
     → refusal_of (capacity_of b) (tuples_of b) c (length l) ≡ none → k ≡ length (listed sin (fields_of c) (tuples_of b))
-    → l' ≡ written_pairs (listed sin (fields_of c) (tuples_of b)) l → OnStore stored b l c (Listed k) b l'
+    → l' ≡ written_pairs (listed sin (fields_of c) (tuples_of b)) l → OnStore stored b l c (Ok (Listed k)) b l'
 unfolding machine outcome_of reply answer_of list_after writes written_pairs
 listed_known b l l' c k store N O pass K L =
     let ts : Tuples = tuples_of b in
     let ps : List Pair = listed sin (fields_of c) ts in
     let A : (machine (capacity_of b) ts c (length l)).answer ≡ pairs (length ps) ps =
-    ap (λ (r : Option ℕ). (outcome_of r ts c).answer) pass
+    ap (λ (r : Option Refusal). (outcome_of r ts c).answer) pass
     ∙ ap (λ (t : Bool). (cond t (idle c ts) (step c ts)).answer) N
     ∙ ap (λ (op : Operator). reply op (first_argument (decoded c)) (fields_of c) ts) O in
     record {
-      answer = ap Listed K ∙ sym (ap answer_of A);
+      answer = ap (λ (n : ℕ). Ok (Listed n)) K ∙ sym (ap answer_of A);
       list = L ∙ sym (ap (λ (r : Reply). list_after r l) A);
       store = store;
       state = sym (reading (capacity_of b) ts c (length l) (ap writes O));
@@ -153,38 +173,39 @@ listed_known b l l' c k store N O pass K L =
     }
 
 -- entries that were listed at once are the call's
-pub at_once_known : (b l l' : List ℕ) (c : Call) (f : Fields) (k : ℕ) (t : Bool) → is_store b ≡ true → first (of_call c) ≡ none → t ≡ selects_nothing c → t ≡ false
-    → f ≡ fields_of c → k ≡ length (listed_at_once c.operator f (tuples_of b) (length l)) → k ≢ 0
-    → l' ≡ written_pairs (listed_at_once c.operator f (tuples_of b) (length l)) l → OnStore stored b l c (Listed k) b l'
+pub at_once_known : (b l l' : List ℕ) (c : Call) (f : Fields) (n : Maybe ℕ) (k : ℕ) (t : Bool) → is_store b ≡ true → first (of_call c) ≡ none → t ≡ selects_nothing c → t ≡ false
+    → f ≡ fields_of c → n ≡ some_count (listed_at_once c.operator f (tuples_of b) (length l)) → n ≡ Some k
+    → l' ≡ written_pairs (listed_at_once c.operator f (tuples_of b) (length l)) l → OnStore stored b l c (Ok (Listed k)) b l'
 unfolding listed_at_once at_once
-at_once_known b l l' c f k t store p S s F K h L =
-    go (at_once c.operator (length (tuples_of b)) (length l)) refl (K ∙ ap (λ (x : Fields). length (entries x)) F)
+at_once_known b l l' c f n k t store p S s F K h L =
+    let k_known = counted (entries f) k (sym h ∙ K) in
+    go k_known.1 (at_once c.operator (length (tuples_of b)) (length l)) refl (k_known.0 ∙ ap (λ (x : Fields). length (entries x)) F)
     (L ∙ ap (λ (x : Fields). written_pairs (entries x) l) F)
   where
     entries : Fields → List Pair
     entries x = listed_at_once c.operator x (tuples_of b) (length l)
 
-    go : (u : Bool) → at_once c.operator (length (tuples_of b)) (length l) ≡ u → k ≡ length (cond u (listed sin (fields_of c) (tuples_of b)) [])
-        → l' ≡ written_pairs (cond u (listed sin (fields_of c) (tuples_of b)) []) l → OnStore stored b l c (Listed k) b l'
-    go false e K L = absurd (h K)
-    go true e K L =
+    go : k ≢ 0 → (u : Bool) → at_once c.operator (length (tuples_of b)) (length l) ≡ u → k ≡ length (cond u (listed sin (fields_of c) (tuples_of b)) [])
+        → l' ≡ written_pairs (cond u (listed sin (fields_of c) (tuples_of b)) []) l → OnStore stored b l c (Ok (Listed k)) b l'
+    go some_entry false e K L = absurd (some_entry K)
+    go some_entry true e K L =
         let ts : Tuples = tuples_of b in
         let R = store_tuples b store in
         let N = sym S ∙ s in
         let E : c.operator ≡ 40 = eqb-true c.operator 40 (and_left (eqb c.operator 40) _ e) in
-        let q = edge_in (fields_of c) ts R (λ z. h (K ∙ z)) in
+        let q = edge_in (fields_of c) ts R (λ z. some_entry (K ∙ z)) in
         let T = ends_there (s_of c) (n_of c) ts q.0 R q.1 in
         let none_does = none_applies (capacity_of b) ts c (length l) E (and_right (eqb c.operator 40) _ e) (tuples_fit b (store_linked b store).chains) T in
-        listed_known b l l' c k store N (sin_operator c E) (all_pass (capacity_of b) ts c (length l) 0 p N none_does refl) K L
+        listed_known b l l' c k store N (sin_operator c E) (all_pass (capacity_of b) ts c (length l) p N none_does) K L
 
 -- where there is none, the list is as it was ..
-pub none_listed : (ps : List Pair) (l l' : List ℕ) (k : ℕ) → k ≡ length ps → k ≡ 0 → l' ≡ written_pairs ps l → l' ≡ l
-unfolding written_pairs
-none_listed [] l l' k K z L = L
-none_listed (p ∷ ps) l l' k K z L = absurd (omega (arith, K))
+pub none_listed : (ps : List Pair) (l l' : List ℕ) (n : Maybe ℕ) → n ≡ some_count ps → n ≡ None → l' ≡ written_pairs ps l → l' ≡ l
+unfolding written_pairs some_count
+none_listed [] l l' n N z L = L
+none_listed (p ∷ ps) l l' n N z L = cc
 
 -- .. and the rest of the call finds it so
-pub as_it_was : (b l l₁ b' l' : List ℕ) (c : Call) (a : Answer) → l₁ ≡ l → OnStore stored b l₁ c a b' l' → OnStore stored b l c a b' l'
+pub as_it_was : (b l l₁ b' l' : List ℕ) (c : Call) (a : Result Answer Refusal) → l₁ ≡ l → OnStore stored b l₁ c a b' l' → OnStore stored b l c a b' l'
 as_it_was b l l₁ b' l' c a e O = subst (λ (x : List ℕ). OnStore stored b x c a b' l') e O
 
 -- ---- what the function answers
@@ -201,8 +222,8 @@ module _ (b l : List ℕ) (number : ℕ) (f : Fields) where
   unfolding at_once
   other_number h = none_at_once (failed _ (λ t. clash (and_left (eqb number 40) _ t) (ne_eqb number 40 h)))
 
-  pub other_count : number ≢ 40 → 0 ≡ length entries
-  other_count h = sym (ap (λ (ps : List Pair). length ps) (other_number h))
+  pub other_count : number ≢ 40 → None ≡ some_count entries
+  other_count h = count_none entries 0 (sym (ap (λ (ps : List Pair). length ps) (other_number h))) refl
 
   pub other_list : number ≢ 40 → l ≡ written_pairs entries l
   unfolding written_pairs
@@ -213,8 +234,8 @@ module _ (b l : List ℕ) (number : ℕ) (f : Fields) where
     unfolding at_once
     no_room_lem e = none_at_once (failed _ (λ u. clash (and_right (eqb number 40) _ u) (sym T ∙ not_yes t e)))
 
-    pub roomless_count : not t ≡ true → 0 ≡ length entries
-    roomless_count e = sym (ap (λ (ps : List Pair). length ps) (no_room_lem e))
+    pub roomless_count : not t ≡ true → None ≡ some_count entries
+    roomless_count e = count_none entries 0 (sym (ap (λ (ps : List Pair). length ps) (no_room_lem e))) refl
 
     pub roomless_list : not t ≡ true → l ≡ written_pairs entries l
     unfolding written_pairs
@@ -229,8 +250,11 @@ module _ (b l : List ℕ) (number : ℕ) (f : Fields) where
     all_of E e =
         sym (ap (λ (u : Bool). cond u (listed sin f (tuples_of b)) []) (and_both (eqb number 40) _ (eq-eqb number 40 E) (sym T ∙ not_no t e)))
 
-    pub all_count : (k : ℕ) → number ≡ 40 → not t ≡ false → k ≡ length (listed sin f (tuples_of b)) → k ≡ length entries
-    all_count k E e K = K ∙ ap (λ (ps : List Pair). length ps) (all_of E e)
+    pub all_count : (k : ℕ) → number ≡ 40 → not t ≡ false → k ≡ length (listed sin f (tuples_of b)) → k ≢ 0 → Some k ≡ some_count entries
+    all_count k E e K h = count_some entries k (K ∙ ap (λ (ps : List Pair). length ps) (all_of E e)) h
+
+    pub empty_count : (k : ℕ) → number ≡ 40 → not t ≡ false → k ≡ length (listed sin f (tuples_of b)) → k ≡ 0 → None ≡ some_count entries
+    empty_count k E e K z = count_none entries k (K ∙ ap (λ (ps : List Pair). length ps) (all_of E e)) z
 
     pub all_list : (l' : List ℕ) → number ≡ 40 → not t ≡ false → l' ≡ written_pairs (listed sin f (tuples_of b)) l → l' ≡ written_pairs entries l
     all_list l' E e L = L ∙ ap (λ (ps : List Pair). written_pairs ps l) (all_of E e)

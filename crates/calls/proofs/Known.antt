@@ -1,19 +1,20 @@
 -- One call on a store: refused, or performed (OnStore).
 use mathlib.Core.Bool.{Bool, true, false, cond, not, false≢true, true≢false}
 use mathlib.Core.List.{List}
-use mathlib.Core.Logic.{◌≢◌}
-use mathlib.Core.Option.{Option, none, some}
+use mathlib.Core.Option.{Option, none, some, none-ne-some}
 use mathlib.Core.Path.{◌≡◌, refl, sym, ap, ◌∙◌, subst}
 use Prim.Native.Nat.{ℕ, ◌+◌}
 use lib.ListN.{length}
 use lib.Dec.{ltb}
 use borrow.Author.Tests.{ltb-false}
+use Rattle.std.specs.Prelude.{Result, Ok, Err}
 use Rattle.model.specs.declared.Answer.{Answer}
-use Rattle.model.specs.declared.Answer.TheVariants.{Refusal}
 use Rattle.model.specs.declared.Call.{Call}
 use Rattle.model.specs.declared.Decoded.{Decoded}
 use Rattle.model.specs.declared.Operator.{Operator}
 use Rattle.model.specs.declared.Operator.TheVariants.{Create, Bind, Value as Values, Exists, Destroy, List as Lists}
+use Rattle.model.specs.declared.Refusal.{Refusal}
+use Rattle.model.specs.declared.Refusal.TheVariants.{NotAStore}
 use Rattle.model.specs.declared.Removal.{Removal}
 use Rattle.model.specs.Operators.{operator_of, reads_of, row_of}
 use Rattle.model.specs.Tuples.{Tuples, missing}
@@ -25,11 +26,11 @@ use Rattle.model.specs.OneCall.{answer_of, list_after, OnStore, OneCall}
 use Rattle.layouts.specs.Stored.{stored}
 use Rattle.model.proofs.Bools.{and_left, and_right, not_yes, not_no}
 use Rattle.model.proofs.Steps.{Passed, passed, agrees, agree, n_named, g_named, m_named, s_named, after_rules}
-use Rattle.model.proofs.Refusals.{stopped, none≢some, idle_form}
+use Rattle.model.proofs.Refusals.{stopped, idle_form}
 use Rattle.edit.proofs.Built.{store_tuples, edited_store}
 use Rattle.listings.proofs.Stores.{names_asked}
 use Rattle.calls.specs.Perform.{NamesIn, ReadyFor, Ready, Performed}
-use Rattle.refusals.specs.Numbers.{stop_number, of_store}
+use Rattle.refusals.specs.Checks.{checked, of_store}
 use Rattle.refusals.proofs.Stops.{call_passes, call_stops, nothing_passes, all_pass, store_stops}
 
 -- with nothing as the space no list is written
@@ -39,11 +40,11 @@ idle_unwritten op x l = idle_form (λ (r : Reply). list_after r l ≡ l) (λ n. 
 
 -- ---- refused
 
-refused : (b l : List ℕ) (c : Call) (stop : ℕ) → is_store b ≡ true → refusal_of (capacity_of b) (tuples_of b) c (length l) ≡ some stop
-    → OnStore stored b l c (Refusal stop) b l
+refused : (b l : List ℕ) (c : Call) (condition : Refusal) → is_store b ≡ true → refusal_of (capacity_of b) (tuples_of b) c (length l) ≡ some condition
+    → OnStore stored b l c (Err condition) b l
 unfolding answer_of list_after
-refused b l c stop e some_stop =
-    let m = stopped (capacity_of b) (tuples_of b) c (length l) stop some_stop in
+refused b l c condition e stops =
+    let m = stopped (capacity_of b) (tuples_of b) c (length l) condition stops in
     record {
       answer = sym (ap answer_of m.0);
       list = sym (ap (λ r. list_after r l) m.0);
@@ -57,22 +58,22 @@ refused b l c stop e some_stop =
     }
 
 -- by a condition on the call alone
-pub call_refused : (b l : List ℕ) (c : Call) (stop : ℕ) → is_store b ≡ true → stop ≡ stop_number (first (of_call c)) → stop ≢ 0 → OnStore stored b l c (Refusal stop) b l
-call_refused b l c stop e S h = refused b l c stop e (call_stops (capacity_of b) (tuples_of b) c (length l) stop S h)
+pub call_refused : (b l : List ℕ) (c : Call) (condition : Refusal) → is_store b ≡ true → Err condition ≡ checked (first (of_call c)) → OnStore stored b l c (Err condition) b l
+call_refused b l c condition e R = refused b l c condition e (call_stops (capacity_of b) (tuples_of b) c (length l) condition R)
 
 -- ---- with nothing as the space
 
-pub idle_known : (b l : List ℕ) (c : Call) (d : Decoded) (stop x : ℕ) (a : Answer) (t : Bool) → is_store b ≡ true → d ≡ decoded c
-    → stop ≡ stop_number (first (of_call c)) → stop ≡ 0 → t ≡ selects_nothing c → t ≡ true → x ≡ first_argument (decoded c) → a ≡ answer_of (idle_reply d.operator x)
-    → OnStore stored b l c a b l
+pub idle_known : (b l : List ℕ) (c : Call) (d : Decoded) (x : ℕ) (a : Answer) (t : Bool) → is_store b ≡ true → d ≡ decoded c
+    → Ok tt ≡ checked (first (of_call c)) → t ≡ selects_nothing c → t ≡ true → x ≡ first_argument (decoded c) → Ok a ≡ answer_of (idle_reply d.operator x)
+    → OnStore stored b l c (Ok a) b l
 unfolding machine outcome_of
-idle_known b l c d stop x a t e D S z T y X A =
+idle_known b l c d x a t e D R T y X A =
     let C : ℕ = capacity_of b in
     let ts : Tuples = tuples_of b in
     let N = sym T ∙ y in
-    let pass = nothing_passes C ts c (length l) (call_passes c stop S z) N in
+    let pass = nothing_passes C ts c (length l) (call_passes c R) N in
     let M : machine C ts c (length l) ≡ idle c ts =
-    ap (λ (r : Option ℕ). outcome_of r ts c) pass ∙ ap (λ (u : Bool). cond u (idle c ts) (step c ts)) N in
+    ap (λ (r : Option Refusal). outcome_of r ts c) pass ∙ ap (λ (u : Bool). cond u (idle c ts) (step c ts)) N in
     record {
       answer =
           A
@@ -125,32 +126,31 @@ ready_for b c room P = go (operator_of c.operator) refl
 
 -- ---- a call that is looked up
 
-module _ (b l : List ℕ) (c : Call) (d : Decoded) (D : d ≡ decoded c) (p : first (of_call c) ≡ none) (N : selects_nothing c ≡ false) (stop : ℕ)
-    (S : stop ≡ stop_number (first (of_store (capacity_of b) (tuples_of b) d (length l)))) where
-  decoded_stop : stop ≡ stop_number (first (of_store (capacity_of b) (tuples_of b) (decoded c) (length l)))
-  decoded_stop = S ∙ ap (λ (x : Decoded). stop_number (first (of_store (capacity_of b) (tuples_of b) x (length l)))) D
+module _ (b l : List ℕ) (c : Call) (d : Decoded) (D : d ≡ decoded c) (p : first (of_call c) ≡ none) (N : selects_nothing c ≡ false) where
+  abbrev check : Decoded → Result (Unit {0}) Refusal
+  check x = checked (first (of_store (capacity_of b) (tuples_of b) x (length l)))
 
-  passes_all : stop ≡ 0 → refusal_of (capacity_of b) (tuples_of b) c (length l) ≡ none
-  passes_all z = all_pass (capacity_of b) (tuples_of b) c (length l) stop p N decoded_stop z
+  passes_all : Ok tt ≡ check d → refusal_of (capacity_of b) (tuples_of b) c (length l) ≡ none
+  passes_all R = all_pass (capacity_of b) (tuples_of b) c (length l) p N (R ∙ ap check D)
 
-  pub ready : stop ≡ 0 → Ready d.operator d.fields b (length l)
-  ready z =
+  pub ready : Ok tt ≡ check d → Ready d.operator d.fields b (length l)
+  ready R =
       subst (λ (x : Decoded). Ready x.operator x.fields b (length l)) (sym D)
-      (record { ready = ready_for b c (length l) (passed _ _ c (length l) N (passes_all z)) })
+      (record { ready = ready_for b c (length l) (passed _ _ c (length l) N (passes_all R)) })
 
-  pub refused_known : is_store b ≡ true → stop ≢ 0 → OnStore stored b l c (Refusal stop) b l
-  refused_known e h = refused b l c stop e (store_stops (capacity_of b) (tuples_of b) c (length l) stop p N decoded_stop h)
+  pub refused_known : (condition : Refusal) → is_store b ≡ true → Err condition ≡ check d → OnStore stored b l c (Err condition) b l
+  refused_known condition e R = refused b l c condition e (store_stops (capacity_of b) (tuples_of b) c (length l) condition p N (R ∙ ap check D))
 
-  pub performed_known : (b' l' : List ℕ) (x : ℕ) (a : Answer) → is_store b ≡ true → FieldsFit (fields_of c) → stop ≡ 0 → x ≡ first_argument (decoded c)
-      → Performed d.operator x d.fields b l a b' l' → OnStore stored b l c a b' l'
+  pub performed_known : (b' l' : List ℕ) (x : ℕ) (a : Answer) → is_store b ≡ true → FieldsFit (fields_of c) → Ok tt ≡ check d → x ≡ first_argument (decoded c)
+      → Performed d.operator x d.fields b l a b' l' → OnStore stored b l c (Ok a) b' l'
   unfolding machine outcome_of
-  performed_known b' l' x a e F z X P =
+  performed_known b' l' x a e F R X P =
       let C : ℕ = capacity_of b in
       let ts : Tuples = tuples_of b in
-      let pass = passes_all z in
+      let pass = passes_all R in
       let Q = passed C ts c (length l) N pass in
       let M : machine C ts c (length l) ≡ step c ts =
-      ap (λ (r : Option ℕ). outcome_of r ts c) pass ∙ ap (λ (t : Bool). cond t (idle c ts) (step c ts)) N in
+      ap (λ (r : Option Refusal). outcome_of r ts c) pass ∙ ap (λ (t : Bool). cond t (idle c ts) (step c ts)) N in
       let E : Performed (decoded c).operator (first_argument (decoded c)) (decoded c).fields b l a b' l'
       = subst (λ (y : Decoded). Performed y.operator (first_argument (decoded c)) y.fields b l a b' l') D
       (subst (λ (n : ℕ). Performed d.operator n d.fields b l a b' l') X P) in
@@ -161,15 +161,12 @@ module _ (b l : List ℕ) (c : Call) (d : Decoded) (D : d ≡ decoded c) (p : fi
         state = E.edited.tuples ∙ sym (ap (λ o. o.state) M);
         size = E.edited.size;
         past = E.edited.past;
-        refused = λ n f. absurd (none≢some (sym pass ∙ f));
+        refused = λ n f. absurd (none-ne-some _ (sym pass ∙ f));
         reading = E.reading;
         unselected = λ w. absurd (true≢false (sym w ∙ N));
       }
 
 -- what the rest of the call requires
-pub looked_up_passes : (c : Call) (stop : ℕ) → stop ≡ stop_number (first (of_call c)) → stop ≡ 0 → first (of_call c) ≡ none
-looked_up_passes c stop S z = call_passes c stop S z
-
 pub looked_up_selects : (c : Call) (t : Bool) → t ≡ selects_nothing c → t ≡ false → selects_nothing c ≡ false
 looked_up_selects c t T e = sym T ∙ e
 
@@ -181,7 +178,7 @@ decoded_fields c d D = ap (λ (x : Decoded). x.fields) D
 
 -- ---- any buffer
 
-pub no_store_lem : (b l : List ℕ) (c : Call) (x : Bool) → x ≡ is_store b → not x ≡ true → OneCall stored b l c (Refusal 1) b l
+pub no_store_lem : (b l : List ℕ) (c : Call) (x : Bool) → x ≡ is_store b → not x ≡ true → OneCall stored b l c (Err NotAStore) b l
 no_store_lem b l c x X e =
     record {
       no_store = λ f. record { answer = refl; buffer = refl; list = refl };
@@ -191,5 +188,5 @@ no_store_lem b l c x X e =
 pub tested_store : (b : List ℕ) (x : Bool) → x ≡ is_store b → not x ≡ false → is_store b ≡ true
 tested_store b x X e = sym X ∙ not_no x e
 
-pub on_store_lem : (b l b' l' : List ℕ) (c : Call) (a : Answer) (x : Bool) → x ≡ is_store b → not x ≡ false → OnStore stored b l c a b' l' → OneCall stored b l c a b' l'
+pub on_store_lem : (b l b' l' : List ℕ) (c : Call) (a : Result Answer Refusal) (x : Bool) → x ≡ is_store b → not x ≡ false → OnStore stored b l c a b' l' → OneCall stored b l c a b' l'
 on_store_lem b l b' l' c a x X e O = record { no_store = λ f. absurd (false≢true (sym f ∙ tested_store b x X e)); on_store = λ f. O }

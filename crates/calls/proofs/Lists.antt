@@ -9,8 +9,8 @@ use lib.ListN.{length, replicate, length-replicate}
 use contract.Lifetimes.{Lfts}
 use borrow.Fn.Kinds.{Dens, res_t, ended_of}
 use denote.Triple.Clauses.{AtExit}
-use Rattle.model.specs.declared.Preparation.{Preparation}
-use Rattle.model.specs.declared.Preparation.TheVariants.{Capacity}
+use Rattle.std.specs.Prelude.{Result, Ok}
+use Rattle.model.specs.declared.Refusal.{Refusal}
 use Rattle.model.specs.Tuples.{fresh}
 use Rattle.layouts.specs.Buffer.{head_words, record_words, fits_length, Preparing}
 use Rattle.model.specs.Refusals.{selects_nothing}
@@ -33,11 +33,11 @@ use Rattle.calls.proofs.execute_known.Kinds as known_kinds
 use Rattle.calls.proofs.execute_known.Reads as known_reads
 
 -- a call of `prepare`: the buffer before it, its answer, the buffer after it
-pub data PreparedBy : List ℕ → Preparation → List ℕ → Type 0 where
+pub data PreparedBy : List ℕ → Result ℕ Refusal → List ℕ → Type 0 where
   prepared : (κs : Lfts 1) (a : Dens κs prepare_kinds.ps) (r : (res_t prepare_kinds.r κs).Denot) (e : AtExit (ended_of 1 prepare_kinds.ps prepare_kinds.r) κs)
       → prepare_reads.Learnt κs a r e → PreparedBy a.0.now r e.0.now
 
-pub prepared_preparing : {raw b : List ℕ} {r : Preparation} → PreparedBy raw r b → Preparing raw r b
+pub prepared_preparing : {raw b : List ℕ} {r : Result ℕ Refusal} → PreparedBy raw r b → Preparing raw r b
 prepared_preparing (prepared κs a r e P) = P.0
 
 -- a call of `execute`, or of `execute_known` on a store, from a buffer to a buffer
@@ -64,7 +64,7 @@ executed_machine b b' x made = one_call_machine stored stored_lawful b b' x (exe
 -- ---- preparing
 
 -- a buffer for which `prepare` answers C has that C, and C is 1 to 2,048
-capacity_prepared : (raw b : List ℕ) (C : ℕ) → Preparing raw (Capacity C) b → (stored.capacity_of raw ≡ C) × stored.Prepared raw b
+capacity_prepared : (raw b : List ℕ) (C : ℕ) → Preparing raw (Ok C) b → (stored.capacity_of raw ≡ C) × stored.Prepared raw b
 capacity_prepared raw b C P = go (fits_length raw) refl
   where
     go : (f : Bool) → fits_length raw ≡ f → (stored.capacity_of raw ≡ C) × stored.Prepared raw b
@@ -72,11 +72,11 @@ capacity_prepared raw b C P = go (fits_length raw) refl
     go true e = let z = P.inside e in let y = z.0 in (cc, z.1)
 
 -- where `prepare` answers C, the buffer has that C and is prepared
-pub prepared_by : (raw b : List ℕ) (C : ℕ) → PreparedBy raw (Capacity C) b → (stored.capacity_of raw ≡ C) × stored.Prepared raw b
+pub prepared_by : (raw b : List ℕ) (C : ℕ) → PreparedBy raw (Ok C) b → (stored.capacity_of raw ≡ C) × stored.Prepared raw b
 prepared_by raw b C P = capacity_prepared raw b C (prepared_preparing P)
 
 -- that C is 1 to 2,048 ..
-pub capacity_bounds : (raw b : List ℕ) (C : ℕ) → PreparedBy raw (Capacity C) b → (1 ≤ C) × (C ≤ 2048)
+pub capacity_bounds : (raw b : List ℕ) (C : ℕ) → PreparedBy raw (Ok C) b → (1 ≤ C) × (C ≤ 2048)
 capacity_bounds raw b C P =
     let Q = prepared_by raw b C P in
     let low = fits_least raw Q.1.fits in
@@ -84,12 +84,12 @@ capacity_bounds raw b C P =
     (omega (arith, Q.0, some_record raw low high), omega (arith, Q.0, few_records raw low high))
 
 -- .. and `prepare` answers each of these for a buffer with room for C records and no more
-pub every_capacity : (C : ℕ) → 1 ≤ C → C ≤ 2048 → (raw : List ℕ) × ((b : List ℕ) (r : Preparation) → PreparedBy raw r b → r ≡ Capacity C)
+pub every_capacity : (C : ℕ) → 1 ≤ C → C ≤ 2048 → (raw : List ℕ) × ((b : List ℕ) (r : Result ℕ Refusal) → PreparedBy raw r b → r ≡ Ok C)
 every_capacity C least most =
     let words : ℕ = head_words + record_words * C in
     let raw : List ℕ = replicate words 0 in
     let size : length raw ≡ words = length-replicate words 0 in
-    (raw, λ b r P. ((prepared_preparing P).inside (length_fits raw C least most size)).0 ∙ ap Capacity (length_records raw C least most size))
+    (raw, λ b r P. ((prepared_preparing P).inside (length_fits raw C least most size)).0 ∙ ap Ok (length_records raw C least most size))
 
 -- ---- demands 1 and 3
 
@@ -98,7 +98,7 @@ pub entry_demand_1 : (b b' : List ℕ) (x : CallMade) → ExecutedBy b x b' → 
 entry_demand_1 b b' x made = one_call_demand_1 stored stored_lawful b x.lent x.call x.answer b' x.left (executed_one made)
 
 -- demand 3: for every C that `prepare` answers, the buffer that it leaves and every list of calls
-pub entry_demand_3 : (raw b b' : List ℕ) (C : ℕ) (xs : List CallMade) → PreparedBy raw (Capacity C) b → Executed b xs b' → WholeList stored C fresh (map exchange_of xs) b'
+pub entry_demand_3 : (raw b b' : List ℕ) (C : ℕ) (xs : List CallMade) → PreparedBy raw (Ok C) b → Executed b xs b' → WholeList stored C fresh (map exchange_of xs) b'
 entry_demand_3 raw b b' C xs P calls =
     let Q = prepared_by raw b C P in
     let C' = capacity_bounds raw b C P in
@@ -112,7 +112,7 @@ entry_any_store b b' xs store calls = whole_list stored stored_lawful (trace_map
 -- request 1: calls on one fresh store, and the same calls with one more among them that has no selection, wherever it stands:
 -- all other answers and the tuples are the same
 pub entry_nothing : (raw b b' b'' : List ℕ) (C : ℕ) (xs : List CallMade) (x : CallMade) (ys zs : List CallMade) → selects_nothing x.call ≡ true
-    → requests (map exchange_of zs) ≡ requests (map exchange_of (xs ++ ys)) → PreparedBy raw (Capacity C) b → Executed b (xs ++ (x ∷ ys)) b' → Executed b zs b''
+    → requests (map exchange_of zs) ≡ requests (map exchange_of (xs ++ ys)) → PreparedBy raw (Ok C) b → Executed b (xs ++ (x ∷ ys)) b' → Executed b zs b''
     → WithoutEffect stored C fresh (map exchange_of xs) (exchange_of x) x.call (map exchange_of ys) b' (map exchange_of zs) b''
 entry_nothing raw b b' b'' C xs x ys zs e same P with_it without_it_lem =
     nothing_without_effect stored C fresh (map exchange_of xs) (exchange_of x) (record { call = x.call; room = length x.lent }) (map exchange_of ys) b'

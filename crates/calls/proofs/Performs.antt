@@ -6,6 +6,7 @@ use mathlib.Core.Path.{◌≡◌, refl, sym, ap, ap₂, ◌∙◌, subst}
 use Prim.Native.Nat.{ℕ, ◌-◌, ◌≤◌}
 use native.Mathlib.Omega.{arith}
 use lib.ListN.{length}
+use Rattle.std.specs.Prelude.{Ok}
 use Rattle.model.specs.declared.Answer.{Answer}
 use Rattle.model.specs.declared.Answer.TheVariants.{Name, Added, Removed, Value, YesNo, List as Listed}
 use Rattle.model.specs.declared.Direction.{Direction}
@@ -89,7 +90,7 @@ module _ (op : Operator) (x : ℕ) (f : Fields) (b l : List ℕ) where
     unfolding reply after answer_of list_after writes
     create_performed o e E =
         subst (λ (y : Operator). Performed y x f b l (Added x (now - before)) b' l) (sym e)
-        (record { answer = ap (Added x) (ap₂ ◌-◌ (found ∙ ap length E.tuples) told); list = refl; edited = E; reading = λ w. absurd (true≢false w) })
+        (record { answer = ap (λ (k : ℕ). Ok (Added x k)) (ap₂ ◌-◌ (found ∙ ap length E.tuples) told); list = refl; edited = E; reading = λ w. absurd (true≢false w) })
 
     pub destroy_shrinks : (r : Removal) → Edited b b' (destroyed r f (tuples_of b)) → now ≤ before
     destroy_shrinks r E = omega (arith, told, found, ap length E.tuples, length_destroyed r f (tuples_of b))
@@ -98,7 +99,7 @@ module _ (op : Operator) (x : ℕ) (f : Fields) (b l : List ℕ) where
     unfolding reply after answer_of list_after writes
     destroy_performed r e E =
         subst (λ (y : Operator). Performed y x f b l (Removed x (before - now)) b' l) (sym e)
-        (record { answer = ap (Removed x) (ap₂ ◌-◌ told (found ∙ ap length E.tuples)); list = refl; edited = E; reading = λ w. absurd (true≢false w) })
+        (record { answer = ap (λ (k : ℕ). Ok (Removed x k)) (ap₂ ◌-◌ told (found ∙ ap length E.tuples)); list = refl; edited = E; reading = λ w. absurd (true≢false w) })
 
   pub bind_performed : (o : Object) (b' : List ℕ) → op ≡ Bind o → Bound b (object_keys o f.s f) f.v b' → Performed op x f b l (Name x) b' l
   unfolding reply after answer_of list_after writes
@@ -111,23 +112,23 @@ module _ (op : Operator) (x : ℕ) (f : Fields) (b l : List ℕ) where
   unfolding reply after answer_of list_after
   value_performed o v e L h =
       subst (λ (y : Operator). Performed y x f b l (Value v) b l) (sym e)
-      (record { answer = ap Value h; list = refl; edited = unedited b (tuples_of b) L refl; reading = λ w. refl })
+      (record { answer = ap (λ (k : ℕ). Ok (Value k)) h; list = refl; edited = unedited b (tuples_of b) L refl; reading = λ w. refl })
 
   pub exists_performed : (o : Object) (t : Bool) → op ≡ Exists o → Linked b → t ≡ any_present (object_keys o f.s f) (tuples_of b)
       → Performed op x f b l (YesNo t) b l
   unfolding reply after answer_of list_after
   exists_performed o t e L h =
       subst (λ (y : Operator). Performed y x f b l (YesNo t) b l) (sym e)
-      (record { answer = ap YesNo h; list = refl; edited = unedited b (tuples_of b) L refl; reading = λ w. refl })
+      (record { answer = ap (λ (y : Bool). Ok (YesNo y)) h; list = refl; edited = unedited b (tuples_of b) L refl; reading = λ w. refl })
 
   pub list_performed : (q : Listing) (l' : List ℕ) (k : ℕ) → op ≡ Lists q → Linked b → k ≡ length (listed q f (tuples_of b))
       → l' ≡ written_pairs (listed q f (tuples_of b)) l → Performed op x f b l (Listed k) b l'
   unfolding reply after answer_of list_after written_pairs
   list_performed q l' k e L h w =
       subst (λ (y : Operator). Performed y x f b l (Listed k) b l') (sym e)
-      (record { answer = ap Listed h; list = w; edited = unedited b (tuples_of b) L refl; reading = λ z. refl })
+      (record { answer = ap (λ (n : ℕ). Ok (Listed n)) h; list = w; edited = unedited b (tuples_of b) L refl; reading = λ z. refl })
 
 -- ---- with nothing as the space
 
-pub idle_as : (op known : Operator) (x : ℕ) (a : Answer) → op ≡ known → a ≡ answer_of (idle_reply known x) → a ≡ answer_of (idle_reply op x)
+pub idle_as : (op known : Operator) (x : ℕ) (a : Answer) → op ≡ known → Ok a ≡ answer_of (idle_reply known x) → Ok a ≡ answer_of (idle_reply op x)
 idle_as op known x a e A = A ∙ ap (λ (o : Operator). answer_of (idle_reply o x)) (sym e)

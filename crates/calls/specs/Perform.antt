@@ -1,5 +1,5 @@
 -- What a step asks of its call, and all that it does.
-use Rattle.std.specs.Prelude.{false, List, ◌≢◌, ◌≡◌, ℕ, ◌≤◌, length}
+use Rattle.std.specs.Prelude.{false, List, ◌≢◌, ◌≡◌, ℕ, ◌≤◌, length, Ok}
 use Rattle.model.specs.declared.Answer.{Answer}
 use Rattle.model.specs.declared.Fields.{Fields}
 use Rattle.model.specs.declared.Operator.{Operator}
@@ -38,9 +38,9 @@ ReadyFor (Lists l) f b room = NamesAsked l f × (length (listed l f (tuples_of b
 pub record Ready (op : Operator) (f : Fields) (b : List ℕ) (room : ℕ) : Type 0 where
   pub ready : ReadyFor op f b room
 
--- the step's answer, the list and the buffer after it; `first` is the call's first argument
+-- the step's answer, which is no refusal, the list and the buffer after it; `first` is the call's first argument
 pub record Performed (op : Operator) (first : ℕ) (f : Fields) (b l : List ℕ) (a : Answer) (b' l' : List ℕ) : Type 0 where
-  pub answer : a ≡ answer_of (reply op first f (tuples_of b))
+  pub answer : Ok a ≡ answer_of (reply op first f (tuples_of b))
   pub list : l' ≡ list_after (reply op first f (tuples_of b)) l
   pub edited : Edited b b' (after op f (tuples_of b))
   pub reading : writes op ≡ false → b' ≡ b

@@ -10,38 +10,42 @@ ghost use Rattle.model.specs.Machine.{FieldsFit};
 ghost use Rattle.model.specs.OneCall.{OnStore, OneCall};
 ghost use Rattle.layouts.specs.Stored.{stored};
 ghost use Rattle.entries.specs.Queries.{written_pairs};
-ghost use Rattle.calls.specs.AtOnce.{listed_at_once};
+ghost use Rattle.calls.specs.AtOnce.{listed_at_once, some_count};
 
 use located::Near;
-use model::{Answer, Call, Decoded, Direction, Fields, Listing};
+use model::{Answer, Call, Decoded, Direction, Fields, Listing, Refusal};
 
 // SIN, whose entries each show that its node is there.
 const SIN: u32 = 40;
 
 // The entries of a SIN, written to the list without a search for n, and their number.
-// 0 for other operators, and where the list might be too short.
-fn list_at_once(b: &[u32], number: u32, f: Fields, list: &mut [u32]) -> usize
+// None for other operators, where the list might be too short, and where there is no entry.
+fn list_at_once(b: &[u32], number: u32, f: Fields, list: &mut [u32]) -> Option<usize>
     requires { stored.is_store b.now ≡ true }
-    ensures value { result ≡ length (listed_at_once number f (stored.state_of b.now) (length list.old)) }
+    ensures value { result ≡ some_count (listed_at_once number f (stored.state_of b.now) (length list.old)) }
     ensures list { list.new ≡ written_pairs (listed_at_once number f (stored.state_of b.now) (length list.old)) list.old }
 {
     if number != SIN {
-        return 0;
+        return None;
     }
     let nodes = Listing::N(Direction::Inpointing);
     if !listings::surely_fits(b, list.len()) {
-        return 0;
+        return None;
     }
     let nowhere = Near {
         space: 0,
         node: 0,
         second: 0,
     };
-    listings::write_listed(b, nowhere, nodes, f, list)
+    let k = listings::write_listed(b, nowhere, nodes, f, list);
+    if k == 0 {
+        return None;
+    }
+    Some(k)
 }
 
 // A call on a store that no condition on the call alone stops, and whose space is looked up.
-fn look_up(store: &mut [u32], call: Call, d: Decoded, list: &mut [u32]) -> Answer
+fn look_up(store: &mut [u32], call: Call, d: Decoded, list: &mut [u32]) -> Result<Answer, Refusal>
     requires { (stored.is_store store.old ≡ true) × (d ≡ decoded call) × (first (of_call call) ≡ none) × (selects_nothing call ≡ false) × FieldsFit (fields_of call) }
     ensures { OnStore stored store.old list.old call result store.new list.new }
 {
@@ -49,48 +53,36 @@ fn look_up(store: &mut [u32], call: Call, d: Decoded, list: &mut [u32]) -> Answe
     let l = located::locate(store, above, d);
     let near = l.near;
     let universe = located::also_in_universe(near, above, d.fields.s);
-    let stop = refusals::refusal_of(store, d, l, universe, list.len());
-    if stop != 0 {
-        return Answer::Refusal(stop);
-    }
-    let row = d.row;
-    let name = operators::first_argument(call, row);
-    let op = d.operator;
-    let f = d.fields;
-    perform::perform(store, near, universe, op, f, name, list)
+    refusals::check_store(store, d, l, universe, list.len())?;
+    let name = operators::first_argument(call, d.row);
+    Ok(perform::perform(store, near, universe, d.operator, d.fields, name, list))
 }
 
 // One call on a buffer that the caller has proved to be a store: no check is paid.
 // It is for code in Rattle, as runs and scripts are; `execute` is the entry that refuses a buffer which is none.
-pub fn execute_known(store: &mut [u32], call: Call, list: &mut [u32]) -> Answer
+pub fn execute_known(store: &mut [u32], call: Call, list: &mut [u32]) -> Result<Answer, Refusal>
     requires { stored.is_store store.old ≡ true }
     ensures { OnStore stored store.old list.old call result store.new list.new }
 {
     let row = operators::row_of(call.operator);
     let nothing = operators::selects_nothing(call, row);
-    let stop = refusals::refusal_of_call(call, row, nothing);
-    if stop != 0 {
-        return Answer::Refusal(stop);
-    }
+    refusals::check_call(call, row, nothing)?;
     let d = operators::decode(call, row);
     if nothing {
-        let op = d.operator;
-        return perform::idle(op, operators::first_argument(call, row));
+        return Ok(perform::idle(d.operator, operators::first_argument(call, row)));
     }
-    let f = d.fields;
-    let k = list_at_once(store, call.operator, f, list);
-    if k != 0 {
-        return Answer::List(k);
+    if let Some(k) = list_at_once(store, call.operator, d.fields, list) {
+        return Ok(Answer::List(k));
     }
     look_up(store, call, d, list)
 }
 
 // One call on any buffer, with any numbers as operator and names and any answer list.
-pub fn execute(store: &mut [u32], call: Call, list: &mut [u32]) -> Answer
+pub fn execute(store: &mut [u32], call: Call, list: &mut [u32]) -> Result<Answer, Refusal>
     ensures { OneCall stored store.old list.old call result store.new list.new }
 {
     if !verify::is_store(store) {
-        return Answer::Refusal(1);
+        return Err(Refusal::NotAStore);
     }
     execute_known(store, call, list)
 }

@@ -1,6 +1,6 @@
 // The step of an operator on a store, where nothing stops the call.
 // An inner layer: what its functions require, their callers have shown; only the entry refuses.
-ghost use Rattle.std.specs.Prelude.{true, ◌≡◌, length};
+ghost use Rattle.std.specs.Prelude.{true, ◌≡◌, length, Ok};
 ghost use Rattle.layouts.specs.Buffer.{tuples_of, is_store};
 ghost use Rattle.model.specs.Steps.{destroyed, idle_reply};
 ghost use Rattle.model.specs.OneCall.{answer_of};
@@ -31,7 +31,7 @@ fn destroy(b: &mut [u32], near: Near, r: Removal, f: Fields)
 // What an operator answers with nothing as its space, where `name` is the call's first argument: no store is read or written.
 // Condition 12 stops V before.
 pub fn idle(op: Operator, name: u16) -> Answer
-    ensures { result ≡ answer_of (idle_reply op name) }
+    ensures { Ok result ≡ answer_of (idle_reply op name) }
 {
     match op {
         Operator::Create(o) => Answer::Added(name, 0),

@@ -60,13 +60,13 @@ nothing_left = refl
 -- ---- what the answer says
 
 -- no error says that no condition applies
-pub none_applied : (x : Option Refusal) (u : Unit {0}) → Ok u ≡ checked x → x ≡ none
+none_applied : (x : Option Refusal) → Ok tt ≡ checked x → x ≡ none
 unfolding checked
-none_applied none u e = refl
-none_applied (some condition) u e = cc
+none_applied none e = refl
+none_applied (some condition) e = cc
 
 -- an error says which one stops the call
-pub one_applied : (x : Option Refusal) (condition : Refusal) → Err condition ≡ checked x → x ≡ some condition
+one_applied : (x : Option Refusal) (condition : Refusal) → Err condition ≡ checked x → x ≡ some condition
 unfolding checked
 one_applied none condition e = cc
 one_applied (some other) condition e = cc
@@ -74,8 +74,8 @@ one_applied (some other) condition e = cc
 -- ---- the conditions in two parts
 
 -- no condition on the call applies
-pub call_passes : (c : Call) (r : Result (Unit {0}) Refusal) (u : Unit {0}) → r ≡ checked (first (of_call c)) → r ≡ Ok u → first (of_call c) ≡ none
-call_passes c r u R e = none_applied (first (of_call c)) u (sym e ∙ R)
+pub call_passes : (c : Call) → Ok tt ≡ checked (first (of_call c)) → first (of_call c) ≡ none
+call_passes c e = none_applied (first (of_call c)) e
 
 -- what is read of a call that passes
 pub unstopped : (c : Call) (d : Decoded) → d ≡ decoded c → first (of_call c) ≡ none → Unstopped d
@@ -85,10 +85,9 @@ unstopped c d e p =
     record { call = c; same = e; known = known.0; named = (first_passed _ _ known.1).0 }
 
 -- a condition on the call stops it
-pub call_stops : (C : ℕ) (ts : Tuples) (c : Call) (room : ℕ) (r : Result (Unit {0}) Refusal) (condition : Refusal)
-    → r ≡ checked (first (of_call c)) → r ≡ Err condition → refusal_of C ts c room ≡ some condition
+pub call_stops : (C : ℕ) (ts : Tuples) (c : Call) (room : ℕ) (condition : Refusal) → Err condition ≡ checked (first (of_call c)) → refusal_of C ts c room ≡ some condition
 unfolding refusal_of earlier of_call
-call_stops C ts c room r condition R e = first_some (of_call c) _ condition (one_applied (first (of_call c)) condition (sym e ∙ R))
+call_stops C ts c room condition e = first_some (of_call c) _ condition (one_applied (first (of_call c)) condition e)
 
 -- where none does, and the space is looked up, those on what the store holds decide
 pub store_decides : (C : ℕ) (ts : Tuples) (c : Call) (room : ℕ) → first (of_call c) ≡ none → selects_nothing c ≡ false
@@ -104,13 +103,13 @@ pub nothing_passes : (C : ℕ) (ts : Tuples) (c : Call) (room : ℕ) → first (
 nothing_passes C ts c room p e = not_looked_up C ts c room e ∙ p
 
 -- a call that passes all
-pub all_pass : (C : ℕ) (ts : Tuples) (c : Call) (room : ℕ) (r : Result (Unit {0}) Refusal) (u : Unit {0}) → first (of_call c) ≡ none → selects_nothing c ≡ false
-    → r ≡ checked (first (of_store C ts (decoded c) room)) → r ≡ Ok u → refusal_of C ts c room ≡ none
-all_pass C ts c room r u p e R z = store_decides C ts c room p e ∙ none_applied (first (of_store C ts (decoded c) room)) u (sym z ∙ R)
+pub all_pass : (C : ℕ) (ts : Tuples) (c : Call) (room : ℕ) → first (of_call c) ≡ none → selects_nothing c ≡ false
+    → Ok tt ≡ checked (first (of_store C ts (decoded c) room)) → refusal_of C ts c room ≡ none
+all_pass C ts c room p e R = store_decides C ts c room p e ∙ none_applied (first (of_store C ts (decoded c) room)) R
 
-pub store_stops : (C : ℕ) (ts : Tuples) (c : Call) (room : ℕ) (r : Result (Unit {0}) Refusal) (condition : Refusal) → first (of_call c) ≡ none → selects_nothing c ≡ false
-    → r ≡ checked (first (of_store C ts (decoded c) room)) → r ≡ Err condition → refusal_of C ts c room ≡ some condition
-store_stops C ts c room r condition p e R h = store_decides C ts c room p e ∙ one_applied (first (of_store C ts (decoded c) room)) condition (sym h ∙ R)
+pub store_stops : (C : ℕ) (ts : Tuples) (c : Call) (room : ℕ) (condition : Refusal) → first (of_call c) ≡ none → selects_nothing c ≡ false
+    → Err condition ≡ checked (first (of_store C ts (decoded c) room)) → refusal_of C ts c room ≡ some condition
+store_stops C ts c room condition p e R = store_decides C ts c room p e ∙ one_applied (first (of_store C ts (decoded c) room)) condition R
 
 -- ---- the row of a call
 
