@@ -29,8 +29,10 @@ pub struct Line<'a> {
     pub at: usize,
 }
 
+// What an entry is made of is always built into its callers: as calls, a line of many entries takes a third longer.
 impl Line<'_> {
     // Writes one byte.
+    #[inline(always)]
     pub fn put_byte(&mut self, b: u8)
         requires { Room (b ∷ []) self.old }
         ensures { Adds (b ∷ []) self.old self.new }
@@ -39,6 +41,7 @@ impl Line<'_> {
     }
 
     // Writes a text.
+    #[inline(always)]
     fn put_text(&mut self, text: &[u8])
         requires { Room text.now self.old }
         ensures { Adds text.now self.old self.new }
@@ -49,6 +52,7 @@ impl Line<'_> {
     }
 
     // Writes a number.
+    #[inline(always)]
     fn put_number(&mut self, x: u32)
         requires { Room (printed_number x) self.old }
         ensures { Adds (printed_number x) self.old self.new }
@@ -92,6 +96,7 @@ impl Line<'_> {
     }
 
     // Writes an entry of the answer list: a blank, its edge, a colon, its node.
+    #[inline(always)]
     fn put_entry(&mut self, w: u32)
         requires { Room (entry_text (unpack w)) self.old }
         ensures { Adds (entry_text (unpack w)) self.old self.new }
