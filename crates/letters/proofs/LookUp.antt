@@ -1,13 +1,14 @@
 -- The number of a word, by its place among the operators' words.
-use Rattle.std.specs.Prelude.{Bool, true, false, cond, not, Option, Some, None, List, [], ◌∷◌, map, ◌≡◌, ℕ, suc, ◌+◌, ltb, length}
-use Rattle.std.proofs.Common.{refl, sym, ap, ◌∙◌, arith}
+use Rattle.std.specs.Prelude.{Bool, true, false, cond, not, ◌&&◌, Option, Some, None, List, [], ◌∷◌, map, ◌≡◌, ℕ, zero, suc, ◌+◌, ◌<◌, eqb, ltb, length}
+use Rattle.std.proofs.Common.{refl, sym, ap, ◌∙◌, arith, get_or}
 use Rattle.std.proofs.Math.Dec.{leb-suc-suc}
-use borrow.Author.Tests.{lt-ltb}
+use borrow.Author.Tests.{lt-ltb, eqb-true}
 use Rattle.std.proofs.Math.Numerals.{one-add}
 use Rattle.std.specs.Borrow.{Bor}
 use Rattle.std.specs.List.{position_or_len}
 use Rattle.std.specs.Str.{bytes_eq}
 use Rattle.text.specs.Bytes.{Text, same_text}
+use Rattle.model.proofs.Bools.{and_left, and_right}
 use Rattle.text.proofs.Reading.{same_bytes}
 use Rattle.letters.specs.Letters.{place_in}
 use Rattle.letters.specs.OperatorWords.{operator_words, number_from, operator_number}
@@ -64,3 +65,36 @@ module _ (texts : List (Bor Text)) (w : Text) (r : Option ℕ) (found : r ≡ pl
   at_place i e =
       let n : i + 1 ≡ 1 + i = omega arith in
       ap (λ (x : ℕ). Some x) n ∙ sym (ap (added 1) e) ∙ its_number
+
+-- the operators' words are told apart: each has its own number
+
+-- is it this number
+abbrev pub is_number : Option ℕ → ℕ → Bool
+is_number None number = false
+is_number (Some x) number = eqb x number
+
+pub is_number_lem : (r : Option ℕ) (number : ℕ) → is_number r number ≡ true → r ≡ Some number
+is_number_lem None number e = absurd (cc)
+is_number_lem (Some x) number e = ap (λ (y : ℕ). Some y) (eqb-true x number e)
+
+-- have some words the numbers from this one on
+abbrev told_apart : ℕ → List Text → Bool
+told_apart number [] = true
+told_apart number (x ∷ xs) = is_number (operator_number x) number && told_apart (number + 1) xs
+
+all_told : told_apart 1 operator_words ≡ true
+unfolding operator_words operator_number number_from same_text
+all_told = refl
+
+told_at : (number : ℕ) (xs : List Text) → told_apart number xs ≡ true → (i : ℕ) → i < length xs → operator_number (get_or xs i []) ≡ Some (number + i)
+told_at number [] e i h = absurd (omega arith)
+told_at number (x ∷ xs) e zero h =
+    let n : number ≡ number + 0 = omega arith in
+    is_number_lem (operator_number x) number (and_left _ (told_apart (number + 1) xs) e) ∙ ap (λ (y : ℕ). Some y) n
+told_at number (x ∷ xs) e (suc i) h =
+    let n : number + 1 + i ≡ number + suc i = omega arith in
+    told_at (number + 1) xs (and_right (is_number (operator_number x) number) _ e) i (omega arith) ∙ ap (λ (y : ℕ). Some y) n
+
+-- "entry i has the letters of operator i + 1"
+pub each_number : (i : ℕ) → i < length operator_words → operator_number (get_or operator_words i []) ≡ Some (1 + i)
+each_number i h = told_at 1 operator_words all_told i h

@@ -6,7 +6,7 @@ use Prim.Native.Nat.{ℕ, ◌≤◌}
 use native.Mathlib.Omega.{arith}
 use lib.Dec.{eqb, leb}
 use borrow.Author.Tests.{eqb-true, eqb-false, ne_eqb, leb-true}
-use Rattle.std.specs.Prelude.{Option, Some, None, Ok}
+use Rattle.std.specs.Prelude.{Some, Ok}
 use Rattle.model.specs.declared.Call.{Call}
 use Rattle.model.specs.declared.Space.{Space}
 use Rattle.model.specs.declared.SpaceName.{SpaceName}
@@ -23,6 +23,7 @@ use Rattle.text.proofs.Reading.{same_text_lem}
 use Rattle.text.proofs.Printing.{reads_back, digits_printed}
 use Rattle.text.proofs.Lacking.{lacks, lacks_printed}
 use Rattle.lines.specs.Lines.{words_of}
+use Rattle.letters.proofs.LookUp.{is_number, is_number_lem}
 use Rattle.letters.specs.OperatorWords.{operator_words, number_from, operator_number}
 use Rattle.lines.specs.Calls.{Reading, most_value, with_number, take_number, take_space, complete, call_of, in_order, space_then_value, spaces, arguments, read_words, read_line}
 use Rattle.model.specs.Unread.{readable}
@@ -166,18 +167,9 @@ reads_52 n g m v s h k =
 
 -- the others
 
-is_it : Option ℕ → ℕ → Bool
-is_it None o = false
-is_it (Some x) o = eqb x o
-
-is_it_lem : (r : Option ℕ) (o : ℕ) → is_it r o ≡ true → r ≡ Some o
-unfolding is_it
-is_it_lem None o e = absurd (cc)
-is_it_lem (Some x) o e = ap (λ (y : ℕ). Some y) (eqb-true x o e)
-
 number_back : (o : ℕ) → 1 ≤ o → o ≤ 56 → operator_number (letters_of o) ≡ Some o
-unfolding every_up_to letters_of operator_words operator_number number_from same_text is_it
-number_back o h k = is_it_lem (operator_number (letters_of o)) o (every_up_to_lem (λ (i : ℕ). is_it (operator_number (letters_of i)) i) 56 refl o h k)
+unfolding every_up_to letters_of operator_words operator_number number_from same_text
+number_back o h k = is_number_lem (operator_number (letters_of o)) o (every_up_to_lem (λ (i : ℕ). is_number (operator_number (letters_of i)) i) 56 refl o h k)
 
 space_asked : (o : ℕ) → 1 ≤ o → o ≤ 55 → (reads_of o).s ≡ true
 unfolding every_up_to reads_of

@@ -49,10 +49,11 @@ pub fn line_at(script: &[u8], from: usize) -> &[u8]
 fn completed(rest: &[u8], c: Call) -> Result<Call, Refusal>
     ensures { result ≡ complete c (words_behind rest.now) }
 {
-    if !rest.is_empty() {
-        return Err(Refusal::Unreadable);
+    if rest.is_empty() {
+        Ok(c)
+    } else {
+        Err(Refusal::Unreadable)
     }
-    Ok(c)
 }
 
 // "Arguments follow in the order above": n g m v, those that are read, and s.

@@ -27,7 +27,8 @@ pub fn number_in(word: &[u8], most: u32) -> Option<u32>
     let [first, ..] = word else {
         return None;
     };
-    if *first == b'0' && word.len() > 1 {
+    let several = word.len() > 1;
+    if *first == b'0' && several {
         return None;
     }
     digits_in(word, most)
