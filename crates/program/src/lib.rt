@@ -123,3 +123,82 @@ pub fn run<R: Read, W: Write>(input: &mut R, output: &mut W) -> Ended
     let write = answer(&bytes[..length], output);
     Ended { read, write }
 }
+
+#[cfg(test)]
+mod tests {
+    use super::*;
+
+    // Gives one line, and then fails.
+    #[derive(Drop)]
+    struct BrokenReader {
+        given: bool,
+    }
+
+    impl Read for BrokenReader {
+        fn read(&mut self, buf: &mut [u8]) -> io::Result<usize> {
+            if self.given || buf.len() < 6 {
+                return Err(io::Error::from(io::ErrorKind::Other));
+            }
+            self.given = true;
+            buf[..6].copy_from_slice(b"CUN 1\n");
+            Ok(6)
+        }
+    }
+
+    // Takes everything, and counts it.
+    #[derive(Drop)]
+    struct Counter {
+        count: usize,
+    }
+
+    impl Write for Counter {
+        fn write(&mut self, buf: &[u8]) -> io::Result<usize> {
+            self.count = buf.len();
+            Ok(buf.len())
+        }
+
+        fn flush(&mut self) -> io::Result<()> {
+            Ok(())
+        }
+    }
+
+    // Takes one byte, and then fails.
+    #[derive(Drop)]
+    struct BrokenWriter {
+        first: Option<u8>,
+    }
+
+    impl Write for BrokenWriter {
+        fn write(&mut self, buf: &[u8]) -> io::Result<usize> {
+            if self.first.is_some() || buf.len() < 1 {
+                return Err(io::Error::from(io::ErrorKind::Other));
+            }
+            self.first = Some(buf[0]);
+            Ok(1)
+        }
+
+        fn flush(&mut self) -> io::Result<()> {
+            Ok(())
+        }
+    }
+
+    // What was read before the failure is answered: `= 1 +1` and a line feed.
+    #[test]
+    fn read_fails(rt: HostRuntime) {
+        let mut output = Counter { count: 0 };
+        let ended = run(&mut BrokenReader { given: false }, &mut output);
+        assert!(rt; ended.read.is_err());
+        assert!(rt; ended.write.is_ok());
+        assert_eq!(rt; output.count, 7);
+    }
+
+    // The first byte of the answer was taken.
+    #[test]
+    fn write_fails(rt: HostRuntime) {
+        let mut output = BrokenWriter { first: None };
+        let ended = run(&mut b"CUN 1\nCUN 2\n".as_slice(), &mut output);
+        assert!(rt; ended.read.is_ok());
+        assert!(rt; ended.write.is_err());
+        assert_eq!(rt; output.first, Some(b'='));
+    }
+}
