@@ -28,10 +28,6 @@ put_then {xs} {ys} {out} {at} {mid} {end} {out'} {out''} h p q =
       bytes = q.bytes ∙ ap (λ (o : Text). written o mid ys) p.bytes ∙ ap (λ (n : ℕ). written (written out at xs) n ys) p.place ∙ written_twice out at xs ys h;
     }
 
--- the same text, written otherwise
-pub put_same : {xs ys out : Text} {at end : ℕ} {out' : Text} → xs ≡ ys → Put xs out at end out' → Put ys out at end out'
-put_same {xs} {ys} {out} {at} {end} {out'} e p = subst (λ (bs : Text). Put bs out at end out') e p
-
 -- a text put behind what a line has, and one behind it
 pub adds_then : {xs ys : Text} {l l' l'' : Line} → Room xs l → Adds xs l l' → Adds ys l' l'' → Adds (xs ++ ys) l l''
 adds_then h p q = record { lent = q.lent ∙ p.lent; put = put_then (omega arith) p.put q.put }
