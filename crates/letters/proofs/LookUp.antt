@@ -1,143 +1,100 @@
--- The number of a word, where it is compared with some of the operators' words alone.
-use mathlib.Core.Bool.{Bool, true, false, cond, not, ◌&&◌, true≢false}
-use mathlib.Core.List.{List, [], ◌∷◌}
-use mathlib.Core.Path.{◌≡◌, refl, sym, ap, ◌∙◌}
-use Prim.Native.Nat.{ℕ, zero, suc, ◌+◌, ◌≤◌, ◌<◌}
-use native.Mathlib.Omega.{arith}
-use lib.Dec.{eqb, ltb}
-use lib.ListN.{length, get_or}
-use borrow.Author.Tests.{eq-eqb, ne_eqb, eqb-true, lt-ltb, ltb-true}
-use Rattle.model.proofs.Bools.{and_left, and_right, and_both, no_not, failed}
-use Rattle.text.specs.Bytes.{Text, same_text, A, B, C, D, I, O, S, U, «V», X}
-use Rattle.text.proofs.Reading.{same_text_lem}
+-- The number of a word, by its place among the operators' words.
+use Rattle.std.specs.Prelude.{Bool, true, false, cond, not, ◌&&◌, Option, Some, None, List, [], ◌∷◌, map, ◌≡◌, ℕ, zero, suc, ◌+◌, ◌<◌, eqb, ltb, length}
+use Rattle.std.proofs.Common.{refl, sym, ap, ◌∙◌, arith, get_or}
+use Rattle.std.proofs.Math.Dec.{leb-suc-suc}
+use borrow.Author.Tests.{lt-ltb, eqb-true}
+use Rattle.std.proofs.Math.Numerals.{one-add}
+use Rattle.std.specs.Borrow.{Bor}
+use Rattle.std.specs.List.{position_or_len}
+use Rattle.std.specs.Str.{bytes_eq}
+use Rattle.text.specs.Bytes.{Text, same_text}
+use Rattle.model.proofs.Bools.{and_left, and_right}
+use Rattle.text.proofs.Reading.{same_bytes}
+use Rattle.letters.specs.Letters.{place_in}
 use Rattle.letters.specs.OperatorWords.{operator_words, number_from, operator_number}
-use Rattle.letters.specs.Letters.{begins, begins_two}
+
+-- a number with a place added
+abbrev added : ℕ → Option ℕ → Option ℕ
+added number None = None
+added number (Some i) = Some (number + i)
+
+-- the place of the first of some texts, with another text in front of them
+placed : (number n size : ℕ) → added number (cond (ltb (1 + n) (suc size)) (Some (1 + n)) None) ≡ added (number + 1) (cond (ltb n size) (Some n) None)
+placed number n size =
+    ap (λ (x : ℕ). added number (cond (ltb x (suc size)) (Some x) None)) (one-add n)
+    ∙ ap (λ (b : Bool). added number (cond b (Some (suc n)) None)) (leb-suc-suc (suc n) size)
+    ∙ go (ltb n size)
+  where
+    go : (b : Bool) → added number (cond b (Some (suc n)) None) ≡ added (number + 1) (cond b (Some n) None)
+    go true =
+        let e : number + suc n ≡ number + 1 + n = omega arith in
+        ap (λ (x : ℕ). Some x) e
+    go false = refl
+
+-- the number of a word is that of the first entry, and its place among them
+numbered : (number : ℕ) (texts : List (Bor Text)) (w : Text) → added number (place_in texts w) ≡ number_from number (map (λ (x : Bor Text). x.now) texts) w
+unfolding number_from place_in
+numbered number [] w = refl
+numbered number (x ∷ xs) w = go (bytes_eq w x.now) (same_bytes w x.now) (numbered (number + 1) xs w)
+  where
+    rest : Option ℕ
+    rest = number_from (number + 1) (map (λ (y : Bor Text). y.now) xs) w
+
+    place : ℕ
+    place = position_or_len (λ (y : Bor Text). bytes_eq w y.now) xs
+
+    go : (b : Bool) → b ≡ same_text w x.now → added (number + 1) (place_in xs w) ≡ rest
+        → added number (cond (ltb (cond (not b) (1 + place) 0) (suc (length xs))) (Some (cond (not b) (1 + place) 0)) None) ≡ cond (same_text w x.now) (Some number) rest
+    go true e later =
+        let n : number + 0 ≡ number = omega arith in
+        ap (λ (t : Bool). added number (cond t (Some 0) None)) (lt-ltb 0 (suc (length xs)) (omega arith))
+        ∙ ap (λ (i : ℕ). Some i) n
+        ∙ ap (λ (t : Bool). cond t (Some number) rest) e
+    go false e later = placed number place (length xs) ∙ later ∙ ap (λ (t : Bool). cond t (Some number) rest) e
+
+-- the table's texts are the operators' words: the number is the place and one more
+module _ (texts : List (Bor Text)) (w : Text) (r : Option ℕ) (found : r ≡ place_in texts w) (table : map (λ (x : Bor Text). x.now) texts ≡ operator_words) where
+  its_number : added 1 r ≡ operator_number w
+  unfolding operator_number
+  its_number = ap (added 1) found ∙ numbered 1 texts w ∙ ap (λ (ws : List Text). number_from 1 ws w) table
+
+  pub no_place : r ≡ None → None ≡ operator_number w
+  no_place e = sym (ap (added 1) e) ∙ its_number
+
+  pub at_place : (i : ℕ) → r ≡ Some i → Some (i + 1) ≡ operator_number w
+  at_place i e =
+      let n : i + 1 ≡ 1 + i = omega arith in
+      ap (λ (x : ℕ). Some x) n ∙ sym (ap (added 1) e) ∙ its_number
 
 -- the operators' words are told apart: each has its own number
 
+-- is it this number
+abbrev pub is_number : Option ℕ → ℕ → Bool
+is_number None number = false
+is_number (Some x) number = eqb x number
+
+pub is_number_lem : (r : Option ℕ) (number : ℕ) → is_number r number ≡ true → r ≡ Some number
+is_number_lem None number e = absurd (cc)
+is_number_lem (Some x) number e = ap (λ (y : ℕ). Some y) (eqb-true x number e)
+
 -- have some words the numbers from this one on
-abbrev numbered : ℕ → List Text → Bool
-numbered number [] = true
-numbered number (x ∷ xs) = eqb (operator_number x) number && numbered (number + 1) xs
+abbrev told_apart : ℕ → List Text → Bool
+told_apart number [] = true
+told_apart number (x ∷ xs) = is_number (operator_number x) number && told_apart (number + 1) xs
 
-all_numbered : numbered 1 operator_words ≡ true
+all_told : told_apart 1 operator_words ≡ true
 unfolding operator_words operator_number number_from same_text
-all_numbered = refl
+all_told = refl
 
-numbered_at : (number : ℕ) (xs : List Text) → numbered number xs ≡ true → (i : ℕ) → i < length xs → operator_number (get_or xs i []) ≡ number + i
-numbered_at number [] e i h = absurd (omega arith)
-numbered_at number (x ∷ xs) e zero h =
-    let k = eqb-true (operator_number x) number (and_left _ (numbered (number + 1) xs) e) in
+told_at : (number : ℕ) (xs : List Text) → told_apart number xs ≡ true → (i : ℕ) → i < length xs → operator_number (get_or xs i []) ≡ Some (number + i)
+told_at number [] e i h = absurd (omega arith)
+told_at number (x ∷ xs) e zero h =
     let n : number ≡ number + 0 = omega arith in
-    k ∙ n
-numbered_at number (x ∷ xs) e (suc i) h =
+    is_number_lem (operator_number x) number (and_left _ (told_apart (number + 1) xs) e) ∙ ap (λ (y : ℕ). Some y) n
+told_at number (x ∷ xs) e (suc i) h =
     let n : number + 1 + i ≡ number + suc i = omega arith in
-    numbered_at (number + 1) xs (and_right (eqb (operator_number x) number) _ e) i (omega arith) ∙ n
+    told_at (number + 1) xs (and_right (is_number (operator_number x) number) _ e) i (omega arith) ∙ ap (λ (y : ℕ). Some y) n
 
 -- "entry i has the letters of operator i + 1"
-pub each_number : (i : ℕ) → i < length operator_words → operator_number (get_or operator_words i []) ≡ 1 + i
-each_number i h = numbered_at 1 operator_words all_numbered i h
-
--- a word that is the same as an entry has its number
-pub entry : (i : ℕ) → ltb i (length operator_words) ≡ true → (w : Text) (r : Bool) → r ≡ same_text w (get_or operator_words i []) → r ≡ true → 1 + i ≡ operator_number w
-entry i h w r e f = sym (ap operator_number (same_text_lem w (get_or operator_words i []) (sym e ∙ f)) ∙ each_number i (ltb-true i (length operator_words) h))
-
--- the words that pass a test
-abbrev pub passing : (Text → Bool) → List Text → List Text
-passing p [] = []
-passing p (x ∷ xs) = cond (p x) (x ∷ passing p xs) (passing p xs)
-
--- a word is none of some: it was compared with each
-pub data NoneOf (w : Text) : List Text → Type 0 where
-  compared : NoneOf w []
-  other : {x : Text} {xs : List Text} (r : Bool) → r ≡ same_text w x → r ≡ false → NoneOf w xs → NoneOf w (x ∷ xs)
-
-none_first : (w x : Text) (xs : List Text) → NoneOf w (x ∷ xs) → same_text w x ≡ false
-none_first w x xs (other r e f n) = sym e ∙ f
-
-none_later : (w x : Text) (xs : List Text) → NoneOf w (x ∷ xs) → NoneOf w xs
-none_later w x xs (other r e f n) = n
-
--- a word that passes a test, and is none of those that pass it, is none of them all
-none_passing : (p : Text → Bool) (xs : List Text) (w : Text) → p w ≡ true → NoneOf w (passing p xs) → NoneOf w xs
-none_passing p [] w h n = compared
-none_passing p (x ∷ xs) w h n = go (p x) refl n (none_passing p xs w h)
-  where
-    go : (t : Bool) → p x ≡ t → NoneOf w (cond t (x ∷ passing p xs) (passing p xs)) → (NoneOf w (passing p xs) → NoneOf w xs) → NoneOf w (x ∷ xs)
-    go true e m later = other (same_text w x) refl (none_first w x (passing p xs) m) (later (none_later w x (passing p xs) m))
-    go false e m later = other (same_text w x) refl (failed (same_text w x) (λ s. true≢false (sym h ∙ ap p (same_text_lem w x s) ∙ e))) (later m)
-
-none_numbered : (number : ℕ) (xs : List Text) (w : Text) → NoneOf w xs → number_from number xs w ≡ 0
-unfolding number_from
-none_numbered number [] w n = refl
-none_numbered number (x ∷ xs) w n = go (same_text w x) (none_first w x xs n) (none_numbered (number + 1) xs w (none_later w x xs n))
-  where
-    go : (s : Bool) → s ≡ false → number_from (number + 1) xs w ≡ 0 → cond s number (number_from (number + 1) xs w) ≡ 0
-    go true e later = absurd (true≢false e)
-    go false e later = later
-
--- a word that passes a test, and is none of the operators' words that pass it, is no operator
-pub no_operator_lem : (p : Text → Bool) (w : Text) → p w ≡ true → NoneOf w (passing p operator_words) → 0 ≡ operator_number w
-unfolding operator_number
-no_operator_lem p w h n = sym (none_numbered 1 operator_words w (none_passing p operator_words w h n))
-
--- the first letters
-
-pub begins_with : (a : ℕ) (w : Text) → (length w ≡ 0 → ⊥) → get_or w 0 0 ≡ a → begins a w ≡ true
-unfolding begins
-begins_with a [] n e = absurd (n refl)
-begins_with a (x ∷ xs) n e = eq-eqb x a e
-
-pub begins_with_two : (a b : ℕ) (w : Text) → begins a w ≡ true → 2 ≤ length w → get_or w 1 0 ≡ b → begins_two a b w ≡ true
-unfolding begins begins_two
-begins_with_two a b [] h l e = absurd (omega arith)
-begins_with_two a b (x ∷ []) h l e = absurd (omega arith)
-begins_with_two a b (x ∷ y ∷ ys) h l e = rw (h, eq-eqb y b e)
-
--- a word of fewer than two letters is no operator
-abbrev short : Text → Bool
-short w = ltb (length w) 2
-
-pub no_short : (w : Text) → length w < 2 → 0 ≡ operator_number w
-unfolding operator_words
-no_short w h = no_operator_lem short w (lt-ltb (length w) 2 h) compared
-
-pub no_empty : (w : Text) → length w ≡ 0 → 0 ≡ operator_number w
-no_empty w e = no_short w (omega arith)
-
--- is a letter none of some
-abbrev differs : ℕ → List ℕ → Bool
-differs x [] = true
-differs x (a ∷ ls) = not (eqb x a) && differs x ls
-
-differs_more : (x a : ℕ) (ls : List ℕ) → (x ≡ a → ⊥) → differs x ls ≡ true → differs x (a ∷ ls) ≡ true
-differs_more x a ls n e = and_both _ _ (no_not _ (ne_eqb x a n)) e
-
--- a word with another first letter is no operator
-pub no_first : (w : Text) → (get_or w 0 0 ≡ C → ⊥) → (get_or w 0 0 ≡ B → ⊥) → (get_or w 0 0 ≡ «V» → ⊥) → (get_or w 0 0 ≡ X → ⊥) → (get_or w 0 0 ≡ D → ⊥) → (get_or w 0 0 ≡ S → ⊥)
-    → 0 ≡ operator_number w
-unfolding operator_words
-no_first w c b v x d s =
-    no_operator_lem (λ (t : Text). differs (get_or t 0 0) (C ∷ B ∷ «V» ∷ X ∷ D ∷ S ∷ [])) w
-    (differs_more (get_or w 0 0) C (B ∷ «V» ∷ X ∷ D ∷ S ∷ []) c
-    (differs_more (get_or w 0 0) B («V» ∷ X ∷ D ∷ S ∷ []) b
-    (differs_more (get_or w 0 0) «V» (X ∷ D ∷ S ∷ []) v
-    (differs_more (get_or w 0 0) X (D ∷ S ∷ []) x
-    (differs_more (get_or w 0 0) D (S ∷ []) d
-    (differs_more (get_or w 0 0) S [] s refl))))))
-    compared
-
--- a word with this first letter and a second that is none of O, I, A, U
-abbrev pub other_second : ℕ → Text → Bool
-other_second a w = begins a w && differs (get_or w 1 0) (O ∷ I ∷ A ∷ U ∷ [])
-
-pub no_second : (a : ℕ) (w : Text) → begins a w ≡ true → (get_or w 1 0 ≡ O → ⊥) → (get_or w 1 0 ≡ I → ⊥) → (get_or w 1 0 ≡ A → ⊥) → (get_or w 1 0 ≡ U → ⊥)
-    → NoneOf w (passing (other_second a) operator_words) → 0 ≡ operator_number w
-no_second a w h o i l u n =
-    no_operator_lem (other_second a) w
-    (and_both (begins a w) _ h
-    (differs_more (get_or w 1 0) O (I ∷ A ∷ U ∷ []) o
-    (differs_more (get_or w 1 0) I (A ∷ U ∷ []) i
-    (differs_more (get_or w 1 0) A (U ∷ []) l
-    (differs_more (get_or w 1 0) U [] u refl)))))
-    n
+pub each_number : (i : ℕ) → i < length operator_words → operator_number (get_or operator_words i []) ≡ Some (1 + i)
+each_number i h = told_at 1 operator_words all_told i h

@@ -1,14 +1,10 @@
--- The first letters of a word, by which its operator is looked up.
-use Rattle.std.specs.Prelude.{Bool, false, ◌&&◌, [], ◌∷◌, ℕ, eqb}
+-- The place of a word among some texts.
+use Rattle.std.specs.Prelude.{Option, List, ℕ}
+use Rattle.std.specs.Borrow.{Bor}
+use Rattle.std.specs.List.{position}
+use Rattle.std.specs.Str.{bytes_eq}
 use Rattle.text.specs.Bytes.{Text}
 
--- does a word begin with this letter
-unfoldable pub begins : ℕ → Text → Bool
-begins a [] = false
-begins a (x ∷ xs) = eqb x a
-
--- does a word begin with these two letters
-unfoldable pub begins_two : ℕ → ℕ → Text → Bool
-begins_two a b [] = false
-begins_two a b (x ∷ []) = false
-begins_two a b (x ∷ y ∷ ys) = eqb x a && eqb y b
+-- the place of the first of some lent texts that is a word
+unfoldable pub place_in : List (Bor Text) → Text → Option ℕ
+place_in texts w = position (λ (text : Bor Text). bytes_eq w text.now) texts

@@ -1,5 +1,5 @@
 -- Document 01, the table of operators: the letters of each.
-use Rattle.std.specs.Prelude.{cond, List, [], ◌∷◌, ◌++◌, ℕ, ◌+◌}
+use Rattle.std.specs.Prelude.{Option, Some, None, cond, List, [], ◌∷◌, ◌++◌, ℕ, ◌+◌}
 use Rattle.text.specs.Bytes.{Text, same_text, A, B, C, D, G, I, N, O, P, S, U, «V», X}
 
 -- three operators in the order of the table: O, I, A
@@ -28,11 +28,11 @@ operator_words =
     ++ ((C ∷ U ∷ S ∷ []) ∷ (B ∷ U ∷ S ∷ []) ∷ («V» ∷ U ∷ S ∷ []) ∷ (X ∷ U ∷ S ∷ []) ∷ (D ∷ U ∷ S ∷ []) ∷ [])
     ++ ((S ∷ U ∷ S ∷ []) ∷ [])
 
--- the number of the first of some words that is the same, where the first of them has this number; 0 for none
-unfoldable pub number_from : ℕ → List Text → Text → ℕ
-number_from number [] w = 0
-number_from number (x ∷ xs) w = cond (same_text w x) number (number_from (number + 1) xs w)
+-- the number of the first of some words that is the same, where the first of them has this number
+unfoldable pub number_from : ℕ → List Text → Text → Option ℕ
+number_from number [] w = None
+number_from number (x ∷ xs) w = cond (same_text w x) (Some number) (number_from (number + 1) xs w)
 
--- "Operator letters are compared as they stand, in capitals": the operator of a word; 0 for none
-unfoldable pub operator_number : Text → ℕ
+-- "Operator letters are compared as they stand, in capitals": the operator of a word, where it is one's
+unfoldable pub operator_number : Text → Option ℕ
 operator_number w = number_from 1 operator_words w

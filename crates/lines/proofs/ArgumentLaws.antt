@@ -1,306 +1,205 @@
--- Arguments by their places, and by the words that they take.
-use mathlib.Core.Bool.{Bool, true, false, cond}
-use mathlib.Core.List.{List, [], ◌∷◌}
-use mathlib.Core.Option.{Option, none, some}
-use mathlib.Core.Path.{◌≡◌, refl, sym, ap, ◌∙◌, subst}
-use Prim.Native.Nat.{ℕ, ◌+◌, ◌-◌, ◌≤◌, ◌<◌}
-use native.Mathlib.Omega.{arith}
-use lib.Dec.{ltb}
-use borrow.Author.Tests.{ltb-true, ltb-false}
-use lib.ListN.{length, take, drop}
+-- Arguments by the words that they take.
+use Rattle.std.specs.Prelude.{Bool, true, false, cond, Option, Some, None, Ok, List, [], ◌∷◌, ◌≡◌, ℕ, ◌≤◌, eqb, length, take, drop}
+use Rattle.std.proofs.Common.{refl, sym, ap, ◌∙◌, arith}
+use borrow.Author.Tests.{eqb-true}
 use Rattle.model.specs.declared.Call.{Call}
 use Rattle.model.specs.declared.Space.{Space}
 use Rattle.model.specs.declared.Space.TheVariants.{Universe, Numbered, Nothing}
 use Rattle.model.specs.Keys.{most_name}
 use Rattle.text.specs.Bytes.{Text, before, blank, same_text, U, hyphen}
 use Rattle.text.specs.Numerals.{is_digit, plain_digits, read_number}
-use Rattle.text.proofs.Reading.{same_text_lem, number_most}
+use Rattle.std.specs.Str.{bytes_eq}
+use Rattle.std.specs.Bool.{then_some}
+use Rattle.text.proofs.Reading.{before_take, same_text_lem, same_bytes, number_most}
 use Rattle.lines.specs.declared.Argument.{Argument}
-use Rattle.lines.specs.declared.Argument.TheVariants.{Number, Universal, NoSelection, Missing, Unreadable}
-use Rattle.lines.specs.declared.Reading.{Reading}
-use Rattle.lines.specs.declared.Reading.TheVariants.{Read}
-use Rattle.lines.specs.declared.arguments.SpaceArgument.{SpaceArgument}
-use Rattle.lines.specs.declared.arguments.SpaceArgument.TheVariants.{Given, NotASpace}
-use Rattle.lines.specs.Calls.{refused, with_number, take_number, take_space, complete}
-use Rattle.lines.specs.Places.{words_behind, as_number, of_word, first_of, argument_at, field_at, space_of}
-use Rattle.lines.proofs.LineLaws.{part_before}
-use Rattle.lines.proofs.WordLaws.{behind_end, word_behind}
+use Rattle.lines.specs.declared.Argument.TheVariants.{Number, Universal, NoSelection, Missing}
+use Rattle.lines.specs.Calls.{Reading, refused, with_number, take_number, take_space, complete}
+use Rattle.lines.specs.Places.{words_behind, others, as_number, of_word, first_of, field_of, left_by, space_of}
+use Rattle.lines.proofs.WordLaws.{first_word}
 
 -- nothing follows the last argument
 
-pub something_follows : (c : Call) (line : Text) (end : ℕ) → end < length line → refused ≡ complete c (words_behind line end)
-unfolding complete
-something_follows c line end h = sym (ap (complete c) (word_behind line end h))
+pub nothing_follows : (c : Call) (t : Text) → eqb (length t) 0 ≡ true → Ok c ≡ complete c (words_behind t)
+unfolding complete words_behind
+nothing_follows c [] e = refl
+nothing_follows c (b ∷ bs) e = absurd (omega (arith, eqb-true (length (b ∷ bs)) 0 e))
 
-pub nothing_follows : (c : Call) (line : Text) (end : ℕ) → length line ≤ end → Read c ≡ complete c (words_behind line end)
-unfolding complete
-nothing_follows c line end h = sym (ap (complete c) (behind_end line end h))
+pub something_follows : (c : Call) (t : Text) → eqb (length t) 0 ≡ false → refused ≡ complete c (words_behind t)
+unfolding complete words_behind
+something_follows c [] e = absurd (cc)
+something_follows c (b ∷ bs) e = sym (ap (complete c) (first_word bs))
 
 -- one argument
 
-pub is_universe_lem : (most : ℕ) (w : Text) (end : ℕ) (r : Bool) → r ≡ same_text w (U ∷ []) → r ≡ true → Universal end ≡ of_word most w end
+-- what `==` says of a word and some letters
+pub compared : (w letters lent : Text) (r t : Bool) → r ≡ bytes_eq w lent → lent ≡ letters → r ≡ t → same_text w letters ≡ t
+compared w letters lent r t e f g = sym (same_bytes w letters) ∙ ap (bytes_eq w) (sym f) ∙ sym e ∙ g
+
+pub is_universe_lem : (most : ℕ) (w : Text) → same_text w (U ∷ []) ≡ true → Universal ≡ of_word most w
 unfolding of_word
-is_universe_lem most w end r e f =
-    let s : same_text w (U ∷ []) ≡ true = sym e ∙ f in
-    rw s
+is_universe_lem most w e = rw e
 
-pub is_nothing_lem : (most : ℕ) (w : Text) (end : ℕ) (r : Bool) → r ≡ same_text w (U ∷ []) → r ≡ false → (q : Bool) → q ≡ same_text w (hyphen ∷ []) → q ≡ true → NoSelection end ≡ of_word most w end
+pub is_nothing_lem : (most : ℕ) (w : Text) → same_text w (U ∷ []) ≡ false → same_text w (hyphen ∷ []) ≡ true → NoSelection ≡ of_word most w
 unfolding of_word
-is_nothing_lem most w end r e f q i j =
-    let s : same_text w (U ∷ []) ≡ false = sym e ∙ f in
-    let t : same_text w (hyphen ∷ []) ≡ true = sym i ∙ j in
-    rw (s, t)
+is_nothing_lem most w e f = rw (e, f)
 
-pub is_number : (most : ℕ) (w : Text) (end : ℕ) (r : Bool) → r ≡ same_text w (U ∷ []) → r ≡ false → (q : Bool) → q ≡ same_text w (hyphen ∷ []) → q ≡ false
-    → (x : Argument) → x ≡ as_number (read_number most w) end → x ≡ of_word most w end
+pub is_number : (most : ℕ) (w : Text) (o : Option ℕ) → same_text w (U ∷ []) ≡ false → same_text w (hyphen ∷ []) ≡ false → o ≡ read_number most w → as_number o ≡ of_word most w
 unfolding of_word
-is_number most w end r e f q i j x g =
-    let s : same_text w (U ∷ []) ≡ false = sym e ∙ f in
-    let t : same_text w (hyphen ∷ []) ≡ false = sym i ∙ j in
-    g ∙ rw (s, t)
+is_number most w o e f g = ap as_number g ∙ rw (e, f)
 
-pub none_behind : (most : ℕ) (line : Text) (end : ℕ) → length line ≤ end → Missing ≡ argument_at most line end
-unfolding argument_at first_of
-none_behind most line end h = sym (ap (λ (ws : List Text). first_of most ws end) (behind_end line end h))
+-- the rest of a line that is empty
+pub no_argument : (most : ℕ) (t : Text) → length t ≡ 0 → Missing ≡ first_of most (words_behind t)
+unfolding words_behind first_of
+no_argument most [] h = refl
+no_argument most (b ∷ bs) h = absurd (omega arith)
 
-pub one_behind : (most : ℕ) (line : Text) (end stop : ℕ) → end < length line → stop ≡ end + 1 + length (before blank (drop (end + 1) line))
-    → (a : Argument) → a ≡ of_word most (take (stop - (end + 1)) (drop (end + 1) line)) stop → a ≡ argument_at most line end
-unfolding argument_at first_of
-one_behind most line end stop h e a k =
-    k
-    ∙ ap (λ (w : Text). of_word most w stop) (part_before blank line (end + 1) stop e)
-    ∙ ap (of_word most (before blank (drop (end + 1) line))) e
-    ∙ sym (ap (λ (ws : List Text). first_of most ws end) (word_behind line end h))
+pub none_left : (t : Text) → length t ≡ 0 → words_behind t ≡ others (words_behind t)
+unfolding words_behind others
+none_left [] h = refl
+none_left (b ∷ bs) h = absurd (omega arith)
 
-pub not_read : (read : Bool) (most : ℕ) (line : Text) (end : ℕ) → read ≡ false → Number 0 end ≡ field_at read most line end
-unfolding field_at
-not_read read most line end e = rw e
+-- the rest of a line that begins with a byte, and the words behind it, the first of which has n bytes
+module _ (t words : Text) (b n : ℕ) (e : t ≡ b ∷ words) (f : n ≡ length (before blank words)) where
+  parted_word : words_behind t ≡ before blank words ∷ words_behind (drop n words)
+  unfolding words_behind
+  parted_word = ap words_behind e ∙ first_word words ∙ ap (λ (k : ℕ). before blank words ∷ words_behind (drop k words)) (sym f)
 
-pub is_read : (read : Bool) (most : ℕ) (line : Text) (end : ℕ) → read ≡ true → (a : Argument) → a ≡ argument_at most line end → a ≡ field_at read most line end
-unfolding field_at
-is_read read most line end e a k = rw (e, k)
+  pub its_argument : (most : ℕ) (word : Text) (a : Argument) → word ≡ take n words → a ≡ of_word most word → a ≡ first_of most (words_behind t)
+  unfolding first_of
+  its_argument most word a g h =
+      h
+      ∙ ap (of_word most) (g ∙ ap (λ (k : ℕ). take k words) f ∙ before_take blank words)
+      ∙ sym (ap (first_of most) parted_word)
+
+  pub its_rest : (after : Text) → after ≡ drop n words → words_behind after ≡ others (words_behind t)
+  unfolding others
+  its_rest after g = ap words_behind g ∙ sym (ap others parted_word)
 
 -- an argument that is a number is at most what it may be
-word_most : (most : ℕ) (w : Text) (end x e : ℕ) → of_word most w end ≡ Number x e → x ≤ most
+word_most : (most : ℕ) (w : Text) (x : ℕ) → of_word most w ≡ Number x → x ≤ most
 unfolding of_word as_number
-word_most most w end x e f = go (same_text w (U ∷ [])) (same_text w (hyphen ∷ [])) (read_number most w) refl f
+word_most most w x f = go (same_text w (U ∷ [])) (same_text w (hyphen ∷ [])) (read_number most w) refl f
   where
-    go : (b d : Bool) (o : Option ℕ) → read_number most w ≡ o → cond b (Universal end) (cond d (NoSelection end) (as_number o end)) ≡ Number x e → x ≤ most
-    go true d o g h =
-        let z : ◌≡◌ {A = ℕ} 0 1 = cc in
-        absurd (omega arith)
-    go false true o g h =
-        let z : ◌≡◌ {A = ℕ} 0 1 = cc in
-        absurd (omega arith)
-    go false false none g h =
-        let z : ◌≡◌ {A = ℕ} 0 1 = cc in
-        absurd (omega arith)
-    go false false (some y) g h =
+    go : (b d : Bool) (o : Option ℕ) → read_number most w ≡ o → cond b Universal (cond d NoSelection (as_number o)) ≡ Number x → x ≤ most
+    go true d o g h = absurd (cc)
+    go false true o g h = absurd (cc)
+    go false false None g h = absurd (cc)
+    go false false (Some y) g h =
         let z : y ≡ x = cc in
-        number_most most w x (g ∙ ap some z)
+        number_most most w x (g ∙ ap (λ (k : ℕ). Some k) z)
 
-argument_most : (most : ℕ) (ws : List Text) (end x e : ℕ) → first_of most ws end ≡ Number x e → x ≤ most
+first_most : (most : ℕ) (ws : List Text) (x : ℕ) → first_of most ws ≡ Number x → x ≤ most
 unfolding first_of
-argument_most most [] end x e f =
-    let z : ◌≡◌ {A = ℕ} 0 1 = cc in
-    absurd (omega arith)
-argument_most most (w ∷ ws) end x e f = word_most most w (end + 1 + length w) x e f
+first_most most [] x f = absurd (cc)
+first_most most (w ∷ ws) x f = word_most most w x f
 
-pub name_fits : (most : ℕ) (line : Text) (end x e : ℕ) (a : Argument) → a ≡ argument_at most line end → a ≡ Number x e → x ≤ most
-unfolding argument_at
-name_fits most line end x e a f g = argument_most most (words_behind line end) end x e (sym f ∙ g)
+pub argument_fits : (most : ℕ) (ws : List Text) (x : ℕ) (a : Argument) → a ≡ first_of most ws → a ≡ Number x → x ≤ most
+argument_fits most ws x a f g = first_most most ws x (sym f ∙ g)
 
-pub field_fits : (read : Bool) (most : ℕ) (line : Text) (end x e : ℕ) (a : Argument) → a ≡ field_at read most line end → a ≡ Number x e → x ≤ most
-unfolding field_at argument_at
-field_fits true most line end x e a f g = argument_most most (words_behind line end) end x e (sym f ∙ g)
-field_fits false most line end x e a f g =
+pub field_fits : (read : Bool) (most : ℕ) (ws : List Text) (x : ℕ) (a : Argument) → a ≡ field_of read most ws → a ≡ Number x → x ≤ most
+unfolding field_of
+field_fits true most ws x a f g = first_most most ws x (sym f ∙ g)
+field_fits false most ws x a f g =
     let z : 0 ≡ x = cc in
     omega arith
 
 -- the words that an argument takes
 
--- the first of some words ends so that the others are behind it
-abbrev Followed : Text → ℕ → List Text → Type 0
-Followed line end [] = Unit {0}
-Followed line end (w ∷ ws) = ws ≡ words_behind line (end + 1 + length w)
-
-followed : (line : Text) (end : ℕ) → Followed line end (words_behind line end)
-followed line end = go (ltb end (length line)) refl
-  where
-    go : (b : Bool) → ltb end (length line) ≡ b → Followed line end (words_behind line end)
-    go true e = subst (λ (ws : List Text). Followed line end ws) (sym (word_behind line end (ltb-true _ _ e))) refl
-    go false e = subst (λ (ws : List Text). Followed line end ws) (sym (behind_end line end (ltb-false _ _ e))) tt
+-- what the test on the variant of an argument says
+abbrev pub NoNumber : Argument → Type 0
+NoNumber a = (x : ℕ) → a ≡ Number x → ⊥
 
 -- U is no number
-u_no_number : (most : ℕ) (w : Text) → same_text w (U ∷ []) ≡ true → read_number most w ≡ none
+u_no_number : (most : ℕ) (w : Text) → same_text w (U ∷ []) ≡ true → read_number most w ≡ None
 unfolding read_number plain_digits is_digit
 u_no_number most w e = ap (read_number most) (same_text_lem w (U ∷ []) e)
 
 -- `-` is no number
-hyphen_no_number : (most : ℕ) (w : Text) → same_text w (hyphen ∷ []) ≡ true → read_number most w ≡ none
+hyphen_no_number : (most : ℕ) (w : Text) → same_text w (hyphen ∷ []) ≡ true → read_number most w ≡ None
 unfolding read_number plain_digits is_digit
 hyphen_no_number most w e = ap (read_number most) (same_text_lem w (hyphen ∷ []) e)
 
 -- what a word leads to, where a number is asked for
-word_number : (most : ℕ) (w : Text) (end x e : ℕ) (then : ℕ → Reading) → of_word most w end ≡ Number x e → (with_number (read_number most w) then ≡ then x) × (e ≡ end)
+word_number : (most : ℕ) (w : Text) (x : ℕ) (then : ℕ → Reading) → of_word most w ≡ Number x → with_number (read_number most w) then ≡ then x
 unfolding of_word as_number with_number
-word_number most w end x e then f = go (same_text w (U ∷ [])) (same_text w (hyphen ∷ [])) (read_number most w) f
+word_number most w x then f = go (same_text w (U ∷ [])) (same_text w (hyphen ∷ [])) (read_number most w) f
   where
-    go : (b d : Bool) (o : Option ℕ) → cond b (Universal end) (cond d (NoSelection end) (as_number o end)) ≡ Number x e → (with_number o then ≡ then x) × (e ≡ end)
-    go true d o h =
-        let z : ◌≡◌ {A = ℕ} 0 1 = cc in
-        absurd (omega arith)
-    go false true o h =
-        let z : ◌≡◌ {A = ℕ} 0 1 = cc in
-        absurd (omega arith)
-    go false false none h =
-        let z : ◌≡◌ {A = ℕ} 0 1 = cc in
-        absurd (omega arith)
-    go false false (some y) h =
+    go : (b d : Bool) (o : Option ℕ) → cond b Universal (cond d NoSelection (as_number o)) ≡ Number x → with_number o then ≡ then x
+    go true d o h = absurd (cc)
+    go false true o h = absurd (cc)
+    go false false None h = absurd (cc)
+    go false false (Some y) h =
         let z : y ≡ x = cc in
-        (ap then z, cc)
+        ap then z
 
-word_refused : (most : ℕ) (w : Text) (end : ℕ) (then : ℕ → Reading) → ((x e : ℕ) → of_word most w end ≡ Number x e → ⊥) → with_number (read_number most w) then ≡ refused
+word_refused : (most : ℕ) (w : Text) (then : ℕ → Reading) → NoNumber (of_word most w) → with_number (read_number most w) then ≡ refused
 unfolding of_word as_number with_number
-word_refused most w end then n = go (same_text w (U ∷ [])) refl (same_text w (hyphen ∷ [])) refl (read_number most w) refl n
+word_refused most w then n = go (same_text w (U ∷ [])) refl (same_text w (hyphen ∷ [])) refl (read_number most w) refl n
   where
     go : (b : Bool) → same_text w (U ∷ []) ≡ b → (d : Bool) → same_text w (hyphen ∷ []) ≡ d → (o : Option ℕ) → read_number most w ≡ o
-        → ((x e : ℕ) → cond b (Universal end) (cond d (NoSelection end) (as_number o end)) ≡ Number x e → ⊥) → with_number o then ≡ refused
-    go b f d k none g h = refl
-    go true f d k (some y) g h =
+        → NoNumber (cond b Universal (cond d NoSelection (as_number o))) → with_number o then ≡ refused
+    go b f d k None g h = refl
+    go true f d k (Some y) g h =
         let u = u_no_number most w f in
-        let z : ◌≡◌ {A = ℕ} 0 1 = cc in
-        absurd (omega arith)
-    go false f true k (some y) g h =
+        absurd (cc)
+    go false f true k (Some y) g h =
         let u = hyphen_no_number most w k in
-        let z : ◌≡◌ {A = ℕ} 0 1 = cc in
-        absurd (omega arith)
-    go false f false k (some y) g h = absurd (h y end refl)
+        absurd (cc)
+    go false f false k (Some y) g h = absurd (h y refl)
 
-pub takes_number : (read : Bool) (most : ℕ) (line : Text) (end x e : ℕ) (a : Argument) (then : ℕ → List Text → Reading) → a ≡ field_at read most line end → a ≡ Number x e
-    → take_number read most (words_behind line end) then ≡ then x (words_behind line e)
-unfolding field_at argument_at take_number first_of
-takes_number false most line end x e a then f g =
+pub takes_number : (read : Bool) (most : ℕ) (ws : List Text) (x : ℕ) (a : Argument) (then : ℕ → List Text → Reading) → a ≡ field_of read most ws → a ≡ Number x
+    → take_number read most ws then ≡ then x (left_by read ws)
+unfolding field_of left_by take_number first_of others
+takes_number false most ws x a then f g =
     let p : 0 ≡ x = cc in
-    let q : end ≡ e = cc in
-    ap (λ (y : ℕ). then y (words_behind line end)) p ∙ ap (λ (y : ℕ). then x (words_behind line y)) q
-takes_number true most line end x e a then f g = go (words_behind line end) (followed line end) (sym f ∙ g)
-  where
-    go : (ws : List Text) → Followed line end ws → first_of most ws end ≡ Number x e → take_number true most ws then ≡ then x (words_behind line e)
-    go [] l h =
-        let z : ◌≡◌ {A = ℕ} 0 1 = cc in
-        absurd (omega arith)
-    go (w ∷ ws) l h =
-        let k = word_number most w (end + 1 + length w) x e (λ (y : ℕ). then y ws) h in
-        k.0 ∙ ap (then x) l ∙ ap (λ (y : ℕ). then x (words_behind line y)) (sym k.1)
+    ap (λ (y : ℕ). then y ws) p
+takes_number true most [] x a then f g = absurd (cc)
+takes_number true most (w ∷ ws) x a then f g = word_number most w x (λ (y : ℕ). then y ws) (sym f ∙ g)
 
-pub takes_none : (read : Bool) (most : ℕ) (line : Text) (end : ℕ) (a : Argument) (then : ℕ → List Text → Reading) → a ≡ field_at read most line end → ((x e : ℕ) → a ≡ Number x e → ⊥)
-    → take_number read most (words_behind line end) then ≡ refused
-unfolding field_at argument_at take_number first_of
-takes_none false most line end a then f n = absurd (n 0 end f)
-takes_none true most line end a then f n = go (words_behind line end) (λ (x e : ℕ) (h : first_of most (words_behind line end) end ≡ Number x e). n x e (f ∙ h))
-  where
-    go : (ws : List Text) → ((x e : ℕ) → first_of most ws end ≡ Number x e → ⊥) → take_number true most ws then ≡ refused
-    go [] h = refl
-    go (w ∷ ws) h = word_refused most w (end + 1 + length w) (λ (y : ℕ). then y ws) h
-
--- what the test on the variant of an argument says
-abbrev pub NoNumber : Argument → Type 0
-NoNumber a = (x e : ℕ) → a ≡ Number x e → ⊥
-
-pub no_number : (a : Argument) → NoNumber a → (x e : ℕ) → a ≡ Number x e → ⊥
-no_number a k = k
+pub takes_none : (read : Bool) (most : ℕ) (ws : List Text) (a : Argument) (then : ℕ → List Text → Reading) → a ≡ field_of read most ws → NoNumber a → take_number read most ws then ≡ refused
+unfolding field_of take_number first_of
+takes_none false most ws a then f n = absurd (n 0 f)
+takes_none true most [] a then f n = refl
+takes_none true most (w ∷ ws) a then f n = word_refused most w (λ (y : ℕ). then y ws) (λ (x : ℕ) (h : of_word most w ≡ Number x). n x (f ∙ h))
 
 -- the words that a space takes
 
-space_behind : (optional : Bool) (line : Text) (end : ℕ) (s : Space) (e : ℕ) (then : Space → List Text → Reading) (ws : List Text) → words_behind line end ≡ ws → Followed line end ws
-    → space_of optional end (first_of most_name ws end) ≡ Given s e → take_space optional ws then ≡ then s (words_behind line e)
-unfolding first_of of_word as_number space_of take_space with_number
-space_behind true line end s e then [] k l h =
+pub given_or_none : (optional : Bool) (s : Space) → then_some optional s ≡ cond optional (Some s) None
+given_or_none true s = refl
+given_or_none false s = refl
+
+pub takes_space : (optional : Bool) (ws : List Text) (s : Space) (r : Option Space) (then : Space → List Text → Reading) → r ≡ space_of optional (first_of most_name ws) → r ≡ Some s
+    → take_space optional ws then ≡ then s (others ws)
+unfolding first_of of_word as_number space_of take_space with_number others
+takes_space true [] s r then f g =
     let p : Universe ≡ s = cc in
-    let q : end ≡ e = cc in
-    ap (λ (t : Space). then t []) p ∙ ap (then s) (sym k) ∙ ap (λ (y : ℕ). then s (words_behind line y)) q
-space_behind false line end s e then [] k l h =
-    let z : ◌≡◌ {A = ℕ} 0 1 = cc in
-    absurd (omega arith)
-space_behind optional line end s e then (w ∷ ws) k l h = go (same_text w (U ∷ [])) (same_text w (hyphen ∷ [])) (read_number most_name w) h
+    ap (λ (t : Space). then t []) p
+takes_space false [] s r then f g = absurd (cc)
+takes_space optional (w ∷ ws) s r then f g = go (same_text w (U ∷ [])) (same_text w (hyphen ∷ [])) (read_number most_name w) (sym f ∙ g)
   where
-    go : (b d : Bool) (o : Option ℕ)
-        → space_of optional end (cond b (Universal (end + 1 + length w)) (cond d (NoSelection (end + 1 + length w)) (as_number o (end + 1 + length w)))) ≡ Given s e
-        → cond b (then Universe ws) (cond d (then Nothing ws) (with_number o (λ (x : ℕ). then (Numbered (record { 0 = x })) ws))) ≡ then s (words_behind line e)
-    go true d o g =
+    go : (b d : Bool) (o : Option ℕ) → space_of optional (cond b Universal (cond d NoSelection (as_number o))) ≡ Some s
+        → cond b (then Universe ws) (cond d (then Nothing ws) (with_number o (λ (x : ℕ). then (Numbered (record { 0 = x })) ws))) ≡ then s ws
+    go true d o h =
         let p : Universe ≡ s = cc in
-        let q : end + 1 + length w ≡ e = cc in
-        ap (λ (t : Space). then t ws) p ∙ ap (then s) l ∙ ap (λ (y : ℕ). then s (words_behind line y)) q
-    go false true o g =
+        ap (λ (t : Space). then t ws) p
+    go false true o h =
         let p : Nothing ≡ s = cc in
-        let q : end + 1 + length w ≡ e = cc in
-        ap (λ (t : Space). then t ws) p ∙ ap (then s) l ∙ ap (λ (y : ℕ). then s (words_behind line y)) q
-    go false false none g =
-        let z : ◌≡◌ {A = ℕ} 0 1 = cc in
-        absurd (omega arith)
-    go false false (some x) g =
+        ap (λ (t : Space). then t ws) p
+    go false false None h = absurd (cc)
+    go false false (Some x) h =
         let p : Numbered (record { 0 = x }) ≡ s = cc in
-        let q : end + 1 + length w ≡ e = cc in
-        ap (λ (t : Space). then t ws) p ∙ ap (then s) l ∙ ap (λ (y : ℕ). then s (words_behind line y)) q
+        ap (λ (t : Space). then t ws) p
 
-pub takes_space : (optional : Bool) (line : Text) (end : ℕ) (s : Space) (e : ℕ) (r : SpaceArgument) (then : Space → List Text → Reading) → r ≡ space_of optional end (argument_at most_name line end)
-    → r ≡ Given s e → take_space optional (words_behind line end) then ≡ then s (words_behind line e)
-unfolding argument_at
-takes_space optional line end s e r then f g = space_behind optional line end s e then (words_behind line end) refl (followed line end) (sym f ∙ g)
-
-no_space_behind : (optional : Bool) (end : ℕ) (then : Space → List Text → Reading) (ws : List Text) → space_of optional end (first_of most_name ws end) ≡ NotASpace → take_space optional ws then ≡ refused
+pub takes_no_space : (optional : Bool) (ws : List Text) (r : Option Space) (then : Space → List Text → Reading) → r ≡ space_of optional (first_of most_name ws) → r ≡ None
+    → take_space optional ws then ≡ refused
 unfolding first_of of_word as_number space_of take_space with_number
-no_space_behind true end then [] h =
-    let z : ◌≡◌ {A = ℕ} 0 1 = cc in
-    absurd (omega arith)
-no_space_behind false end then [] h = refl
-no_space_behind optional end then (w ∷ ws) h = go (same_text w (U ∷ [])) (same_text w (hyphen ∷ [])) (read_number most_name w) h
+takes_no_space true [] r then f g = absurd (cc)
+takes_no_space false [] r then f g = refl
+takes_no_space optional (w ∷ ws) r then f g = go (same_text w (U ∷ [])) (same_text w (hyphen ∷ [])) (read_number most_name w) (sym f ∙ g)
   where
-    go : (b d : Bool) (o : Option ℕ)
-        → space_of optional end (cond b (Universal (end + 1 + length w)) (cond d (NoSelection (end + 1 + length w)) (as_number o (end + 1 + length w)))) ≡ NotASpace
+    go : (b d : Bool) (o : Option ℕ) → space_of optional (cond b Universal (cond d NoSelection (as_number o))) ≡ None
         → cond b (then Universe ws) (cond d (then Nothing ws) (with_number o (λ (x : ℕ). then (Numbered (record { 0 = x })) ws))) ≡ refused
-    go true d o g =
-        let z : ◌≡◌ {A = ℕ} 0 1 = cc in
-        absurd (omega arith)
-    go false true o g =
-        let z : ◌≡◌ {A = ℕ} 0 1 = cc in
-        absurd (omega arith)
-    go false false none g = refl
-    go false false (some x) g =
-        let z : ◌≡◌ {A = ℕ} 0 1 = cc in
-        absurd (omega arith)
-
-pub takes_no_space : (optional : Bool) (line : Text) (end : ℕ) (r : SpaceArgument) (then : Space → List Text → Reading) → r ≡ space_of optional end (argument_at most_name line end) → r ≡ NotASpace
-    → take_space optional (words_behind line end) then ≡ refused
-unfolding argument_at
-takes_no_space optional line end r then f g = no_space_behind optional end then (words_behind line end) (sym f ∙ g)
-
--- the space that an argument is
-module _ (optional : Bool) (line : Text) (end : ℕ) (a : Argument) (f : a ≡ argument_at most_name line end) where
-  by_argument : (b : Argument) → a ≡ b → space_of optional end b ≡ space_of optional end (argument_at most_name line end)
-  by_argument b g = ap (space_of optional end) (sym g ∙ f)
-
-  pub numbered_space : (x after : ℕ) → a ≡ Number x after → Given (Numbered (record { 0 = x })) after ≡ space_of optional end (argument_at most_name line end)
-  unfolding space_of
-  numbered_space x after g = by_argument (Number x after) g
-
-  pub universe_space : (after : ℕ) → a ≡ Universal after → Given Universe after ≡ space_of optional end (argument_at most_name line end)
-  unfolding space_of
-  universe_space after g = by_argument (Universal after) g
-
-  pub nothing_space : (after : ℕ) → a ≡ NoSelection after → Given Nothing after ≡ space_of optional end (argument_at most_name line end)
-  unfolding space_of
-  nothing_space after g = by_argument (NoSelection after) g
-
-  pub unreadable_space : a ≡ Unreadable → NotASpace ≡ space_of optional end (argument_at most_name line end)
-  unfolding space_of
-  unreadable_space g = by_argument Unreadable g
-
-  pub missing_universe : a ≡ Missing → optional ≡ true → Given Universe end ≡ space_of optional end (argument_at most_name line end)
-  unfolding space_of
-  missing_universe g o = ap (λ (b : Bool). cond b (Given Universe end) NotASpace) (sym o) ∙ by_argument Missing g
-
-  pub missing_space : a ≡ Missing → optional ≡ false → NotASpace ≡ space_of optional end (argument_at most_name line end)
-  unfolding space_of
-  missing_space g o = ap (λ (b : Bool). cond b (Given Universe end) NotASpace) (sym o) ∙ by_argument Missing g
+    go true d o h = absurd (cc)
+    go false true o h = absurd (cc)
+    go false false None h = refl
+    go false false (Some x) h = absurd (cc)

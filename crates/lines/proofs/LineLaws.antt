@@ -2,31 +2,14 @@
 use mathlib.Core.Bool.{Bool, true, false, cond}
 use mathlib.Core.List.{[], ◌∷◌}
 use mathlib.Core.Path.{◌≡◌, refl, sym, ap, ◌∙◌}
-use Prim.Native.Nat.{ℕ, suc, ◌+◌, ◌-◌, ◌≤◌, ◌<◌}
+use Prim.Native.Nat.{ℕ, suc, ◌+◌, ◌≤◌, ◌<◌}
 use native.Mathlib.Omega.{arith}
 use lib.Dec.{eqb}
-use lib.ListN.{length, get_or, take, drop, drop_of_length-le, length-drop}
+use lib.ListN.{length, drop, drop_of_length-le, length-drop}
 use lib.Seq.{drop-drop}
 use Rattle.text.specs.Bytes.{Text, before, line_feed}
-use Rattle.text.proofs.Reading.{before_take, before_within, none_at_end, none_at_stop, one_more}
+use Rattle.text.proofs.Reading.{before_within}
 use Rattle.lines.specs.Lines.{in_front, lines_of}
-
--- the part of a text up to a byte, by where it ends
-pub part_before : (end : ℕ) (t : Text) (from stop : ℕ) → stop ≡ from + length (before end (drop from t)) → take (stop - from) (drop from t) ≡ before end (drop from t)
-part_before end t from stop e =
-    let k : stop - from ≡ length (before end (drop from t)) = omega arith in
-    ap (λ (x : ℕ). take x (drop from t)) k ∙ before_take end (drop from t)
-
--- the byte looked for from a place on, as far as place `at`
-module _ (end : ℕ) (t : Text) (from at : ℕ) (S : from + length (before end (drop from t)) ≡ at + length (before end (drop at t))) where
-  pub end_found : at < length t → get_or t at 0 ≡ end → at ≡ from + length (before end (drop from t))
-  end_found h e = omega (arith, none_at_stop end t at h e)
-
-  pub end_further : at < length t → (get_or t at 0 ≡ end → ⊥) → from + length (before end (drop from t)) ≡ at + 1 + length (before end (drop (at + 1) t))
-  end_further h n = omega (arith, one_more end t at h n)
-
-  pub end_missing : length t ≤ at → at ≡ from + length (before end (drop from t))
-  end_missing h = omega (arith, none_at_end end t at h)
 
 -- behind the last line, with or without a line feed, there is none
 pub no_lines : (script : Text) (from : ℕ) → length script ≤ from → lines_of (drop from script) ≡ []

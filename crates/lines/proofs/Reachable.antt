@@ -6,6 +6,7 @@ use Prim.Native.Nat.{ℕ, ◌≤◌}
 use native.Mathlib.Omega.{arith}
 use lib.Dec.{eqb, leb}
 use borrow.Author.Tests.{eqb-true, eqb-false, ne_eqb, leb-true}
+use Rattle.std.specs.Prelude.{Some, Ok}
 use Rattle.model.specs.declared.Call.{Call}
 use Rattle.model.specs.declared.Space.{Space}
 use Rattle.model.specs.declared.SpaceName.{SpaceName}
@@ -21,11 +22,10 @@ use Rattle.text.specs.Numerals.{is_digit, all_digits, printed_number}
 use Rattle.text.proofs.Reading.{same_text_lem}
 use Rattle.text.proofs.Printing.{reads_back, digits_printed}
 use Rattle.text.proofs.Lacking.{lacks, lacks_printed}
-use Rattle.lines.specs.declared.Reading.{Reading}
-use Rattle.lines.specs.declared.Reading.TheVariants.{Read}
 use Rattle.lines.specs.Lines.{words_of}
+use Rattle.letters.proofs.LookUp.{is_number, is_number_lem}
 use Rattle.letters.specs.OperatorWords.{operator_words, number_from, operator_number}
-use Rattle.lines.specs.Calls.{most_value, with_number, take_number, take_space, complete, call_of, in_order, space_then_value, spaces, arguments, read_words, read_line}
+use Rattle.lines.specs.Calls.{Reading, most_value, with_number, take_number, take_space, complete, call_of, in_order, space_then_value, spaces, arguments, read_words, read_line}
 use Rattle.model.specs.Unread.{readable}
 use Rattle.lines.specs.Reachable.{joined, letters_of, space_text, if_read, fields_then, ordered_of, arguments_of, line_of, short_line_of, CallFits}
 use Rattle.lines.proofs.Parting.{parted_off}
@@ -137,39 +137,39 @@ take_space_lem optional (Numbered x) ws then h = printed_space optional x ws the
 take_space_lem optional Nothing ws then h = nothing_space optional ws then
 
 -- the line of a call, by its words
-whole : (c : Call) → CallFits c → read_line (line_of c) ≡ arguments (operator_number (letters_of c.operator)) (arguments_of c)
+whole : (c : Call) → CallFits c → read_line (line_of c) ≡ with_number (operator_number (letters_of c.operator)) (λ (o : ℕ). arguments o (arguments_of c))
 unfolding read_line read_words line_of
 whole c f = ap read_words (parted (letters_of c.operator) (arguments_of c) (letters_plain c.operator f.least f.last) (arguments_plain c))
 
 -- 57, 56 and 52
 
-reads_57 : (n g m v : ℕ) (s : Space) → n ≤ most_name → arguments (operator_number (letters_of 57)) (arguments_of (call_of 57 n g m v s)) ≡ Read (readable (call_of 57 n g m v s))
-unfolding letters_of operator_words operator_number number_from same_text arguments arguments_of ordered_of fields_then if_read reads_of spaces take_number with_number complete readable
+reads_57 : (n g m v : ℕ) (s : Space) → n ≤ most_name → with_number (operator_number (letters_of 57)) (λ (o : ℕ). arguments o (arguments_of (call_of 57 n g m v s))) ≡ Ok (readable (call_of 57 n g m v s))
+unfolding letters_of operator_words operator_number number_from same_text with_number arguments arguments_of ordered_of fields_then if_read reads_of spaces take_number complete readable
 reads_57 n g m v s h =
     let b = reads_back most_name n h (omega arith) in
     rw b
 
-reads_56 : (n g m v : ℕ) (s : Space) → arguments (operator_number (letters_of 56)) (arguments_of (call_of 56 n g m v s)) ≡ Read (readable (call_of 56 n g m v s))
-unfolding letters_of operator_words operator_number number_from same_text arguments arguments_of ordered_of fields_then if_read reads_of spaces readable
+reads_56 : (n g m v : ℕ) (s : Space) → with_number (operator_number (letters_of 56)) (λ (o : ℕ). arguments o (arguments_of (call_of 56 n g m v s))) ≡ Ok (readable (call_of 56 n g m v s))
+unfolding letters_of operator_words operator_number number_from same_text with_number arguments arguments_of ordered_of fields_then if_read reads_of spaces readable
 reads_56 n g m v s = refl
 
-value_last : (s : Space) (v : ℕ) → v ≤ most_value → take_number true most_value (printed_number v ∷ []) (λ (x : ℕ) (ws : List Text). complete (call_of 52 0 0 0 x s) ws) ≡ Read (call_of 52 0 0 0 v s)
+value_last : (s : Space) (v : ℕ) → v ≤ most_value → take_number true most_value (printed_number v ∷ []) (λ (x : ℕ) (ws : List Text). complete (call_of 52 0 0 0 x s) ws) ≡ Ok (call_of 52 0 0 0 v s)
 unfolding take_number with_number complete
 value_last s v h =
     let b = reads_back most_value v h (omega arith) in
     rw b
 
-reads_52 : (n g m v : ℕ) (s : Space) → v ≤ most_value → space_number s ≤ most_name → arguments (operator_number (letters_of 52)) (arguments_of (call_of 52 n g m v s)) ≡ Read (readable (call_of 52 n g m v s))
-unfolding letters_of operator_words operator_number number_from same_text arguments arguments_of reads_of space_then_value readable
+reads_52 : (n g m v : ℕ) (s : Space) → v ≤ most_value → space_number s ≤ most_name → with_number (operator_number (letters_of 52)) (λ (o : ℕ). arguments o (arguments_of (call_of 52 n g m v s))) ≡ Ok (readable (call_of 52 n g m v s))
+unfolding letters_of operator_words operator_number number_from same_text with_number arguments arguments_of reads_of space_then_value readable
 reads_52 n g m v s h k =
     take_space_lem false s (printed_number v ∷ []) (λ (t : Space) (ws : List Text). take_number true most_value ws (λ (x : ℕ) (vs : List Text). complete (call_of 52 0 0 0 x t) vs)) k
     ∙ value_last s v h
 
 -- the others
 
-number_back : (o : ℕ) → 1 ≤ o → o ≤ 56 → operator_number (letters_of o) ≡ o
+number_back : (o : ℕ) → 1 ≤ o → o ≤ 56 → operator_number (letters_of o) ≡ Some o
 unfolding every_up_to letters_of operator_words operator_number number_from same_text
-number_back o h k = eqb-true (operator_number (letters_of o)) o (every_up_to_lem (λ (i : ℕ). eqb (operator_number (letters_of i)) i) 56 refl o h k)
+number_back o h k = is_number_lem (operator_number (letters_of o)) o (every_up_to_lem (λ (i : ℕ). is_number (operator_number (letters_of i)) i) 56 refl o h k)
 
 space_asked : (o : ℕ) → 1 ≤ o → o ≤ 55 → (reads_of o).s ≡ true
 unfolding every_up_to reads_of
@@ -199,28 +199,27 @@ fields_in_order c f ws =
     ∙ take_printed r.m most_name c.m.0 _ (behind_m o n g) f.names.m (omega arith)
     ∙ take_printed r.v most_value c.v ws (behind_v o n g m) f.value (omega arith)
 
-in_order_lem : (c : Call) → CallFits c → c.operator ≤ 55 → in_order c.operator (ordered_of c) ≡ Read (readable c)
+in_order_lem : (c : Call) → CallFits c → c.operator ≤ 55 → in_order c.operator (ordered_of c) ≡ Ok (readable c)
 unfolding ordered_of readable complete
 in_order_lem c f k =
     let r = reads_of c.operator in
     fields_in_order c f (if_read r.s (space_text c.s) [])
     ∙ space_last r.s (within 1 50 c.operator) c.s (fields_read c) (space_asked c.operator f.least k) f.names.s
 
-reads_other : (c : Call) → CallFits c → c.operator ≤ 55 → (c.operator ≡ 52 → ⊥) → arguments (operator_number (letters_of c.operator)) (arguments_of c) ≡ Read (readable c)
-unfolding arguments arguments_of
+reads_other : (c : Call) → CallFits c → c.operator ≤ 55 → (c.operator ≡ 52 → ⊥) → with_number (operator_number (letters_of c.operator)) (λ (o : ℕ). arguments o (arguments_of c)) ≡ Ok (readable c)
+unfolding with_number arguments arguments_of
 reads_other c f k b =
-    let z = ne_eqb c.operator 0 (λ e. omega (arith, f.least)) in
     let p = ne_eqb c.operator 52 b in
     let q = ne_eqb c.operator 56 (λ e. omega arith) in
     let i = number_back c.operator f.least (omega arith) in
-    rw (i, z, p, q) (in_order_lem c f k)
+    rw (i, p, q) (in_order_lem c f k)
 
 -- every call of an operator from 1 to 57 has a line, and the line reads as it
-pub no_operator_out_of_reach : (c : Call) → CallFits c → read_line (line_of c) ≡ Read (readable c)
+pub no_operator_out_of_reach : (c : Call) → CallFits c → read_line (line_of c) ≡ Ok (readable c)
 no_operator_out_of_reach c f = whole c f ∙ go (eqb c.operator 57) refl (eqb c.operator 56) refl (eqb c.operator 52) refl
   where
     Claim : Call → Type 0
-    Claim d = arguments (operator_number (letters_of d.operator)) (arguments_of d) ≡ Read (readable d)
+    Claim d = with_number (operator_number (letters_of d.operator)) (λ (o : ℕ). arguments o (arguments_of d)) ≡ Ok (readable d)
 
     at : (o : ℕ) → Type 0
     at o = Claim (call_of o c.n.0 c.g.0 c.m.0 c.v c.s)
@@ -237,7 +236,7 @@ no_operator_out_of_reach c f = whole c f ∙ go (eqb c.operator 57) refl (eqb c.
 -- ---- without s
 
 -- "For 1–50 the last, s, may be missing and means UNIVERSE"
-missing_last : (c : Call) → within 1 50 c.operator ≡ true → c.s ≡ Universe → take_space (within 1 50 c.operator) [] (fields_read c) ≡ Read (readable c)
+missing_last : (c : Call) → within 1 50 c.operator ≡ true → c.s ≡ Universe → take_space (within 1 50 c.operator) [] (fields_read c) ≡ Ok (readable c)
 unfolding take_space readable complete
 missing_last c h e =
     let least = leb-true 1 c.operator (and_left (leb 1 c.operator) (leb c.operator 50) h) in
@@ -245,13 +244,12 @@ missing_last c h e =
     let read = space_asked c.operator least (omega (arith, most)) in
     rw (h, read, e)
 
-pub space_left_out : (c : Call) → CallFits c → within 1 50 c.operator ≡ true → c.s ≡ Universe → read_line (short_line_of c) ≡ Read (readable c)
-unfolding read_line read_words short_line_of arguments
+pub space_left_out : (c : Call) → CallFits c → within 1 50 c.operator ≡ true → c.s ≡ Universe → read_line (short_line_of c) ≡ Ok (readable c)
+unfolding read_line read_words short_line_of with_number arguments
 space_left_out c f h e =
     let most = leb-true c.operator 50 (and_right (leb 1 c.operator) (leb c.operator 50) h) in
-    let z = ne_eqb c.operator 0 (λ k. omega (arith, f.least)) in
     let p = ne_eqb c.operator 52 (λ k. omega (arith, most)) in
     let q = ne_eqb c.operator 56 (λ k. omega (arith, most)) in
     let i = number_back c.operator f.least (omega (arith, most)) in
     ap read_words (parted (letters_of c.operator) (fields_then c []) (letters_plain c.operator f.least f.last) (fields_plain c [] refl))
-    ∙ rw (i, z, p, q) (fields_in_order c f [] ∙ missing_last c h e)
+    ∙ rw (i, p, q) (fields_in_order c f [] ∙ missing_last c h e)

@@ -1,15 +1,14 @@
 -- Document 01: which lines read as which calls; document 02, request 1: the third form of a space.
-use Rattle.std.specs.Prelude.{Bool, true, false, cond, List, [], ◌∷◌, ℕ, eqb}
-use Rattle.std.proofs.Math.Option.{Option, none, some}
+use Rattle.std.specs.Prelude.{Bool, true, false, cond, Option, Some, None, Result, Ok, Err, List, [], ◌∷◌, ℕ, eqb}
 use Rattle.model.specs.declared.Call.{Call}
 use Rattle.model.specs.declared.Space.{Space}
 use Rattle.model.specs.declared.Space.TheVariants.{Universe, Numbered, Nothing}
+use Rattle.model.specs.declared.Refusal.{Refusal}
+use Rattle.model.specs.declared.Refusal.TheVariants.{Unreadable}
 use Rattle.model.specs.Keys.{most_name}
 use Rattle.model.specs.Operators.{row_of}
 use Rattle.text.specs.Bytes.{Text, same_text, U, hyphen}
 use Rattle.text.specs.Numerals.{read_number}
-use Rattle.lines.specs.declared.Reading.{Reading}
-use Rattle.lines.specs.declared.Reading.TheVariants.{Read, Refused}
 use Rattle.lines.specs.Lines.{words_of}
 use Rattle.letters.specs.OperatorWords.{operator_number}
 
@@ -17,14 +16,18 @@ use Rattle.letters.specs.OperatorWords.{operator_number}
 abbrev pub most_value : ℕ
 most_value = 4294967295
 
+-- what reading a line finds: a call, or the refusal of a line that does not read as one
+abbrev pub Reading : Type 0
+Reading = Result Call Refusal
+
 -- "a line that doesn't read as a call is refused 11"
 abbrev pub refused : Reading
-refused = Refused 11
+refused = Err Unreadable
 
 -- what a number leads to; a word that is none is refused
 unfoldable pub with_number : Option ℕ → (ℕ → Reading) → Reading
-with_number none then = refused
-with_number (some x) then = then x
+with_number None then = refused
+with_number (Some x) then = then x
 
 -- a field that is read takes the next word, a number of at most `most`; one that is not read takes none, and is 0
 unfoldable pub take_number : Bool → ℕ → List Text → (ℕ → List Text → Reading) → Reading
@@ -42,7 +45,7 @@ take_space optional (w ∷ ws) then =
 
 -- nothing follows the last argument
 unfoldable pub complete : Call → List Text → Reading
-complete c [] = Read c
+complete c [] = Ok c
 complete c (w ∷ ws) = refused
 
 abbrev pub call_of : ℕ → ℕ → ℕ → ℕ → ℕ → Space → Call
@@ -66,20 +69,20 @@ space_then_value o ws =
 
 -- "SUS with a number is 57"; alone it is 56
 unfoldable pub spaces : List Text → Reading
-spaces [] = Read (call_of 56 0 0 0 0 Universe)
+spaces [] = Ok (call_of 56 0 0 0 0 Universe)
 spaces (w ∷ ws) = take_number true most_name (w ∷ ws) (λ (n : ℕ) (ws₁ : List Text). complete (call_of 57 n 0 0 0 Universe) ws₁)
 
 -- the arguments of an operator: the words behind its letters
 unfoldable pub arguments : ℕ → List Text → Reading
 arguments o ws =
-    cond (eqb o 0) refused
-    (cond (eqb o 52) (space_then_value o ws)
+    cond (eqb o 52) (space_then_value o ws)
     (cond (eqb o 56) (spaces ws)
-    (in_order o ws)))
+    (in_order o ws))
 
+-- the words of a line; where the first is no operator's, it is refused
 unfoldable pub read_words : List Text → Reading
 read_words [] = refused
-read_words (w ∷ ws) = arguments (operator_number w) ws
+read_words (w ∷ ws) = with_number (operator_number w) (λ (o : ℕ). arguments o ws)
 
 -- the call that a line reads as, or refusal 11
 unfoldable pub read_line : Text → Reading

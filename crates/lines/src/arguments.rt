@@ -1,75 +1,63 @@
-// The arguments of a call, each by the place where the word before it ends.
+// The arguments of a call, each from the rest of the line that begins with the blank before it.
 ghost use Rattle.std.specs.Prelude.{◌≡◌};
 ghost use Rattle.model.specs.Keys.{most_name};
-ghost use Rattle.lines.specs.Places.{of_word, argument_at, field_at, space_of};
+ghost use Rattle.lines.specs.Places.{words_behind, others, of_word, first_of, field_of, left_by, space_of};
 
-use super::Argument;
 use super::numbers::number_in;
 use super::words::end_of;
-use letters::same;
+use super::{Argument, MOST_NAME};
 use model::{Space, SpaceName};
 
-// What reading a space finds.
-#[derive(Clone, Copy)]
-pub enum SpaceArgument {
-    // The space, and where its word ends.
-    Given(Space, usize),
-    // A word that is no space, or none where a space may not be missing.
-    NotASpace,
+// The argument that a word is.
+fn of_word(word: &[u8], most: u32) -> Argument
+    ensures { result ≡ of_word most word.now }
+{
+    if word == b"U".as_slice() {
+        return Argument::Universal;
+    }
+    if word == b"-".as_slice() {
+        return Argument::NoSelection;
+    }
+    match number_in(word, most) {
+        Some(x) => Argument::Number(x),
+        None => Argument::Unreadable,
+    }
 }
 
-// The argument that a word is; the word ends at a place of the line.
-fn of_word(word: &[u8], end: usize, most: u32) -> Argument
-    ensures { result ≡ of_word most word.now end }
+// The first argument of the rest of a line, and the rest behind it.
+pub fn argument_in(rest: &[u8], most: u32) -> (Argument, &[u8])
+    ensures argument { result.0 ≡ first_of most (words_behind rest.now) }
+    ensures rest { words_behind result.1.now ≡ others (words_behind rest.now) }
 {
-    if same(word, b"U") {
-        return Argument::Universal(end);
-    }
-    if same(word, b"-") {
-        return Argument::NoSelection(end);
-    }
-    number_in(word, end, most)
-}
-
-// The argument behind the word that ends at a place.
-pub fn argument_at(line: &[u8], end: usize, most: u32) -> Argument
-    ensures { result ≡ argument_at most line.now end }
-{
-    if end >= line.len() {
-        return Argument::Missing;
-    }
-    let from = end + 1;
-    let stop = end_of(line, from, b' ');
-    of_word(&line[from..stop], stop, most)
+    let Some((_, words)) = rest.split_first() else {
+        return (Argument::Missing, rest);
+    };
+    let (word, after) = words.split_at(end_of(words, b' '));
+    (of_word(word, most), after)
 }
 
 // A field that is read; one that is not has no argument, and is 0.
-pub fn field_at(read: bool, line: &[u8], end: usize, most: u32) -> Argument
-    ensures { result ≡ field_at read most line.now end }
+pub fn field_in(read: bool, rest: &[u8], most: u32) -> (Argument, &[u8])
+    ensures argument { result.0 ≡ field_of read most (words_behind rest.now) }
+    ensures rest { words_behind result.1.now ≡ left_by read (words_behind rest.now) }
 {
     if !read {
-        return Argument::Number(0, end);
+        return (Argument::Number(0), rest);
     }
-    argument_at(line, end, most)
+    argument_in(rest, most)
 }
 
-// The space behind the word that ends at a place; one that is missing is UNIVERSE where it is optional.
-pub fn space_at(line: &[u8], end: usize, optional: bool) -> SpaceArgument
-    ensures { result ≡ space_of optional end (argument_at most_name line.now end) }
+// The first argument as a space, where it is one, and the rest behind it; one that is missing is UNIVERSE where it is optional.
+pub fn space_in(rest: &[u8], optional: bool) -> (Option<Space>, &[u8])
+    ensures space { result.0 ≡ space_of optional (first_of most_name (words_behind rest.now)) }
+    ensures rest { words_behind result.1.now ≡ others (words_behind rest.now) }
 {
-    match argument_at(line, end, 65535) {
-        Argument::Number(x, after) => SpaceArgument::Given(
-            Space::Numbered(SpaceName(x as u16)),
-            after,
-        ),
-        Argument::Universal(after) => SpaceArgument::Given(Space::Universe, after),
-        Argument::NoSelection(after) => SpaceArgument::Given(Space::Nothing, after),
-        Argument::Unreadable => SpaceArgument::NotASpace,
-        Argument::Missing => {
-            if optional {
-                return SpaceArgument::Given(Space::Universe, end);
-            }
-            SpaceArgument::NotASpace
-        }
+    let (argument, after) = argument_in(rest, MOST_NAME);
+    match argument {
+        Argument::Number(x) => (Some(Space::Numbered(SpaceName(x as u16))), after),
+        Argument::Universal => (Some(Space::Universe), after),
+        Argument::NoSelection => (Some(Space::Nothing), after),
+        Argument::Missing => (optional.then_some(Space::Universe), after),
+        Argument::Unreadable => (None, after),
     }
 }

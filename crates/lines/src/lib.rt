@@ -10,33 +10,29 @@ ghost use Rattle.text.specs.Bytes.{before, line_feed};
 ghost use Rattle.lines.specs.Calls.{complete, in_order, space_then_value, spaces, read_line};
 ghost use Rattle.lines.specs.Places.{words_behind};
 
-use arguments::{SpaceArgument, argument_at, field_at, space_at};
+use arguments::{argument_in, field_in, space_in};
 use letters::operator_number;
-use model::{Call, EdgeName, NodeName, Space};
+use model::{Call, EdgeName, NodeName, Refusal, Space};
 use words::end_of;
+
+// "names to 65,535, values to 4,294,967,295".
+const MOST_NAME: u32 = u16::MAX as u32;
+
+const MOST_VALUE: u32 = u32::MAX;
 
 // What reading an argument finds.
 #[derive(Clone, Copy)]
 pub enum Argument {
-    // A number, and where its word ends.
-    Number(u32, usize),
-    // U, and where it ends.
-    Universal(usize),
-    // `-`, which is nothing as a space, and where it ends.
-    NoSelection(usize),
+    // A number.
+    Number(u32),
+    // U.
+    Universal,
+    // `-`, which is nothing as a space.
+    NoSelection,
     // No word is left.
     Missing,
     // A word that is neither a number nor U nor `-`.
     Unreadable,
-}
-
-// What reading a line finds.
-#[derive(Clone, Copy)]
-pub enum Reading {
-    // A call.
-    Read(Call),
-    // The refusal of a line that does not read as one.
-    Refused(u32),
 }
 
 // The line that begins at a place of the script, as that part of it: up to the line feed, or to the end.
@@ -45,40 +41,45 @@ pub fn line_at(script: &[u8], from: usize) -> &[u8]
     requires { from ≤ length script.now }
     ensures { result.now ≡ before line_feed (drop from script.now) }
 {
-    let end = end_of(script, from, b'\n');
-    &script[from..end]
+    let lines = &script[from..];
+    &lines[..end_of(lines, b'\n')]
 }
 
-// The call, where nothing follows the word that ends at a place.
-fn completed(line: &[u8], end: usize, c: Call) -> Reading
-    ensures { result ≡ complete c (words_behind line.now end) }
+// The call, where nothing follows its last argument.
+fn completed(rest: &[u8], c: Call) -> Result<Call, Refusal>
+    ensures { result ≡ complete c (words_behind rest.now) }
 {
-    if end < line.len() {
-        return Reading::Refused(11);
+    if rest.is_empty() {
+        Ok(c)
+    } else {
+        Err(Refusal::Unreadable)
     }
-    Reading::Read(c)
 }
 
 // "Arguments follow in the order above": n g m v, those that are read, and s.
-fn in_order(line: &[u8], end: usize, o: u32) -> Reading
-    ensures { result ≡ in_order o (words_behind line.now end) }
+fn in_order(rest: &[u8], o: u32) -> Result<Call, Refusal>
+    ensures { result ≡ in_order o (words_behind rest.now) }
 {
     let read = operators::reads_of(o);
-    let Argument::Number(n, after_n) = field_at(read.n, line, end, 65535) else {
-        return Reading::Refused(11);
+    let (argument_n, after_n) = field_in(read.n, rest, MOST_NAME);
+    let Argument::Number(n) = argument_n else {
+        return Err(Refusal::Unreadable);
     };
-    let Argument::Number(g, after_g) = field_at(read.g, line, after_n, 65535) else {
-        return Reading::Refused(11);
+    let (argument_g, after_g) = field_in(read.g, after_n, MOST_NAME);
+    let Argument::Number(g) = argument_g else {
+        return Err(Refusal::Unreadable);
     };
-    let Argument::Number(m, after_m) = field_at(read.m, line, after_g, 65535) else {
-        return Reading::Refused(11);
+    let (argument_m, after_m) = field_in(read.m, after_g, MOST_NAME);
+    let Argument::Number(m) = argument_m else {
+        return Err(Refusal::Unreadable);
     };
-    let Argument::Number(v, after_v) = field_at(read.v, line, after_m, 4294967295) else {
-        return Reading::Refused(11);
+    let (argument_v, after_v) = field_in(read.v, after_m, MOST_VALUE);
+    let Argument::Number(v) = argument_v else {
+        return Err(Refusal::Unreadable);
     };
-    let SpaceArgument::Given(s, after_s) = space_at(line, after_v, operators::space_optional(o))
-    else {
-        return Reading::Refused(11);
+    let (space, after_s) = space_in(after_v, operators::space_optional(o));
+    let Some(s) = space else {
+        return Err(Refusal::Unreadable);
     };
     let c = Call {
         operator: o,
@@ -88,18 +89,20 @@ fn in_order(line: &[u8], end: usize, o: u32) -> Reading
         v,
         s,
     };
-    completed(line, after_s, c)
+    completed(after_s, c)
 }
 
 // "52 s v".
-fn space_then_value(line: &[u8], end: usize, o: u32) -> Reading
-    ensures { result ≡ space_then_value o (words_behind line.now end) }
+fn space_then_value(rest: &[u8], o: u32) -> Result<Call, Refusal>
+    ensures { result ≡ space_then_value o (words_behind rest.now) }
 {
-    let SpaceArgument::Given(s, after_s) = space_at(line, end, false) else {
-        return Reading::Refused(11);
+    let (space, after_s) = space_in(rest, false);
+    let Some(s) = space else {
+        return Err(Refusal::Unreadable);
     };
-    let Argument::Number(v, after_v) = argument_at(line, after_s, 4294967295) else {
-        return Reading::Refused(11);
+    let (argument_v, after_v) = argument_in(after_s, MOST_VALUE);
+    let Argument::Number(v) = argument_v else {
+        return Err(Refusal::Unreadable);
     };
     let c = Call {
         operator: o,
@@ -109,15 +112,15 @@ fn space_then_value(line: &[u8], end: usize, o: u32) -> Reading
         v,
         s,
     };
-    completed(line, after_v, c)
+    completed(after_v, c)
 }
 
 // "SUS with a number is 57"; alone it is 56.
-fn spaces_of(line: &[u8], end: usize) -> Reading
-    ensures { result ≡ spaces (words_behind line.now end) }
+fn spaces_of(rest: &[u8]) -> Result<Call, Refusal>
+    ensures { result ≡ spaces (words_behind rest.now) }
 {
-    if end >= line.len() {
-        return Reading::Read(Call {
+    if rest.is_empty() {
+        return Ok(Call {
             operator: 56,
             n: NodeName(0),
             g: EdgeName(0),
@@ -126,8 +129,9 @@ fn spaces_of(line: &[u8], end: usize) -> Reading
             s: Space::Universe,
         });
     }
-    let Argument::Number(n, after_n) = argument_at(line, end, 65535) else {
-        return Reading::Refused(11);
+    let (argument_n, after_n) = argument_in(rest, MOST_NAME);
+    let Argument::Number(n) = argument_n else {
+        return Err(Refusal::Unreadable);
     };
     let c = Call {
         operator: 57,
@@ -137,19 +141,18 @@ fn spaces_of(line: &[u8], end: usize) -> Reading
         v: 0,
         s: Space::Universe,
     };
-    completed(line, after_n, c)
+    completed(after_n, c)
 }
 
 // The call that a line reads as, or refusal 11.
-pub fn read_line(line: &[u8]) -> Reading
+pub fn read_line(line: &[u8]) -> Result<Call, Refusal>
     ensures { result ≡ read_line line.now }
 {
-    let end = end_of(line, 0, b' ');
-    let o = operator_number(&line[0..end]);
-    match o {
-        0 => Reading::Refused(11),
-        52 => space_then_value(line, end, o),
-        56 => spaces_of(line, end),
-        _ => in_order(line, end, o),
+    let (letters, rest) = line.split_at(end_of(line, b' '));
+    match operator_number(letters) {
+        None => Err(Refusal::Unreadable),
+        Some(52) => space_then_value(rest, 52),
+        Some(56) => spaces_of(rest),
+        Some(o) => in_order(rest, o),
     }
 }

@@ -1,61 +1,35 @@
 // "plain digits without a leading zero (zero itself is `0`), names to 65,535, values to 4,294,967,295".
-ghost use Rattle.std.specs.Prelude.{◌≡◌, ◌-◌, ◌≤◌};
-ghost use Rattle.text.specs.Numerals.{digit_zero, read_number};
-ghost use Rattle.lines.specs.Places.{as_number, leading_zero, read_digits};
+ghost use Rattle.std.specs.Prelude.{◌≡◌};
+ghost use Rattle.text.specs.Numerals.{read_number};
+ghost use Rattle.lines.specs.Places.{read_digits};
 
-use super::Argument;
-
-// The number of a digit.
-fn digit_value(b: u8) -> u64
-    requires { digit_zero ≤ b }
-    ensures { result ≡ b - digit_zero }
+// The number that a word of digits gives; it stops once the number is past the most that it may be.
+fn digits_in(word: &[u8], most: u32) -> Option<u32>
+    ensures { result ≡ read_digits most 0 word.now }
 {
-    (b - b'0') as u64
-}
-
-// Does a word of several bytes begin with the digit 0.
-fn leading_zero(word: &[u8]) -> bool
-    ensures { result ≡ leading_zero word.now }
-{
-    if word.len() < 2 {
-        return false;
-    }
-    word[0] == b'0'
-}
-
-// The number that a word of digits gives, whose word ends at a place of the line; it stops once the number is past the most that it may be.
-fn digits_in(word: &[u8], end: usize, most: u32) -> Argument
-    ensures { result ≡ as_number (read_digits most 0 word.now) end }
-{
-    let limit = most as u64;
     let mut value: u64 = 0;
-    let mut i = 0;
-    while i < word.len() {
-        let b = word[i];
-        if b < b'0' {
-            return Argument::Unreadable;
+    for &b in word {
+        if !b.is_ascii_digit() {
+            return None;
         }
-        if b > b'9' {
-            return Argument::Unreadable;
+        value = value * 10 + u64::from(b - b'0');
+        if value > u64::from(most) {
+            return None;
         }
-        value = value * 10 + digit_value(b);
-        if value > limit {
-            return Argument::Unreadable;
-        }
-        i += 1;
     }
-    Argument::Number(value as u32, end)
+    Some(value as u32)
 }
 
-// The number that a word gives, whose word ends at a place of the line.
-pub fn number_in(word: &[u8], end: usize, most: u32) -> Argument
-    ensures { result ≡ as_number (read_number most word.now) end }
+// The number that a word gives.
+pub fn number_in(word: &[u8], most: u32) -> Option<u32>
+    ensures { result ≡ read_number most word.now }
 {
-    if word.len() == 0 {
-        return Argument::Unreadable;
+    let [first, ..] = word else {
+        return None;
+    };
+    let several = word.len() > 1;
+    if *first == b'0' && several {
+        return None;
     }
-    if leading_zero(word) {
-        return Argument::Unreadable;
-    }
-    digits_in(word, end, most)
+    digits_in(word, most)
 }

@@ -2,11 +2,16 @@
 use mathlib.Core.Bool.{Bool, true, false}
 use mathlib.Core.List.{List, [], ◌∷◌, ◌++◌, append_assoc}
 use mathlib.Core.Path.{◌≡◌, refl, sym, ap, ◌∙◌, subst}
+use native.Mathlib.Omega.{arith}
 use Prim.Native.Nat.{ℕ, ◌≤◌}
 use lib.Dec.{eqb}
 use lib.ListN.{drop, get_or}
 use borrow.Author.Tests.{eqb-false}
 use Rattle.model.specs.declared.Pair.{Pair}
+use Rattle.model.specs.declared.Refusal.{Refusal}
+use Rattle.model.specs.declared.Refusal.TheVariants.{NotAStore, NoOperator, ZeroName, UniverseDestroyed, SpaceAbsent, NodeAbsent, SecondAbsent, EdgeAbsent, ListTooShort, Full, Unreadable, NoSelection}
+use Rattle.model.specs.Numbered.{number_of}
+use Rattle.model.proofs.Numbered.{number_of_injective}
 use Rattle.model.specs.Pairs.{pair, edge_of, node_of}
 use Rattle.model.specs.Steps.{Reply, refusal, name, added, removed, valued, yes_no, pairs}
 use Rattle.text.specs.Bytes.{Text, line_feed, blank, hyphen, plus_sign, equals_sign, colon, L, N, R, T, «V»}
@@ -27,7 +32,7 @@ pub data Named (x : ℕ) : Text → Reply → Type 0 where
 
 -- so are all numbers of an answer
 pub data NumbersFit : Reply → Type 0 where
-  refusal_fits : (number : ℕ) → number ≤ 4294967295 → NumbersFit (refusal number)
+  refusal_fits : (condition : Refusal) → NumbersFit (refusal condition)
   name_fits : (x : ℕ) (t : Text) (r : Reply) → Named x t r → x ≤ 4294967295 → NumbersFit r
   value_fits : (v : ℕ) → v ≤ 4294967295 → NumbersFit (valued v)
   yes_no_fits : (b : Bool) → NumbersFit (yes_no b)
@@ -130,40 +135,56 @@ named_apart x y t u r s n m h k e =
     (sym (named_line x t r n) ∙ e ∙ named_line y u s m) in
     behind_apart x t u r s n (subst (λ (z : ℕ). Named z u s) (sym both.0) m) both.1
 
+-- the numbers of the conditions are small
+few : (condition : Refusal) → number_of condition ≤ 4294967295
+unfolding number_of
+few NotAStore = omega arith
+few NoOperator = omega arith
+few ZeroName = omega arith
+few UniverseDestroyed = omega arith
+few SpaceAbsent = omega arith
+few NodeAbsent = omega arith
+few SecondAbsent = omega arith
+few EdgeAbsent = omega arith
+few ListTooShort = omega arith
+few Full = omega arith
+few Unreadable = omega arith
+few NoSelection = omega arith
+
 -- distinct answers print distinct lines
 pub lines_apart : (r s : Reply) → NumbersFit r → NumbersFit s → answer_line r ≡ answer_line s → r ≡ s
 unfolding answer_line answer_text yes_or_no
-lines_apart _ _ (refusal_fits x h) (refusal_fits y k) e = ap refusal (number_apart R x y h k e)
-lines_apart _ _ (refusal_fits x h) (name_fits y u s m k) e = absurd (differ R equals_sign _ _ refl (e ∙ named_line y u s m))
-lines_apart _ _ (refusal_fits x h) (value_fits y k) e = absurd (differ R «V» _ _ refl e)
-lines_apart _ _ (refusal_fits x h) (yes_no_fits true) e = absurd (differ R T _ _ refl e)
-lines_apart _ _ (refusal_fits x h) (yes_no_fits false) e = absurd (differ R N _ _ refl e)
-lines_apart _ _ (refusal_fits x h) (list_fits i qs k hq) e = absurd (differ R L _ _ refl e)
-lines_apart _ _ (name_fits x t r n h) (refusal_fits y k) e = absurd (differ equals_sign R _ _ refl (sym (named_line x t r n) ∙ e))
+lines_apart _ _ (refusal_fits x) (refusal_fits y) e = ap refusal (number_of_injective x y (number_apart R (number_of x) (number_of y) (few x) (few y) e))
+lines_apart _ _ (refusal_fits x) (name_fits y u s m k) e = absurd (differ R equals_sign _ _ refl (e ∙ named_line y u s m))
+lines_apart _ _ (refusal_fits x) (value_fits y k) e = absurd (differ R «V» _ _ refl e)
+lines_apart _ _ (refusal_fits x) (yes_no_fits true) e = absurd (differ R T _ _ refl e)
+lines_apart _ _ (refusal_fits x) (yes_no_fits false) e = absurd (differ R N _ _ refl e)
+lines_apart _ _ (refusal_fits x) (list_fits i qs k hq) e = absurd (differ R L _ _ refl e)
+lines_apart _ _ (name_fits x t r n h) (refusal_fits y) e = absurd (differ equals_sign R _ _ refl (sym (named_line x t r n) ∙ e))
 lines_apart _ _ (name_fits x t r n h) (name_fits y u s m k) e = named_apart x y t u r s n m h k e
 lines_apart _ _ (name_fits x t r n h) (value_fits y k) e = absurd (differ equals_sign «V» _ _ refl (sym (named_line x t r n) ∙ e))
 lines_apart _ _ (name_fits x t r n h) (yes_no_fits true) e = absurd (differ equals_sign T _ _ refl (sym (named_line x t r n) ∙ e))
 lines_apart _ _ (name_fits x t r n h) (yes_no_fits false) e = absurd (differ equals_sign N _ _ refl (sym (named_line x t r n) ∙ e))
 lines_apart _ _ (name_fits x t r n h) (list_fits i qs k hq) e = absurd (differ equals_sign L _ _ refl (sym (named_line x t r n) ∙ e))
-lines_apart _ _ (value_fits x h) (refusal_fits y k) e = absurd (differ «V» R _ _ refl e)
+lines_apart _ _ (value_fits x h) (refusal_fits y) e = absurd (differ «V» R _ _ refl e)
 lines_apart _ _ (value_fits x h) (name_fits y u s m k) e = absurd (differ «V» equals_sign _ _ refl (e ∙ named_line y u s m))
 lines_apart _ _ (value_fits x h) (value_fits y k) e = ap valued (number_apart «V» x y h k e)
 lines_apart _ _ (value_fits x h) (yes_no_fits true) e = absurd (differ «V» T _ _ refl e)
 lines_apart _ _ (value_fits x h) (yes_no_fits false) e = absurd (differ «V» N _ _ refl e)
 lines_apart _ _ (value_fits x h) (list_fits i qs k hq) e = absurd (differ «V» L _ _ refl e)
-lines_apart _ _ (yes_no_fits true) (refusal_fits y k) e = absurd (differ T R _ _ refl e)
+lines_apart _ _ (yes_no_fits true) (refusal_fits y) e = absurd (differ T R _ _ refl e)
 lines_apart _ _ (yes_no_fits true) (name_fits y u s m k) e = absurd (differ T equals_sign _ _ refl (e ∙ named_line y u s m))
 lines_apart _ _ (yes_no_fits true) (value_fits y k) e = absurd (differ T «V» _ _ refl e)
 lines_apart _ _ (yes_no_fits true) (yes_no_fits true) e = refl
 lines_apart _ _ (yes_no_fits true) (yes_no_fits false) e = absurd (differ T N _ _ refl e)
 lines_apart _ _ (yes_no_fits true) (list_fits i qs k hq) e = absurd (differ T L _ _ refl e)
-lines_apart _ _ (yes_no_fits false) (refusal_fits y k) e = absurd (differ N R _ _ refl e)
+lines_apart _ _ (yes_no_fits false) (refusal_fits y) e = absurd (differ N R _ _ refl e)
 lines_apart _ _ (yes_no_fits false) (name_fits y u s m k) e = absurd (differ N equals_sign _ _ refl (e ∙ named_line y u s m))
 lines_apart _ _ (yes_no_fits false) (value_fits y k) e = absurd (differ N «V» _ _ refl e)
 lines_apart _ _ (yes_no_fits false) (yes_no_fits true) e = absurd (differ N T _ _ refl e)
 lines_apart _ _ (yes_no_fits false) (yes_no_fits false) e = refl
 lines_apart _ _ (yes_no_fits false) (list_fits i qs k hq) e = absurd (differ N L _ _ refl e)
-lines_apart _ _ (list_fits j ps h hp) (refusal_fits y k) e = absurd (differ L R _ _ refl e)
+lines_apart _ _ (list_fits j ps h hp) (refusal_fits y) e = absurd (differ L R _ _ refl e)
 lines_apart _ _ (list_fits j ps h hp) (name_fits y u s m k) e = absurd (differ L equals_sign _ _ refl (e ∙ named_line y u s m))
 lines_apart _ _ (list_fits j ps h hp) (value_fits y k) e = absurd (differ L «V» _ _ refl e)
 lines_apart _ _ (list_fits j ps h hp) (yes_no_fits true) e = absurd (differ L T _ _ refl e)

@@ -3,6 +3,8 @@ use mathlib.Core.Bool.{true, false}
 use mathlib.Core.List.{[], ◌∷◌}
 use mathlib.Core.Path.{◌≡◌, refl}
 use Rattle.model.specs.Pairs.{pair}
+use Rattle.model.specs.declared.Refusal.TheVariants.{SecondAbsent}
+use Rattle.model.specs.Numbered.{number_of}
 use Rattle.model.specs.Steps.{refusal, name, added, removed, valued, yes_no, pairs}
 use Rattle.text.specs.Bytes.{line_feed, blank, hyphen, plus_sign, equals_sign, colon, I, L, N, R, T, «V»}
 use Rattle.text.specs.Numerals.{printed_number, printed_in}
@@ -28,7 +30,7 @@ pub record Examples : Type 0 where
       answer_line (pairs 2 (pair 0 1 ∷ pair 0 2 ∷ []))
       ≡ L ∷ blank ∷ 50 ∷ blank ∷ 48 ∷ colon ∷ 49 ∷ blank ∷ 48 ∷ colon ∷ 50 ∷ line_feed ∷ []
   -- "COP 1 5 2 9": "R 7"
-  pub a_refusal : answer_line (refusal 7) ≡ R ∷ blank ∷ 55 ∷ line_feed ∷ []
+  pub a_refusal : answer_line (refusal SecondAbsent) ≡ R ∷ blank ∷ 55 ∷ line_feed ∷ []
   -- an entry's edge comes first
   pub an_entry : entry_text (pair 5 12) ≡ blank ∷ 53 ∷ colon ∷ 49 ∷ 50 ∷ []
   -- the largest name and the largest value
@@ -36,7 +38,7 @@ pub record Examples : Type 0 where
   pub largest_value : printed_number 4294967295 ≡ 52 ∷ 50 ∷ 57 ∷ 52 ∷ 57 ∷ 54 ∷ 55 ∷ 50 ∷ 57 ∷ 53 ∷ []
 
 pub examples : Examples
-unfolding printed_number printed_in yes_or_no entry_text entries_text answer_text answer_line
+unfolding number_of printed_number printed_in yes_or_no entry_text entries_text answer_text answer_line
 examples =
     record {
       a_name = refl;

@@ -1,11 +1,14 @@
 -- No line is longer than `most_line` bytes: what a caller lends that much for.
 use mathlib.Core.Bool.{Bool, true, false}
 use mathlib.Core.List.{List, [], ◌∷◌, map}
+use Rattle.std.specs.Prelude.{Result, Ok, Err}
 use Prim.Native.Nat.{ℕ, zero, suc, ◌+◌, ◌*◌, ◌/◌, ◌%◌, ◌≤◌}
 use native.Mathlib.Omega.{arith}
 use lib.ListN.{length, take, get_or, length-append}
 use Rattle.model.specs.declared.Answer.{Answer}
-use Rattle.model.specs.declared.Answer.TheVariants.{Refusal, Name, Added, Removed, Value, YesNo, List as Listed}
+use Rattle.model.specs.declared.Answer.TheVariants.{Name, Added, Removed, Value, YesNo, List as Listed}
+use Rattle.model.specs.declared.Refusal.{Refusal}
+use Rattle.model.specs.Numbered.{number_of}
 use Rattle.model.specs.OneCall.{list_count, name_count, unpack, observed}
 use Rattle.text.specs.Bytes.{Text, line_feed, hyphen, plus_sign, colon}
 use Rattle.text.specs.Numerals.{printed_number}
@@ -41,15 +44,15 @@ unfolding yes_or_no
 yes_or_no_length true = omega arith
 yes_or_no_length false = omega arith
 
-text_length : (a : Answer) (list : List ℕ) → list_count a ≤ 2048 → ((i : ℕ) → get_or list i 0 ≤ 4294967295) → length (answer_text (observed a list)) ≤ 24582
+text_length : (a : Result Answer Refusal) (list : List ℕ) → list_count a ≤ 2048 → ((i : ℕ) → get_or list i 0 ≤ 4294967295) → length (answer_text (observed a list)) ≤ 24582
 unfolding answer_text observed list_count
-text_length (Refusal number) list h f = omega (arith, printed_ten number)
-text_length (Name x) list h f = omega (arith, printed_ten x)
-text_length (Added x k) list h f = omega (arith, printed_ten x, printed_ten k, changed_size x plus_sign k)
-text_length (Removed x k) list h f = omega (arith, printed_ten x, printed_ten k, changed_size x hyphen k)
-text_length (Value v) list h f = omega (arith, printed_ten v)
-text_length (YesNo b) list h f = omega (arith, yes_or_no_length b)
-text_length (Listed k) list h f =
+text_length (Err condition) list h f = omega (arith, printed_ten (number_of condition))
+text_length (Ok (Name x)) list h f = omega (arith, printed_ten x)
+text_length (Ok (Added x k)) list h f = omega (arith, printed_ten x, printed_ten k, changed_size x plus_sign k)
+text_length (Ok (Removed x k)) list h f = omega (arith, printed_ten x, printed_ten k, changed_size x hyphen k)
+text_length (Ok (Value v)) list h f = omega (arith, printed_ten v)
+text_length (Ok (YesNo b)) list h f = omega (arith, yes_or_no_length b)
+text_length (Ok (Listed k)) list h f =
     omega (
       arith,
       printed_within 3 k (omega arith) (omega arith),
@@ -58,11 +61,11 @@ text_length (Listed k) list h f =
     )
 
 -- any answer, with a list of 32-bit words of which it counts at most 2,048
-pub line_length : (a : Answer) (list : List ℕ) → list_count a ≤ 2048 → ((i : ℕ) → get_or list i 0 ≤ 4294967295) → length (answer_line (observed a list)) ≤ most_line
+pub line_length : (a : Result Answer Refusal) (list : List ℕ) → list_count a ≤ 2048 → ((i : ℕ) → get_or list i 0 ≤ 4294967295) → length (answer_line (observed a list)) ≤ most_line
 unfolding answer_line
 line_length a list h f = omega (arith, text_length a list h f, length-append (answer_text (observed a list)) (line_feed ∷ []))
 
 -- lent bytes with so much room have room for any line
-pub line_printable : (a : Answer) (list : List ℕ) (out : Text) (at : ℕ) → list_count a ≤ length list → length list ≤ 2048 → ((i : ℕ) → get_or list i 0 ≤ 4294967295) → at + most_line ≤ length out
+pub line_printable : (a : Result Answer Refusal) (list : List ℕ) (out : Text) (at : ℕ) → list_count a ≤ length list → length list ≤ 2048 → ((i : ℕ) → get_or list i 0 ≤ 4294967295) → at + most_line ≤ length out
     → Printable (answer_line (observed a list)) a list out at
 line_printable a list out at h k f l = record { room = omega (arith, line_length a list (omega arith) f); held = h; counted = omega arith }

@@ -1,9 +1,7 @@
 pub mod Puts
-pub mod Copying
-pub mod Filling
 pub mod Parts
 pub mod Entries
 pub mod Lengths
+pub mod OneLine
 pub mod Apart
 pub mod Examples
-pub mod OneLine

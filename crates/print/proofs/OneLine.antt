@@ -6,6 +6,7 @@ use Prim.Native.Nat.{ℕ}
 use native.Mathlib.Omega.{arith}
 use Rattle.model.specs.declared.Pair.{Pair}
 use Rattle.model.specs.Pairs.{edge_of, node_of}
+use Rattle.model.specs.Numbered.{number_of}
 use Rattle.model.specs.Steps.{Reply, refusal, name, added, removed, valued, yes_no, pairs}
 use Rattle.text.specs.Bytes.{line_feed, hyphen, plus_sign, colon}
 use Rattle.text.specs.Numerals.{printed_number}
@@ -25,7 +26,7 @@ feedless_entries (p ∷ ps) =
 
 pub feedless_answer : (r : Reply) → lacks line_feed (answer_text r) ≡ true
 unfolding answer_text yes_or_no
-feedless_answer (refusal number) = feedless_number number
+feedless_answer (refusal condition) = feedless_number (number_of condition)
 feedless_answer (name x) = feedless_number x
 feedless_answer (added x k) = lacks_append line_feed (printed_number x) (change plus_sign k) (feedless_number x) (feedless_number k)
 feedless_answer (removed x k) = lacks_append line_feed (printed_number x) (change hyphen k) (feedless_number x) (feedless_number k)

@@ -2,97 +2,103 @@
 use mathlib.Core.Bool.{Bool, true, false}
 use mathlib.Core.List.{List, [], ◌∷◌, ◌++◌, map, append_assoc}
 use mathlib.Core.Path.{◌≡◌, sym, ap, ◌∙◌, subst}
+use Rattle.std.specs.Prelude.{Result, Ok}
 use Prim.Native.Nat.{ℕ, ◌+◌, ◌/◌, ◌%◌, ◌≤◌}
 use native.Mathlib.Omega.{arith}
 use lib.ListN.{length, take, length-append}
 use Rattle.model.specs.declared.Answer.{Answer}
-use Rattle.model.specs.OneCall.{list_count, name_count, unpack, observed}
+use Rattle.model.specs.declared.Refusal.{Refusal}
+use Rattle.model.specs.OneCall.{name_count, unpack, observed}
 use Rattle.model.specs.Steps.{Reply, pairs}
 use Rattle.text.specs.Bytes.{Text, line_feed, blank, equals_sign, colon, I, L, N, T}
 use Rattle.text.specs.Numerals.{printed_number}
-use Rattle.print.specs.Answers.{signed, change, yes_or_no, entry_text, entries_text, answer_text, answer_line, Put, Printable}
-use Rattle.print.proofs.Puts.{put_then, put_same}
+use Rattle.print.specs.declared.line.Line.{Line}
+use Rattle.print.specs.Answers.{signed, change, yes_or_no, entry_text, entries_text, answer_text, answer_line, Put, Room, Adds, Printable}
+use Rattle.print.proofs.Puts.{adds_then, adds_same}
 
 -- a sign, a blank and a number
-pub signed_put : (sign x : ℕ) {out o₁ o₂ o₃ : Text} {at m₁ m₂ end : ℕ} → at + length (signed sign x) ≤ length out → Put (sign ∷ []) out at m₁ o₁ → Put (blank ∷ []) o₁ m₁ m₂ o₂
-    → Put (printed_number x) o₂ m₂ end o₃ → Put (signed sign x) out at end o₃
-signed_put sign x {out} {o₁} {o₂} {o₃} {at} h p q r =
-    let le : at ≤ length out = omega arith in
-    put_then le (put_then le p q) r
+pub signed_adds : (sign x : ℕ) {l l₁ l₂ l₃ : Line} → Room (signed sign x) l → Adds (sign ∷ []) l l₁ → Adds (blank ∷ []) l₁ l₂ → Adds (printed_number x) l₂ l₃ → Adds (signed sign x) l l₃
+signed_adds sign x h p q r = adds_then (omega arith) (adds_then (omega arith) p q) r
 
 -- a name, a blank, a sign and how many tuples were added or removed
 pub changed_size : (x sign k : ℕ) → length (signed equals_sign x ++ change sign k) ≡ 4 + length (printed_number x) + length (printed_number k)
 changed_size x sign k = omega (arith, length-append (signed equals_sign x) (change sign k))
 
-pub changed_put : (x sign k : ℕ) {out o₁ o₂ o₃ o₄ : Text} {at m₁ m₂ m₃ end : ℕ} → at + length (signed equals_sign x ++ change sign k) ≤ length out
-    → Put (signed equals_sign x) out at m₁ o₁ → Put (blank ∷ []) o₁ m₁ m₂ o₂ → Put (sign ∷ []) o₂ m₂ m₃ o₃ → Put (printed_number k) o₃ m₃ end o₄
-    → Put (signed equals_sign x ++ change sign k) out at end o₄
-changed_put x sign k {out} {o₁} {o₂} {o₃} {o₄} {at} h p q r s =
-    let le : at ≤ length out = omega arith in
-    put_same
+pub changed_adds : (x sign k : ℕ) {l l₁ l₂ l₃ l₄ : Line} → Room (signed equals_sign x ++ change sign k) l
+    → Adds (signed equals_sign x) l l₁ → Adds (blank ∷ []) l₁ l₂ → Adds (sign ∷ []) l₂ l₃ → Adds (printed_number k) l₃ l₄
+    → Adds (signed equals_sign x ++ change sign k) l l₄
+changed_adds x sign k h p q r s =
+    let size = changed_size x sign k in
+    adds_same
     (ap (λ (bs : Text). bs ++ printed_number k) (append_assoc (signed equals_sign x) (blank ∷ []) (sign ∷ []))
     ∙ append_assoc (signed equals_sign x) (blank ∷ sign ∷ []) (printed_number k))
-    (put_then le (put_then le (put_then le p q) r) s)
+    (adds_then (omega (arith, length-append (signed equals_sign x ++ (blank ∷ [])) (sign ∷ []), length-append (signed equals_sign x) (blank ∷ [])))
+    (adds_then (omega (arith, length-append (signed equals_sign x) (blank ∷ []))) (adds_then (omega arith) p q) r) s)
 
 -- T where the answer is yes, NIL where it is no
-pub yes_no_size : (b : Bool) → 1 ≤ length (yes_or_no b)
+pub yes_room : (b : Bool) (l : Line) → b ≡ true → Room (yes_or_no b) l → Room (T ∷ []) l
 unfolding yes_or_no
-yes_no_size true = omega arith
-yes_no_size false = omega arith
+yes_room b l e h = subst (λ (x : Bool). Room (yes_or_no x) l) e h
 
-pub no_size : (b : Bool) → b ≡ false → length (yes_or_no b) ≡ 3
+pub no_room : (b : Bool) (l : Line) → b ≡ false → Room (yes_or_no b) l → Room (N ∷ I ∷ L ∷ []) l
 unfolding yes_or_no
-no_size b e = ap (λ (x : Bool). length (yes_or_no x)) e
+no_room b l e h = subst (λ (x : Bool). Room (yes_or_no x) l) e h
 
-pub yes_put : {b : Bool} {out out' : Text} {at end : ℕ} → b ≡ true → Put (T ∷ []) out at end out' → Put (yes_or_no b) out at end out'
+pub yes_adds : {b : Bool} {l l' : Line} → b ≡ true → Adds (T ∷ []) l l' → Adds (yes_or_no b) l l'
 unfolding yes_or_no
-yes_put e p = put_same (sym (ap yes_or_no e)) p
+yes_adds e p = adds_same (sym (ap yes_or_no e)) p
 
-pub no_put : {b : Bool} {out out' : Text} {at end : ℕ} → b ≡ false → Put (N ∷ I ∷ L ∷ []) out at end out' → Put (yes_or_no b) out at end out'
+pub no_adds : {b : Bool} {l l' : Line} → b ≡ false → Adds (N ∷ I ∷ L ∷ []) l l' → Adds (yes_or_no b) l l'
 unfolding yes_or_no
-no_put e p = put_same (sym (ap yes_or_no e)) p
+no_adds e p = adds_same (sym (ap yes_or_no e)) p
 
 -- a blank, an edge, a colon and a node
 pub entry_size : (w : ℕ) → length (entry_text (unpack w)) ≡ 2 + length (printed_number (w / 65536)) + length (printed_number (w % 65536))
 unfolding entry_text unpack
 entry_size w = omega (arith, length-append (printed_number (w / name_count)) (colon ∷ printed_number (w % name_count)))
 
-pub entry_put : (w : ℕ) {out o₁ o₂ o₃ o₄ : Text} {at m₁ m₂ m₃ end : ℕ} → at + length (entry_text (unpack w)) ≤ length out → Put (blank ∷ []) out at m₁ o₁ → Put (printed_number (w / 65536)) o₁ m₁ m₂ o₂
-    → Put (colon ∷ []) o₂ m₂ m₃ o₃ → Put (printed_number (w % 65536)) o₃ m₃ end o₄ → Put (entry_text (unpack w)) out at end o₄
+pub entry_adds : (w : ℕ) {l l₁ l₂ l₃ l₄ : Line} → Room (entry_text (unpack w)) l → Adds (blank ∷ []) l l₁ → Adds (printed_number (w / 65536)) l₁ l₂
+    → Adds (colon ∷ []) l₂ l₃ → Adds (printed_number (w % 65536)) l₃ l₄ → Adds (entry_text (unpack w)) l l₄
 unfolding entry_text unpack
-entry_put w {out} {o₁} {o₂} {o₃} {o₄} {at} h p q r s =
-    let le : at ≤ length out = omega arith in
-    put_same (ap (λ (bs : Text). blank ∷ bs) (append_assoc (printed_number (w / name_count)) (colon ∷ []) (printed_number (w % name_count)))) (put_then le (put_then le (put_then le p q) r) s)
+entry_adds w h p q r s =
+    let size = entry_size w in
+    adds_same (ap (λ (bs : Text). blank ∷ bs) (append_assoc (printed_number (w / name_count)) (colon ∷ []) (printed_number (w % name_count))))
+    (adds_then (omega (arith, length-append (printed_number (w / name_count)) (colon ∷ []))) (adds_then (omega arith) (adds_then (omega arith) p q) r) s)
 
 -- a list: its count, then its entries
 pub list_size : (k : ℕ) (list : List ℕ) → length (answer_text (pairs k (map unpack (take k list)))) ≡ 2 + length (printed_number k) + length (entries_text (map unpack (take k list)))
 unfolding answer_text
 list_size k list = omega (arith, length-append (printed_number k) (entries_text (map unpack (take k list))))
 
-pub list_put : (k : ℕ) (list : List ℕ) {out o₁ o₂ : Text} {at m₁ end : ℕ} → at + length (answer_text (pairs k (map unpack (take k list)))) ≤ length out → Put (signed L k) out at m₁ o₁
-    → Put (entries_text (map unpack (take k list))) o₁ m₁ end o₂ → Put (answer_text (pairs k (map unpack (take k list)))) out at end o₂
+pub list_adds : (k : ℕ) (list : List ℕ) {l l₁ l₂ : Line} → Room (answer_text (pairs k (map unpack (take k list)))) l → Adds (signed L k) l l₁
+    → Adds (entries_text (map unpack (take k list))) l₁ l₂ → Adds (answer_text (pairs k (map unpack (take k list)))) l l₂
 unfolding answer_text
-list_put k list h p q = put_then (omega arith) p q
+list_adds k list h p q = adds_then (omega (arith, list_size k list)) p q
 
 -- a line: the text of the answer, then a line feed
 pub line_size : (r : Reply) → length (answer_line r) ≡ length (answer_text r) + 1
 unfolding answer_line
 line_size r = length-append (answer_text r) (line_feed ∷ [])
 
-pub line_put : (r : Reply) {out o₁ o₂ : Text} {at m₁ end : ℕ} → at + length (answer_line r) ≤ length out → Put (answer_text r) out at m₁ o₁ → Put (line_feed ∷ []) o₁ m₁ end o₂
-    → Put (answer_line r) out at end o₂
+pub line_adds : (r : Reply) {l l₁ l₂ : Line} → Room (answer_line r) l → Adds (answer_text r) l l₁ → Adds (line_feed ∷ []) l₁ l₂ → Adds (answer_line r) l l₂
 unfolding answer_line
-line_put r h p q = put_then (omega arith) p q
+line_adds r h p q = adds_then (omega (arith, line_size r)) p q
+
+-- the lent bytes hold what the line has
+pub line_done : (bs out : Text) (at end : ℕ) (held final : Text) → Put bs out at end held → final ≡ held → Put bs out at end final
+line_done bs out at end held final p e = subst (λ (o : Text). Put bs out at end o) (sym e) p
+
+-- a call that is answered
+pub answered : {a b : Answer} → a ≡ b → ◌≡◌ {A = Result Answer Refusal} (Ok a) (Ok b)
+answered e = ap (λ (x : Answer). Ok x) e
 
 -- an answer whose variant is known
-pub known_fits : {a b : Answer} (list : List ℕ) {out : Text} {at : ℕ} → a ≡ b → Printable (answer_text (observed a list)) a list out at → at + length (answer_text (observed b list)) ≤ length out
-known_fits {a} {b} list {out} {at} e h = subst (λ (x : Answer). at + length (answer_text (observed x list)) ≤ length out) e h.room
+module _ {a b : Result Answer Refusal} (list : List ℕ) (e : a ≡ b) where
+  pub known_room : {out : Text} {at : ℕ} → Printable (answer_text (observed a list)) a list out at → at + length (answer_text (observed b list)) ≤ length out
+  known_room {out} {at} h = subst (λ (x : Result Answer Refusal). at + length (answer_text (observed x list)) ≤ length out) e h.room
 
-pub known_held : {a b : Answer} (list : List ℕ) {text out : Text} {at : ℕ} → a ≡ b → Printable text a list out at → list_count b ≤ length list
-known_held {a} {b} list e h = subst (λ (x : Answer). list_count x ≤ length list) e h.held
+  pub known_printable : {out : Text} {at : ℕ} → Printable (answer_text (observed a list)) a list out at → Printable (answer_text (observed b list)) b list out at
+  known_printable {out} {at} h = subst (λ (x : Result Answer Refusal). Printable (answer_text (observed x list)) x list out at) e h
 
-pub known_counted : {a b : Answer} (list : List ℕ) {text out : Text} {at : ℕ} → a ≡ b → Printable text a list out at → list_count b ≤ 4294967295
-known_counted {a} {b} list e h = subst (λ (x : Answer). list_count x ≤ 4294967295) e h.counted
-
-pub known_put : {a b : Answer} (list : List ℕ) {out out' : Text} {at end : ℕ} → a ≡ b → Put (answer_text (observed b list)) out at end out' → Put (answer_text (observed a list)) out at end out'
-known_put list e p = put_same (ap (λ (x : Answer). answer_text (observed x list)) (sym e)) p
+  pub known_adds : {l l' : Line} → Adds (answer_text (observed b list)) l l' → Adds (answer_text (observed a list)) l l'
+  known_adds p = adds_same (ap (λ (x : Result Answer Refusal). answer_text (observed x list)) (sym e)) p

@@ -1,13 +1,16 @@
 -- Document 01: "Output, a line each: `= name`, `V value`, `T` or `NIL`, `L k` then ` edge:node` for each, `R number`."
 -- Document 02, request 2: the name that C or D returns has the number of tuples added or removed behind it.
-use Rattle.std.specs.Prelude.{Bool, true, false, List, [], ◌∷◌, ◌++◌, ◌≡◌, ℕ, ◌+◌, ◌≤◌, length}
+use Rattle.std.specs.Prelude.{Bool, true, false, Result, List, [], ◌∷◌, ◌++◌, ◌≡◌, ℕ, ◌+◌, ◌≤◌, length}
 use Rattle.model.specs.declared.Answer.{Answer}
 use Rattle.model.specs.declared.Pair.{Pair}
+use Rattle.model.specs.declared.Refusal.{Refusal}
+use Rattle.model.specs.Numbered.{number_of}
 use Rattle.model.specs.Pairs.{edge_of, node_of}
 use Rattle.model.specs.OneCall.{list_count}
 use Rattle.model.specs.Steps.{Reply, refusal, name, added, removed, valued, yes_no, pairs}
 use Rattle.text.specs.Bytes.{Text, line_feed, blank, hyphen, plus_sign, equals_sign, colon, written, I, L, N, R, T, «V»}
 use Rattle.text.specs.Numerals.{printed_number}
+use Rattle.print.specs.declared.line.Line.{Line}
 
 -- a sign, a blank and a number
 abbrev pub signed : ℕ → ℕ → Text
@@ -33,7 +36,7 @@ entries_text (p ∷ ps) = entry_text p ++ entries_text ps
 
 -- "`= name`, `V value`, `T` or `NIL`, `L k` then ` edge:node` for each, `R number`"
 unfoldable pub answer_text : Reply → Text
-answer_text (refusal number) = signed R number
+answer_text (refusal condition) = signed R (number_of condition)
 answer_text (name x) = signed equals_sign x
 answer_text (added x k) = signed equals_sign x ++ change plus_sign k
 answer_text (removed x k) = signed equals_sign x ++ change hyphen k
@@ -59,7 +62,16 @@ pub record Put (bs : Text) (out : Text) (at : ℕ) (end : ℕ) (out' : Text) : T
   pub bytes : out' ≡ written out at bs
 
 -- what printing an answer asks: its text fits, its entries stand in the list, and their count is a number of 32 bits
-pub record Printable (text : Text) (a : Answer) (list : List ℕ) (out : Text) (at : ℕ) : Type 0 where
+pub record Printable (text : Text) (a : Result Answer Refusal) (list : List ℕ) (out : Text) (at : ℕ) : Type 0 where
   pub room : Fits text out at
   pub held : list_count a ≤ length list
   pub counted : list_count a ≤ 4294967295
+
+-- there is room for a text in a line's bytes
+abbrev pub Room : Text → Line → Type 0
+Room bs l = Fits bs l.out.now l.at
+
+-- a text put behind what a line has: its bytes are the same lent ones
+pub record Adds (bs : Text) (l l' : Line) : Type 0 where
+  pub lent : l'.out.ghost_name ≡ l.out.ghost_name
+  pub put : Put bs l.out.now l.at l'.at l'.out.now

@@ -3,6 +3,7 @@ use Rattle.std.specs.Prelude.{Option, None, Some, Bool, true, false, [], ◌++�
 use Rattle.std.proofs.Common.{refl, sym, ◌∙◌, ap, subst, arith, append-nil, length-append}
 use Rattle.std.proofs.lemmas.Bool.{leb-true, leb-false, lt-leb}
 use Rattle.std.specs.Io.KnownBytes.{Consumes, Appends, IsAtEnd}
+use Rattle.model.specs.declared.Refusal.TheVariants.{Unreadable}
 use Rattle.model.specs.Steps.{refusal}
 use Rattle.model.proofs.Bools.{cond_no}
 use Rattle.text.specs.Bytes.{Text}
@@ -16,8 +17,8 @@ module _ (front rest : Text) (ended : length front ≤ most_input → rest ≡ [
   by_length true e =
       ap slips_output (sym (ap (λ (bs : Text). front ++ bs) (ended (leb-true _ _ e)) ∙ append-nil front))
   by_length false e =
-      sym (cond_no _ (script_output front) (answer_line (refusal 11)) e)
-      ∙ cond_no _ (script_output (front ++ rest)) (answer_line (refusal 11))
+      sym (cond_no _ (script_output front) (answer_line (refusal Unreadable)) e)
+      ∙ cond_no _ (script_output (front ++ rest)) (answer_line (refusal Unreadable))
       (lt-leb (length (front ++ rest)) most_input (omega (arith, leb-false (length front) most_input e, length-append front rest)))
 
   pub same_output : slips_output front ≡ slips_output (front ++ rest)

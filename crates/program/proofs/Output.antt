@@ -1,6 +1,7 @@
 -- What is written block by block is what the lines of a script print, one after the other.
-use Rattle.std.specs.Prelude.{Option, List, [], ◌++◌, ◌≡◌, ℕ, ◌≤◌, length, take, drop}
+use Rattle.std.specs.Prelude.{Option, Result, Ok, Err, OnOk, List, [], ◌++◌, ◌≡◌, ℕ, ◌≤◌, length, take, drop}
 use Rattle.std.proofs.Common.{refl, sym, ◌∙◌, ap, subst, arith, append_assoc, append-nil}
+use Rattle.std.specs.Result.{result_and}
 use Rattle.std.specs.Io.KnownBytes.{Appends}
 use Rattle.std.proofs.KnownBytes.{Appends-nil, Appends-trans}
 use Rattle.model.specs.Machine.{State}
@@ -65,3 +66,12 @@ all_written held held' b₀ script b at V h =
     subst (λ (bs : Text). Appends held held' bs)
     (sym (append-nil V.text) ∙ ap (λ (ls : List Text). V.text ++ lines_output (stored.state_of b) ls) (sym (no_lines script at h)) ∙ V.split)
     V.appended
+
+-- of two results, the second of which counts where the first is good
+pub both_good : {E P Q R : Type 0} (r s q : Result (Unit {0}) E) → q ≡ result_and r s → (P → Q → R) → OnOk r P → OnOk s Q → OnOk q R
+both_good {E} {P} {Q} {R} r s q e both p o = subst (λ (x : Result (Unit {0}) E). OnOk x R) (sym e) (go r s p o)
+  where
+    go : (r s : Result (Unit {0}) E) → OnOk r P → OnOk s Q → OnOk (result_and r s) R
+    go (Ok x) (Ok y) p o = both p o
+    go (Ok x) (Err y) p o = tt
+    go (Err x) s p o = tt

@@ -4,7 +4,8 @@ use mathlib.Core.Path.{◌≡◌, ◌∙◌}
 use Prim.Native.Nat.{ℕ}
 use native.Mathlib.Omega.{arith}
 use lib.ListN.{length}
-use Rattle.model.specs.declared.Preparation.{Preparation}
+use Rattle.std.specs.Prelude.{Result}
+use Rattle.model.specs.declared.Refusal.{Refusal}
 use Rattle.model.specs.Tuples.{fresh}
 use Rattle.layouts.specs.Buffer.{tuples_of, Prepared, Preparing}
 use Rattle.layouts.proofs.Sizes.{length_fits, length_records}
@@ -12,7 +13,7 @@ use Rattle.layouts.proofs.Prepared.{prepared_capacity, prepared_store_lem, prepa
 use Rattle.script.specs.Scripts.{script_places}
 use Rattle.script.specs.Runs.{RunReady}
 
-module _ (raw b : List ℕ) (r : Preparation) (P : Preparing raw r b) (e : length raw ≡ 12292) where
+module _ (raw b : List ℕ) (r : Result ℕ Refusal) (P : Preparing raw r b) (e : length raw ≡ 12292) where
   prepared_raw : Prepared raw b
   prepared_raw = (P.inside (length_fits raw 2048 (omega arith) (omega arith) e)).1
 

@@ -1,6 +1,7 @@
 -- One line on a store: a call and its answer printed, or a refusal printed and no call.
 use mathlib.Core.List.{List, []}
 use mathlib.Core.Path.{◌≡◌, refl, sym, ◌∙◌, ap, ap₂, subst}
+use Rattle.std.specs.Prelude.{Result, Ok, Err}
 use Prim.Native.Nat.{ℕ, ◌+◌, ◌≤◌}
 use native.Mathlib.Omega.{arith}
 use mir.Val.{Fits}
@@ -8,7 +9,9 @@ use mir.Syntax.{w32}
 use lib.ListN.{length, get_or}
 use Rattle.model.specs.declared.Call.{Call}
 use Rattle.model.specs.declared.Answer.{Answer}
-use Rattle.model.specs.declared.Answer.TheVariants.{Refusal}
+use Rattle.model.specs.declared.Refusal.{Refusal}
+use Rattle.model.specs.declared.Refusal.TheVariants.{Unreadable}
+use Rattle.model.specs.Numbered.{number_of}
 use Rattle.model.specs.Steps.{Reply, refusal}
 use Rattle.model.specs.Machine.{Outcome, machine}
 use Rattle.layouts.specs.Buffer.{capacity_of, tuples_of}
@@ -22,9 +25,7 @@ use Rattle.model.proofs.Demand1.{one_call_demand_1}
 use Rattle.model.proofs.CallLists.{observed_machine, answer_within}
 use Rattle.text.specs.Bytes.{Text}
 use Rattle.text.specs.Numerals.{printed_number, printed_in}
-use Rattle.lines.specs.declared.Reading.{Reading}
-use Rattle.lines.specs.declared.Reading.TheVariants.{Read, Refused}
-use Rattle.lines.specs.Calls.{read_line}
+use Rattle.lines.specs.Calls.{Reading, read_line}
 use Rattle.print.specs.Answers.{answer_text, answer_line, most_line, Put, Printable}
 use Rattle.print.proofs.Lengths.{line_printable}
 use Rattle.script.specs.Scripts.{script_records, script_places, reading_outcome, line_outcome}
@@ -43,7 +44,7 @@ module _ (b l : List ℕ) (line : Text) (out : Text) (at : ℕ) where
   as_machine c R = ap₂ (λ (C room : ℕ). machine C (tuples_of b) c room) R.records R.places
 
   -- what a caller of the call is told is what the line answers
-  call_reply : (c : Call) (a : Answer) (b' l' : List ℕ) → RunReady b l → read_line line ≡ Read c → OnStore stored b l c a b' l' → observed a l' ≡ (line_outcome (tuples_of b) line).answer
+  call_reply : (c : Call) (a : Result Answer Refusal) (b' l' : List ℕ) → RunReady b l → read_line line ≡ Ok c → OnStore stored b l c a b' l' → observed a l' ≡ (line_outcome (tuples_of b) line).answer
   unfolding line_outcome reading_outcome tuples_of
   call_reply c a b' l' R e O =
       ap₂ observed O.answer O.list
@@ -52,45 +53,45 @@ module _ (b l : List ℕ) (line : Text) (out : Text) (at : ℕ) where
       ∙ ap (λ (r : Reading). (reading_outcome (tuples_of b) r).answer) (sym e)
 
   -- there is room for the answer of a call
-  pub call_printable : (c : Call) (a : Answer) (b' l' : List ℕ) → RunReady b l → OnStore stored b l c a b' l' → length l' ≡ length l → ((i : ℕ) → Fits w32 (get_or l' i 0)) → at + most_line ≤ length out
+  pub call_printable : (c : Call) (a : Result Answer Refusal) (b' l' : List ℕ) → RunReady b l → OnStore stored b l c a b' l' → length l' ≡ length l → ((i : ℕ) → Fits w32 (get_or l' i 0)) → at + most_line ≤ length out
       → Printable (answer_line (observed a l')) a l' out at
   call_printable c a b' l' R O k f room =
       line_printable a l' out at (omega (arith, answer_within stored b l b' l' c a O k)) (omega (arith, R.places)) (words_fit l' f) room
 
-  pub call_run : (x : Reading) (c : Call) (a : Answer) (b' l' : List ℕ) (end : ℕ) (out' : Text) → RunReady b l → x ≡ read_line line → x ≡ Read c → OnStore stored b l c a b' l' → length l' ≡ length l
+  pub call_run : (x : Reading) (c : Call) (a : Result Answer Refusal) (b' l' : List ℕ) (end : ℕ) (out' : Text) → RunReady b l → x ≡ read_line line → x ≡ Ok c → OnStore stored b l c a b' l' → length l' ≡ length l
       → ((i : ℕ) → Fits w32 (get_or l' i 0)) → at + most_line ≤ length out → Put (answer_line (observed a l')) out at end out' → LineRun b l line out at b' l' end out'
   call_run x c a b' l' end out' R d r O k f room P =
-      let e : read_line line ≡ Read c = sym d ∙ r in
+      let e : read_line line ≡ Ok c = sym d ∙ r in
       record {
         called =
             subst (LineCalled b l b' l') (sym e)
-            (call R.store (subst (λ (x : Answer). OnStore stored b l c x b' l') O.answer O));
+            (call R.store (subst (λ (x : Result Answer Refusal). OnStore stored b l c x b' l') O.answer O));
         places = k;
         put = subst (λ (r : Reply). Put (answer_line r) out at end out') (call_reply c a b' l' R e O) P;
         within = omega (arith, P.place, (call_printable c a b' l' R O k f room).room);
       }
 
   -- a line that does not read as a call
-  refused_reply : (number : ℕ) → read_line line ≡ Refused number → observed (Refusal number) l ≡ (line_outcome (tuples_of b) line).answer
+  refused_reply : (condition : Refusal) → read_line line ≡ Err condition → observed (Err condition) l ≡ (line_outcome (tuples_of b) line).answer
   unfolding line_outcome reading_outcome observed
-  refused_reply number e = ap (λ (r : Reading). (reading_outcome (tuples_of b) r).answer) (sym e)
+  refused_reply condition e = ap (λ (r : Reading). (reading_outcome (tuples_of b) r).answer) (sym e)
 
   -- there is room for a refusal, whatever the list holds: its line is that with no list
-  pub refused_printable : (number : ℕ) → at + most_line ≤ length out → Printable (answer_line (observed (Refusal number) l)) (Refusal number) l out at
+  pub refused_printable : (condition : Refusal) → at + most_line ≤ length out → Printable (answer_line (observed (Err condition) l)) (Err condition) l out at
   unfolding observed list_count
-  refused_printable number room =
-      let P = line_printable (Refusal number) [] out at (omega arith) (omega arith) (λ i. omega arith) room in
+  refused_printable condition room =
+      let P = line_printable (Err condition) [] out at (omega arith) (omega arith) (λ i. omega arith) room in
       record { room = P.room; held = omega arith; counted = P.counted }
 
-  pub refused_run : (x : Reading) (number end : ℕ) (out' : Text) → x ≡ read_line line → x ≡ Refused number → at + most_line ≤ length out → Put (answer_line (observed (Refusal number) l)) out at end out'
+  pub refused_run : (x : Reading) (condition : Refusal) (end : ℕ) (out' : Text) → x ≡ read_line line → x ≡ Err condition → at + most_line ≤ length out → Put (answer_line (observed (Err condition) l)) out at end out'
       → LineRun b l line out at b l end out'
-  refused_run x number end out' d r room P =
-      let e : read_line line ≡ Refused number = sym d ∙ r in
+  refused_run x condition end out' d r room P =
+      let e : read_line line ≡ Err condition = sym d ∙ r in
       record {
         called = subst (LineCalled b l b l) (sym e) (no_call refl refl);
         places = refl;
-        put = subst (λ (r : Reply). Put (answer_line r) out at end out') (refused_reply number e) P;
-        within = omega (arith, P.place, (refused_printable number room).room);
+        put = subst (λ (r : Reply). Put (answer_line r) out at end out') (refused_reply condition e) P;
+        within = omega (arith, P.place, (refused_printable condition room).room);
       }
 
 -- ---- what is left
@@ -105,7 +106,7 @@ pub record LineLeft (b l : List ℕ) (line : Text) (b' l' : List ℕ) : Type 0 w
 module _ (b l : List ℕ) (R : RunReady b l) where
   left_of : (r : Reading) (line : Text) (b' l' : List ℕ) → read_line line ≡ r → length l' ≡ length l → LineCalled b l b' l' r → LineLeft b l line b' l'
   unfolding line_outcome reading_outcome line_list
-  left_of (Read c) line b' l' e k (call store O) =
+  left_of (Ok c) line b' l' e k (call store O) =
       record {
         ready = record { store = O.store; records = capacity_length b b' O.size ∙ R.records; places = k ∙ R.places };
         state =
@@ -118,7 +119,7 @@ module _ (b l : List ℕ) (R : RunReady b l) where
             ∙ ap (λ (o : Outcome). list_after o.answer l) (as_machine b l line line 0 c R)
             ∙ ap (λ (r : Reading). line_list (tuples_of b) r l) (sym e);
       }
-  left_of (Refused number) line b' l' e k (no_call sb sl) =
+  left_of (Err condition) line b' l' e k (no_call sb sl) =
       record {
         ready = subst (λ (x : List ℕ). RunReady x l') (sym sb) (subst (RunReady b) (sym sl) R);
         state = ap tuples_of sb ∙ ap (λ (r : Reading). (reading_outcome (tuples_of b) r).state) (sym e);
@@ -130,28 +131,28 @@ module _ (b l : List ℕ) (R : RunReady b l) where
   line_left line out at b' l' end out' L = left_of (read_line line) line b' l' refl L.places L.called
 
 -- the line `R 11`
-pub refusal_length : length (answer_line (refusal 11)) ≡ 5
-unfolding answer_line answer_text printed_number printed_in
+pub refusal_length : length (answer_line (refusal Unreadable)) ≡ 5
+unfolding answer_line answer_text number_of printed_number printed_in
 refusal_length = refl
 
 -- ---- demand 1
 
 -- of a line that is run
 pub line_demand_1 : (s s' : List ℕ × List ℕ) (line : Text) → LineStep s line s' → LineDemand1 s line s'
-line_demand_1 s s' line made = record { unreadable = λ number e. unread number e made; call = λ c e. read c e made }
+line_demand_1 s s' line made = record { unreadable = λ condition e. unread condition e made; call = λ c e. read c e made }
   where
-    of_refused : {number : ℕ} → LineCalled s.0 s.1 s'.0 s'.1 (Refused number) → (s'.0 ≡ s.0) × (s'.1 ≡ s.1)
+    of_refused : {condition : Refusal} → LineCalled s.0 s.1 s'.0 s'.1 (Err condition) → (s'.0 ≡ s.0) × (s'.1 ≡ s.1)
     of_refused (no_call sb sl) = (sb, sl)
 
-    unread : (number : ℕ) → read_line line ≡ Refused number → LineStep s line s' → (s'.0 ≡ s.0) × (s'.1 ≡ s.1)
-    unread number e x = of_refused (subst (LineCalled s.0 s.1 s'.0 s'.1) e x)
+    unread : (condition : Refusal) → read_line line ≡ Err condition → LineStep s line s' → (s'.0 ≡ s.0) × (s'.1 ≡ s.1)
+    unread condition e x = of_refused (subst (LineCalled s.0 s.1 s'.0 s'.1) e x)
 
-    of_call_lem : {c : Call} → LineCalled s.0 s.1 s'.0 s'.1 (Read c)
+    of_call_lem : {c : Call} → LineCalled s.0 s.1 s'.0 s'.1 (Ok c)
         → Demand1 stored s.0 s.1 c (answer_of (machine (capacity_of s.0) (tuples_of s.0) c (length s.1)).answer) s'.0 s'.1
     of_call_lem (call store O) =
         one_call_demand_1 stored stored_lawful s.0 s.1 _ _ s'.0 s'.1 (record { no_store = λ no. absurd (clash store no); on_store = λ yes. O })
 
-    read : (c : Call) → read_line line ≡ Read c → LineStep s line s'
+    read : (c : Call) → read_line line ≡ Ok c → LineStep s line s'
         → Demand1 stored s.0 s.1 c (answer_of (machine (capacity_of s.0) (tuples_of s.0) c (length s.1)).answer) s'.0 s'.1
     read c e x = of_call_lem (subst (LineCalled s.0 s.1 s'.0 s'.1) e x)
 

@@ -10,7 +10,9 @@ use lib.ListN.{length, take, drop}
 use contract.Lifetimes.{Lfts}
 use borrow.Fn.Kinds.{Dens, res_t, ended_of}
 use denote.Triple.Clauses.{AtExit}
-use Rattle.model.specs.declared.Preparation.{Preparation}
+use Rattle.std.specs.Prelude.{Result}
+use Rattle.model.specs.declared.Refusal.{Refusal}
+use Rattle.model.specs.declared.Refusal.TheVariants.{Unreadable}
 use Rattle.model.specs.Steps.{refusal}
 use Rattle.model.specs.Machine.{State}
 use Rattle.model.specs.Traces.{Trace, end}
@@ -91,7 +93,7 @@ pub script_demand_1 : (script out : Text) (b l b' l' : List ℕ) → Printed scr
 script_demand_1 script out b l b' l' printed = trace_each line_demand_1 (printed_called printed)
 
 -- the whole script, on a fresh store
-pub whole_script : (script out : Text) (raw b l b' l' : List ℕ) (r : Preparation) → length raw ≡ 12292 → PreparedBy raw r b → Printed script b l 0 out b' l'
+pub whole_script : (script out : Text) (raw b l b' l' : List ℕ) (r : Result ℕ Refusal) → length raw ≡ 12292 → PreparedBy raw r b → Printed script b l 0 out b' l'
     → out ≡ script_output script
 unfolding script_output
 whole_script script out raw b l b' l' r size P printed =
@@ -112,14 +114,14 @@ pub data RefusedBy : Text → Type 0 where
   refused_by : (κs : Lfts 1) (a : Dens κs refuse_kinds.ps) (r : (res_t refuse_kinds.r κs).Denot) (e : AtExit (ended_of 1 refuse_kinds.ps refuse_kinds.r) κs)
       → refuse_reads.Learnt κs a r e → RefusedBy (take r e.0.now)
 
-refused_is : {out : Text} → RefusedBy out → out ≡ answer_line (refusal 11)
+refused_is : {out : Text} → RefusedBy out → out ≡ answer_line (refusal Unreadable)
 refused_is (refused_by κs a r e L) =
-    let counted : r ≡ length (answer_line (refusal 11)) = omega (arith, L.place) in
-    ap₂ (λ (n : ℕ) (bs : Text). take n bs) counted L.bytes ∙ take_first a.0.now (answer_line (refusal 11))
+    let counted : r ≡ length (answer_line (refusal Unreadable)) = omega (arith, L.place) in
+    ap₂ (λ (n : ℕ) (bs : Text). take n bs) counted L.bytes ∙ take_first a.0.now (answer_line (refusal Unreadable))
 
 -- what is put out for an input: what its lines print on a fresh store where `accepted` says yes, else the refusal
 pub data Answered (input : Text) : Text → Type 0 where
-  run_lines_lem : {out : Text} (raw b l b' l' : List ℕ) (r : Preparation) → AcceptedBy (length input) true → length raw ≡ 12292 → PreparedBy raw r b → Printed input b l 0 out b' l'
+  run_lines_lem : {out : Text} (raw b l b' l' : List ℕ) (r : Result ℕ Refusal) → AcceptedBy (length input) true → length raw ≡ 12292 → PreparedBy raw r b → Printed input b l 0 out b' l'
       → Answered input out
   refuse_all : {out : Text} → AcceptedBy (length input) false → RefusedBy out → Answered input out
 
@@ -127,6 +129,6 @@ pub data Answered (input : Text) : Text → Type 0 where
 pub slips_output_lem : (input out : Text) → Answered input out → out ≡ slips_output input
 unfolding slips_output
 slips_output_lem input out (run_lines_lem raw b l b' l' r said size P printed) =
-    whole_script input out raw b l b' l' r size P printed ∙ ap (λ (t : Bool). cond t (script_output input) (answer_line (refusal 11))) (accepted_is said)
+    whole_script input out raw b l b' l' r size P printed ∙ ap (λ (t : Bool). cond t (script_output input) (answer_line (refusal Unreadable))) (accepted_is said)
 slips_output_lem input out (refuse_all said refused) =
-    refused_is refused ∙ ap (λ (t : Bool). cond t (script_output input) (answer_line (refusal 11))) (accepted_is said)
+    refused_is refused ∙ ap (λ (t : Bool). cond t (script_output input) (answer_line (refusal Unreadable))) (accepted_is said)

@@ -1,16 +1,15 @@
 -- The lines of a script run on a store: one line, and as many lines as a block of output has room for.
-use Rattle.std.specs.Prelude.{true, cond, List, [], ◌∷◌, ◌++◌, ◌≡◌, ℕ, ◌+◌, ◌-◌, ◌≤◌, ◌<◌, min, leb, ltb, length, drop}
+use Rattle.std.specs.Prelude.{true, cond, Ok, Err, List, [], ◌∷◌, ◌++◌, ◌≡◌, ℕ, ◌+◌, ◌-◌, ◌≤◌, ◌<◌, min, leb, ltb, length, drop}
 use Rattle.model.specs.declared.Call.{Call}
+use Rattle.model.specs.declared.Refusal.{Refusal}
 use Rattle.model.specs.Machine.{State, machine}
 use Rattle.model.specs.Traces.{Trace}
 use Rattle.model.specs.OneCall.{answer_of, list_after, OnStore}
 use Rattle.model.specs.Demand1.{Demand1}
 use Rattle.layouts.specs.Stored.{stored}
 use Rattle.text.specs.Bytes.{Text}
-use Rattle.lines.specs.declared.Reading.{Reading}
-use Rattle.lines.specs.declared.Reading.TheVariants.{Read, Refused}
 use Rattle.lines.specs.Lines.{lines_of}
-use Rattle.lines.specs.Calls.{read_line}
+use Rattle.lines.specs.Calls.{Reading, read_line}
 use Rattle.print.specs.Answers.{answer_line, Put, most_line}
 use Rattle.script.specs.declared.Block.{Block}
 use Rattle.script.specs.Scripts.{script_records, script_places, line_outcome, lines_final}
@@ -25,8 +24,8 @@ pub record RunReady (b l : List ℕ) : Type 0 where
 
 -- a line that reads as a call is that call; one that does not makes none
 pub data LineCalled (b l : List ℕ) (b' l' : List ℕ) : Reading → Type 0 where
-  call : {c : Call} → stored.is_store b ≡ true → OnStore stored b l c (answer_of (machine (stored.capacity_of b) (stored.state_of b) c (length l)).answer) b' l' → LineCalled b l b' l' (Read c)
-  no_call : {number : ℕ} → b' ≡ b → l' ≡ l → LineCalled b l b' l' (Refused number)
+  call : {c : Call} → stored.is_store b ≡ true → OnStore stored b l c (answer_of (machine (stored.capacity_of b) (stored.state_of b) c (length l)).answer) b' l' → LineCalled b l b' l' (Ok c)
+  no_call : {condition : Refusal} → b' ≡ b → l' ≡ l → LineCalled b l b' l' (Err condition)
 
 -- the same as a step from a store and a list to a store and a list
 abbrev pub LineStep : List ℕ × List ℕ → Text → List ℕ × List ℕ → Type 0
@@ -60,8 +59,8 @@ lines_length (x ∷ xs) = length x + 1 + lines_length xs
 
 -- the answer list after a line
 unfoldable pub line_list : State → Reading → List ℕ → List ℕ
-line_list ts (Read c) l = list_after (machine script_records ts c script_places).answer l
-line_list ts (Refused number) l = l
+line_list ts (Ok c) l = list_after (machine script_records ts c script_places).answer l
+line_list ts (Err condition) l = l
 
 -- the answer list after some lines
 unfoldable pub lines_list : State → List ℕ → List Text → List ℕ
@@ -114,7 +113,7 @@ pub record ScriptRun (b l : List ℕ) (script : Text) (b' l' : List ℕ) : Type 
 -- of a line, from a store and a list to a store and a list
 pub record LineDemand1 (s : List ℕ × List ℕ) (line : Text) (s' : List ℕ × List ℕ) : Type 0 where
   -- "unreadable; no call is made": no word of the store or of the list changes
-  pub unreadable : (number : ℕ) → read_line line ≡ Refused number → (s'.0 ≡ s.0) × (s'.1 ≡ s.1)
+  pub unreadable : (condition : Refusal) → read_line line ≡ Err condition → (s'.0 ≡ s.0) × (s'.1 ≡ s.1)
   -- a line that reads as a call has demand 1 of that call
-  pub call : (c : Call) → read_line line ≡ Read c
+  pub call : (c : Call) → read_line line ≡ Ok c
       → Demand1 stored s.0 s.1 c (answer_of (machine (stored.capacity_of s.0) (stored.state_of s.0) c (length s.1)).answer) s'.0 s'.1

@@ -1,13 +1,12 @@
 -- Document 01, "The script program `slips`": what a whole script prints.
-use Rattle.std.specs.Prelude.{cond, List, [], ◌∷◌, ◌++◌, ℕ, leb, length}
+use Rattle.std.specs.Prelude.{cond, Ok, Err, List, [], ◌∷◌, ◌++◌, ℕ, leb, length}
+use Rattle.model.specs.declared.Refusal.TheVariants.{Unreadable}
 use Rattle.model.specs.Tuples.{fresh}
 use Rattle.model.specs.Steps.{refusal}
 use Rattle.model.specs.Machine.{State, Outcome, machine}
 use Rattle.text.specs.Bytes.{Text}
-use Rattle.lines.specs.declared.Reading.{Reading}
-use Rattle.lines.specs.declared.Reading.TheVariants.{Read, Refused}
 use Rattle.lines.specs.Lines.{lines_of}
-use Rattle.lines.specs.Calls.{read_line}
+use Rattle.lines.specs.Calls.{Reading, read_line}
 use Rattle.print.specs.Answers.{answer_line}
 
 -- "a fresh store with C = 2,048 and an answer list of 2,048 places"
@@ -19,8 +18,8 @@ script_places = 2048
 
 -- a line that reads as a call is the machine's step; one that does not is refused, and makes no call
 unfoldable pub reading_outcome : State → Reading → Outcome
-reading_outcome ts (Read c) = machine script_records ts c script_places
-reading_outcome ts (Refused number) = record { answer = refusal number; state = ts }
+reading_outcome ts (Ok c) = machine script_records ts c script_places
+reading_outcome ts (Err condition) = record { answer = refusal condition; state = ts }
 
 unfoldable pub line_outcome : State → Text → Outcome
 line_outcome ts line = reading_outcome ts (read_line line)
@@ -44,4 +43,4 @@ abbrev pub most_input : ℕ
 most_input = 65536
 
 unfoldable pub slips_output : Text → Text
-slips_output input = cond (leb (length input) most_input) (script_output input) (answer_line (refusal 11))
+slips_output input = cond (leb (length input) most_input) (script_output input) (answer_line (refusal Unreadable))

@@ -2,6 +2,7 @@
 // A script run line by line on a store that is known to be one; what it prints goes to lent bytes.
 // An inner layer: what its functions require, their callers have shown; only the entry refuses.
 ghost use Rattle.std.specs.Prelude.{◌≡◌, ◌+◌, ◌≤◌, leb, length, drop};
+ghost use Rattle.model.specs.declared.Refusal.TheVariants.{Unreadable};
 ghost use Rattle.model.specs.Steps.{refusal};
 ghost use Rattle.layouts.specs.Stored.{stored};
 ghost use Rattle.lines.specs.Lines.{lines_of};
@@ -9,8 +10,7 @@ ghost use Rattle.print.specs.Answers.{answer_line, most_line, Put};
 ghost use Rattle.script.specs.Scripts.{most_input};
 ghost use Rattle.script.specs.Runs.{RunReady, LineRun, run_lines, BlockRun, next_line};
 
-use lines::Reading;
-use model::Answer;
+use model::Refusal;
 
 // A bound for the bytes of any line of output, with its line feed.
 const MOST_LINE: usize = 24583;
@@ -37,13 +37,12 @@ pub fn run_line(
     requires { RunReady store.old list.old × (at + most_line ≤ length out.old) }
     ensures { LineRun store.old list.old line.now out.old at store.new list.new result out.new }
 {
-    let reading = lines::read_line(line);
-    match reading {
-        Reading::Read(call) => {
+    match lines::read_line(line) {
+        Ok(call) => {
             let answer = calls::execute_known(store, call, list);
             print::put_answer(out, at, answer, list)
         }
-        Reading::Refused(number) => print::put_answer(out, at, Answer::Refusal(number), list),
+        Err(refusal) => print::put_answer(out, at, Err(refusal), list),
     }
 }
 
@@ -92,8 +91,7 @@ pub fn accepted(bytes: usize) -> bool
 // Writes the refusal of an input that is too long.
 pub fn refuse_input(out: &mut [u8]) -> usize
     requires { most_line ≤ length out.old }
-    ensures { Put (answer_line (refusal 11)) out.old 0 result out.new }
+    ensures { Put (answer_line (refusal Unreadable)) out.old 0 result out.new }
 {
-    let none: [u32; 1] = [0; 1];
-    print::put_answer(out, 0, Answer::Refusal(11), &none)
+    print::put_answer(out, 0, Err(Refusal::Unreadable), &[])
 }

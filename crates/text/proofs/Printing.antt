@@ -1,8 +1,8 @@
 -- Numbers printed in base ten: they read back, and how long they are.
 use mathlib.Core.Bool.{Bool, true, false, ◌&&◌, and-true, true≢false}
 use mathlib.Core.List.{[], ◌∷◌, ◌++◌}
-use mathlib.Core.Option.{some}
 use mathlib.Core.Path.{◌≡◌, refl, sym, ap, ◌∙◌, subst}
+use Rattle.std.specs.Prelude.{Some}
 use Prim.Native.Nat.{ℕ, zero, suc, ◌+◌, ◌-◌, ◌*◌, ◌/◌, ◌%◌, ◌^◌, ◌≤◌, ◌<◌}
 use native.Mathlib.Nat.{div-lt_iff_lt-mul, pow-suc}
 use native.Mathlib.Omega.{arith}
@@ -101,7 +101,7 @@ unfolding plain_digits printed_number printed_in is_digit
 plain_printed zero h = refl
 plain_printed (suc x) h = leading_plain (printed_number (suc x)) (leading_printed (suc x) h (omega arith)) (digits_printed (suc x) h)
 
-pub reads_back : (most x : ℕ) → x ≤ most → most ≤ 4294967295 → read_number most (printed_number x) ≡ some x
+pub reads_back : (most x : ℕ) → x ≤ most → most ≤ 4294967295 → read_number most (printed_number x) ≡ Some x
 unfolding read_number
 reads_back most x h k =
     let small : x ≤ 4294967295 = omega arith in
@@ -112,9 +112,6 @@ pub printed_apart : (x y : ℕ) → x ≤ 4294967295 → y ≤ 4294967295 → pr
 printed_apart x y h k e = sym (number_printed x h) ∙ ap (number_after 0) e ∙ number_printed y k
 
 -- ---- its length
-
-pub printed_some : (x : ℕ) → x ≤ 4294967295 → 0 < length (printed_number x)
-printed_some = of_printed (λ (x : ℕ) (ds : Text). 0 < length ds) (λ x h. omega arith) (λ x ds h ih. omega (arith, length-append ds (digit (x % 10) ∷ [])))
 
 -- as many digits as there are powers of ten up to the number
 pub printed_length : (j x : ℕ) → x ≤ 4294967295 → 10 ^ j ≤ x → x < 10 ^ suc j → length (printed_number x) ≡ suc j
@@ -159,28 +156,6 @@ printed_ten x = most_digits_lem 10 x
 
 pub printed_five : (x : ℕ) → x ≤ 65535 → length (printed_number x) ≤ 5
 printed_five x h = printed_within 4 x (omega arith) (omega arith)
-
--- ---- its last digit
-
--- room for more digits changes nothing
-fits_less : (k x : ℕ) → x < 10 ^ suc k → printed_in (suc (suc k)) x ≡ printed_in (suc k) x
-fits_less zero x h = printed_digit 1 x h ∙ sym (printed_digit 0 x h)
-fits_less (suc k) x h = go (ltb x 10) refl (fits_less k (x / 10) (tenth (suc k) x h))
-  where
-    go : (b : Bool) → ltb x 10 ≡ b → printed_in (suc (suc k)) (x / 10) ≡ printed_in (suc k) (x / 10) → printed_in (suc (suc (suc k))) x ≡ printed_in (suc (suc k)) x
-    go true e ih = printed_digit (suc (suc k)) x (ltb-true x 10 e) ∙ sym (printed_digit (suc k) x (ltb-true x 10 e))
-    go false e ih =
-        printed_digits (suc (suc k)) x (ltb-false x 10 e)
-        ∙ ap (λ (ds : Text). ds ++ (digit (x % 10) ∷ [])) ih
-        ∙ sym (printed_digits (suc k) x (ltb-false x 10 e))
-
-pub printed_short : (x : ℕ) → x < 10 → printed_number x ≡ digit x ∷ []
-unfolding printed_number
-printed_short x h = printed_digit 9 x h
-
-pub printed_long : (x : ℕ) → x ≤ 4294967295 → 10 ≤ x → printed_number x ≡ printed_number (x / 10) ++ (digit (x % 10) ∷ [])
-unfolding printed_number
-printed_long x h k = printed_digits 9 x k ∙ ap (λ (ds : Text). ds ++ (digit (x % 10) ∷ [])) (sym (fits_less 8 (x / 10) (omega arith)))
 
 -- ---- where it ends
 

@@ -1,6 +1,5 @@
 -- Document 01: "plain digits without a leading zero (zero itself is `0`), names to 65,535, values to 4,294,967,295".
-use Rattle.std.specs.Prelude.{Bool, true, false, cond, not, ◌&&◌, [], ◌∷◌, ◌++◌, ℕ, zero, suc, ◌+◌, ◌-◌, ◌*◌, ◌/◌, ◌%◌, eqb, leb, ltb}
-use Rattle.std.proofs.Math.Option.{Option, none, some}
+use Rattle.std.specs.Prelude.{Bool, true, false, cond, not, ◌&&◌, Option, Some, None, [], ◌∷◌, ◌++◌, ℕ, zero, suc, ◌+◌, ◌-◌, ◌*◌, ◌/◌, ◌%◌, eqb, leb, ltb}
 use Rattle.text.specs.Bytes.{Text}
 
 -- the digit 0; the digits are this byte and the next nine
@@ -27,7 +26,7 @@ number_after a (b ∷ bs) = number_after (a * 10 + (b - digit_zero)) bs
 
 -- "names to 65,535, values to 4,294,967,295": a word as a number of at most `most`
 unfoldable pub read_number : ℕ → Text → Option ℕ
-read_number most w = cond (plain_digits w && leb (number_after 0 w) most) (some (number_after 0 w)) none
+read_number most w = cond (plain_digits w && leb (number_after 0 w) most) (Some (number_after 0 w)) None
 
 -- the digit of a number below ten
 abbrev pub digit : ℕ → ℕ

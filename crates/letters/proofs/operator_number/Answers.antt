@@ -1,26 +1,12 @@
-use Rattle.letters.proofs.LookUp.{no_empty, no_first, begins_with}
+use Rattle.std.proofs.Common.{refl, ◌∙◌}
+use Rattle.letters.specs.OperatorWords.{operator_words}
+use Rattle.letters.proofs.LookUp.{no_place, at_place}
 use Rattle.letters.proofs.operator_number.Goals as goal
 
-pub returns-then-word-eq0 : goal.returns-then-word-eq0
-returns-then-word-eq0 c = search no_empty
+pub returns-in_err-place : goal.returns-in_err-place
+unfolding operator_words
+returns-in_err-place c = c.from_residual.ensures ∙ no_place _ _ _ c.place_of.ensures.value refl c.in_err-place.was
 
-pub create_number-requires : goal.create_number-requires
-create_number-requires c = search begins_with
-
-pub bind_number-requires : goal.bind_number-requires
-bind_number-requires c = search begins_with
-
-pub value_number-requires : goal.value_number-requires
-value_number-requires c = search begins_with
-
-pub exists_number-requires : goal.exists_number-requires
-exists_number-requires c = search begins_with
-
-pub remove_number-requires : goal.remove_number-requires
-remove_number-requires c = search begins_with
-
-pub list_number-requires : goal.list_number-requires
-list_number-requires c = search begins_with
-
-pub returns-in_default : goal.returns-in_default
-returns-in_default c = search no_first
+pub returns : goal.returns
+unfolding operator_words
+returns c = at_place _ _ _ c.place_of.ensures.value refl _ c.in_ok-place.was

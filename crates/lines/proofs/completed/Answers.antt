@@ -1,8 +1,9 @@
+use Rattle.std.proofs.Common.{sym, ◌∙◌}
 use Rattle.lines.proofs.ArgumentLaws.{something_follows, nothing_follows}
 use Rattle.lines.proofs.completed.Goals as goal
 
-pub returns-then-end-line : goal.returns-then-end-line
-returns-then-end-line c = search something_follows
+pub returns-then-is_empty : goal.returns-then-is_empty
+returns-then-is_empty c = nothing_follows _ _ (sym c.is_empty.ensures ∙ c.if-is_empty.true)
 
-pub returns : goal.returns
-returns c = search nothing_follows
+pub returns-else-is_empty : goal.returns-else-is_empty
+returns-else-is_empty c = something_follows _ _ (sym c.is_empty.ensures ∙ c.if-is_empty.false)

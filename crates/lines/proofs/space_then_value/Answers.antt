@@ -2,10 +2,13 @@ use Rattle.lines.proofs.CallLaws.{stop_at_space, stop_at_value, both_read}
 use Rattle.lines.proofs.space_then_value.Goals as goal
 
 pub returns-in_default : goal.returns-in_default
-returns-in_default c = search (stop_at_space)
+returns-in_default c = stop_at_space _ _ _ c.space_in-space.ensures.space c.in_default.is
 
-pub returns-in_default-argument_at : goal.returns-in_default-argument_at
-returns-in_default-argument_at c = search (stop_at_value, c.in_default-argument_at.not-Number)
+pub returns-in_default-argument_v : goal.returns-in_default-argument_v
+returns-in_default-argument_v c =
+    stop_at_value _ _ _ c.space_in-space.ensures.space _ c.in-Some.is _ c.space_in-space.ensures.rest _ c.argument_in-argument_v.ensures.argument c.in_default-argument_v.not-Number
 
 pub returns : goal.returns
-returns c = search both_read
+returns c =
+    both_read _ _ _ c.space_in-space.ensures.space _ c.in-Some.is _ c.space_in-space.ensures.rest _ c.argument_in-argument_v.ensures.argument
+    _ c.in-Number.is _ c.argument_in-argument_v.ensures.rest _ c.completed.ensures

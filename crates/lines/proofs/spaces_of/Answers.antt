@@ -1,20 +1,20 @@
-use Prim.Native.Nat.{◌≤◌}
-use native.Mathlib.Omega.{arith}
+use Rattle.std.proofs.Common.{◌≤◌, sym, ◌∙◌, arith}
 use Rattle.model.specs.Keys.{most_name}
-use Rattle.lines.proofs.ArgumentLaws.{name_fits}
+use Rattle.lines.proofs.ArgumentLaws.{argument_fits}
 use Rattle.lines.proofs.CallLaws.{alone, node_given, no_node}
 use Rattle.lines.proofs.spaces_of.Goals as goal
 
-pub returns-then-end-line : goal.returns-then-end-line
-returns-then-end-line c = search alone
+pub returns-then-is_empty : goal.returns-then-is_empty
+returns-then-is_empty c = alone _ (sym c.is_empty.ensures ∙ c.if-is_empty.true)
 
 pub returns-in_default : goal.returns-in_default
-returns-in_default c = search (no_node, c.in_default.not-Number)
+returns-in_default c = no_node _ (sym c.is_empty.ensures ∙ c.if-is_empty.false) _ c.argument_in-argument_n.ensures.argument c.in_default.not-Number
 
 pub overflow_cast-c : goal.overflow_cast-c
 overflow_cast-c c =
-    let small : c.in-Number.n ≤ most_name = search name_fits in
+    let small : c.in-Number.n ≤ most_name = argument_fits _ _ _ _ c.argument_in-argument_n.ensures.argument c.in-Number.is in
     record { fits = omega arith }
 
 pub returns : goal.returns
-returns c = search node_given
+returns c =
+    node_given _ (sym c.is_empty.ensures ∙ c.if-is_empty.false) _ c.argument_in-argument_n.ensures.argument _ c.in-Number.is _ c.argument_in-argument_n.ensures.rest _ c.completed.ensures

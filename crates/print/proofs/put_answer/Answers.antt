@@ -1,15 +1,19 @@
+use Rattle.std.proofs.Common.{sym, rules, arith}
 use Rattle.model.specs.OneCall.{observed}
-use native.Mathlib.Omega.{arith}
-use Rattle.print.proofs.Parts.{line_size, line_put}
+use Rattle.print.proofs.Puts.{room_after}
+use Rattle.print.proofs.Parts.{line_size, line_adds, line_done}
 use Rattle.print.proofs.put_answer.Goals as goal
 
-pub put_answer_text-behind_text-requires : goal.put_answer_text-behind_text-requires
-put_answer_text-behind_text-requires c =
-    record { room = omega (arith, line_size (observed c.args.a c.args.list.now)); held = c.requires.held; counted = c.requires.counted }
+pub put_result-requires : goal.put_result-requires
+put_result-requires c =
+    record { room = omega (arith, c.requires.room, line_size (observed c.args.a c.args.list.now)); held = c.requires.held; counted = c.requires.counted }
 
 pub put_byte-requires : goal.put_byte-requires
-put_byte-requires c =
-    omega (arith, line_size (observed c.args.a c.args.list.now))
+put_byte-requires c = room_after _ c.put_result.ensures (omega (arith, c.requires.room, line_size (observed c.args.a c.args.list.now)))
 
 pub returns : goal.returns
-returns c = search line_put
+returns c =
+    let all = line_adds (observed c.args.a c.args.list.now) c.requires.room c.put_result.ensures c.put_byte.ensures in
+    let lent = sym all.lent in
+    let put = all.put in
+    search (rules, line_done)

@@ -8,12 +8,12 @@ put_answer-requires c =
     call_printable _ _ c.args.line.now _ _ _ _ _ _ c.requires.0 c.execute_known-answer.ensures c.execute_known-answer.auto.list
     (search) (omega (arith, c.requires.1))
 
-pub put_answer-requires-in-Refused : goal.put_answer-requires-in-Refused
-put_answer-requires-in-Refused c = search (rules, refused_printable)
+pub put_answer-requires-in-Err : goal.put_answer-requires-in-Err
+put_answer-requires-in-Err c = search (rules, refused_printable)
 
-pub returns-in-Read : goal.returns-in-Read
-returns-in-Read c =
-    search (call_run, c.in-Read.is, c.read_line-reading.ensures, c.requires.0, c.requires.1)
+pub returns-in-Ok : goal.returns-in-Ok
+returns-in-Ok c =
+    search (call_run, c.in-Ok.is, c.read_line.ensures, c.requires.0, c.requires.1)
 
-pub returns-in-Refused : goal.returns-in-Refused
-returns-in-Refused c = search refused_run
+pub returns-in-Err : goal.returns-in-Err
+returns-in-Err c = search refused_run

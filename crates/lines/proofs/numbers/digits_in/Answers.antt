@@ -1,22 +1,25 @@
-use mathlib.Core.Path.{refl}
-use native.Mathlib.Omega.{arith}
-use Rattle.lines.proofs.Digits.{stop_below, stop_above, stop_past, digit_taken, digits_ended}
+use Rattle.std.proofs.Common.{sym, ◌∙◌, arith}
+use Rattle.text.specs.Numerals.{is_digit}
+use Rattle.lines.proofs.Digits.{no_digit, digit_taken, digits_ended, past_most}
 use Rattle.lines.proofs.numbers.digits_in.Goals as goal
 
-pub loop-i-init : goal.loop-i-init
-loop-i-init c = (omega arith, refl, omega arith, refl)
+pub returns-then-not-is_ascii_digit : goal.returns-then-not-is_ascii_digit
+unfolding is_digit
+returns-then-not-is_ascii_digit c = no_digit _ _ _ _ c.loop-b.invariant.1 (omega arith) (sym c.is_ascii_digit.ensures.value ∙ c.if-not-is_ascii_digit.true)
 
-pub returns-then-b-lt48 : goal.returns-then-b-lt48
-returns-then-b-lt48 c = search stop_below
+pub returns-then-value-from : goal.returns-then-value-from
+unfolding is_digit
+returns-then-value-from c =
+    past_most _ _ _ _
+    (digit_taken _ _ _ _ c.loop-b.invariant.1 _ (omega arith) (sym c.is_ascii_digit.ensures.value ∙ c.if-not-is_ascii_digit.false) c.from.ensures)
+    (omega (arith, c.from-in-loop-b.ensures))
 
-pub returns-then-b-gt57 : goal.returns-then-b-gt57
-returns-then-b-gt57 c = search stop_above
-
-pub returns-then-value-limit : goal.returns-then-value-limit
-returns-then-value-limit c = search stop_past
-
-pub loop-i-preserved : goal.loop-i-preserved
-loop-i-preserved c = (omega arith, search, omega arith, search digit_taken)
+pub loop-b-preserved : goal.loop-b-preserved
+unfolding is_digit
+loop-b-preserved c = (
+  omega (arith, c.from-in-loop-b.ensures),
+  digit_taken _ _ _ _ c.loop-b.invariant.1 _ (omega arith) (sym c.is_ascii_digit.ensures.value ∙ c.if-not-is_ascii_digit.false) c.from.ensures,
+)
 
 pub returns : goal.returns
 returns c = search digits_ended
