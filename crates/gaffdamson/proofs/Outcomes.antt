@@ -1,6 +1,7 @@
 -- What the C functions answer and leave, from what the functions below them say.
 use mathlib.Core.Bool.{Bool, true, false, cond}
 use mathlib.Core.List.{List, map}
+use mir.Val.{bool_byte}
 use mathlib.Core.Logic.{◌↔◌, ◌≢◌}
 use mathlib.Core.Path.{◌≡◌, refl, sym, ap, ap₂, ◌∙◌, subst}
 use Prim.Native.Nat.{ℕ, ◌≤◌}
@@ -23,7 +24,8 @@ use Rattle.layouts.proofs.Stored.{stored_lawful}
 use Rattle.fresh.specs.Prepare.{after_preparing}
 use Rattle.pairs.specs.InPairs.{CallInPairs}
 use Rattle.run.specs.declared.AnswerWords.{AnswerWords}
-use Rattle.run.specs.Words.{calls_in, answer_words}
+use Rattle.run.specs.Words.{calls_in, bit_of, answer_words}
+use Rattle.run.proofs.WordLaws.{bit_lem}
 use Rattle.run.specs.Runs.{has_room, Ran}
 use Rattle.run.proofs.Demand.{made_or_refused}
 use Rattle.gaffdamson.specs.Calls.{answer_on, Called, CalledInPairs, preparation_of, preparation_words, PreparedAs, run_on, run_word, RanAs}
@@ -91,6 +93,11 @@ prepared_as b b' p r P w e =
       buffer = w;
       preparing = subst (λ (x : Result ℕ Refusal). Preparing b x b') same P;
     }
+
+-- ---- is it a store, in a word
+
+pub bit_told : (s t : Bool) (r : ℕ) → s ≡ t → r ≡ bool_byte s → r ≡ bit_of t
+bit_told s t r e f = f ∙ bit_lem s ∙ ap bit_of e
 
 -- ---- a run, with its answer in a word
 
