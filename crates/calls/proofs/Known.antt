@@ -16,7 +16,7 @@ use Rattle.model.specs.declared.Operator.TheVariants.{Create, Bind, Value as Val
 use Rattle.model.specs.declared.Refusal.{Refusal}
 use Rattle.model.specs.declared.Refusal.TheVariants.{NotAStore}
 use Rattle.model.specs.declared.Removal.{Removal}
-use Rattle.model.specs.Operators.{operator_of, reads_of, row_of}
+use Rattle.model.specs.Operators.{operator_of, reads_of}
 use Rattle.model.specs.Tuples.{Tuples, missing}
 use Rattle.layouts.specs.Buffer.{capacity_of, tuples_of, is_store}
 use Rattle.model.specs.Steps.{Reply, fields_of, decoded, first_argument, would_list, would_add, idle_reply}
@@ -169,9 +169,6 @@ module _ (b l : List ℕ) (c : Call) (d : Decoded) (D : d ≡ decoded c) (p : fi
 -- what the rest of the call requires
 pub looked_up_selects : (c : Call) (t : Bool) → t ≡ selects_nothing c → t ≡ false → selects_nothing c ≡ false
 looked_up_selects c t T e = sym T ∙ e
-
-pub decoded_row : (c : Call) (d : Decoded) → d ≡ decoded c → d.row ≡ row_of c.operator
-decoded_row c d D = ap (λ (x : Decoded). x.row) D
 
 pub decoded_fields : (c : Call) (d : Decoded) → d ≡ decoded c → d.fields ≡ fields_of c
 decoded_fields c d D = ap (λ (x : Decoded). x.fields) D

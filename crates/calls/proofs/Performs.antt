@@ -7,7 +7,6 @@ use Prim.Native.Nat.{ℕ, ◌-◌, ◌≤◌}
 use native.Mathlib.Omega.{arith}
 use lib.ListN.{length}
 use Rattle.std.specs.Prelude.{Ok}
-use Rattle.model.specs.declared.Answer.{Answer}
 use Rattle.model.specs.declared.Answer.TheVariants.{Name, Added, Removed, Value, YesNo, List as Listed}
 use Rattle.model.specs.declared.Direction.{Direction}
 use Rattle.model.specs.declared.Fields.{Fields}
@@ -18,7 +17,7 @@ use Rattle.model.specs.declared.Operator.TheVariants.{Create, Bind, Value as Val
 use Rattle.model.specs.declared.Removal.{Removal}
 use Rattle.model.specs.Tuples.{any_present, add_all}
 use Rattle.layouts.specs.Buffer.{tuples_of, is_store}
-use Rattle.model.specs.Steps.{object_keys, created, first_value, destroyed, listed, reply, idle_reply, after}
+use Rattle.model.specs.Steps.{object_keys, created, first_value, destroyed, listed, reply, after}
 use Rattle.model.specs.OneCall.{answer_of, list_after, writes}
 use Rattle.chain.specs.Links.{Linked, Edited}
 use Rattle.edit.proofs.Built.{unedited, store_linked}
@@ -47,17 +46,11 @@ module _ (r : Removal) (f : Fields) (h : NamesRead r f) where
   pub named_second : (d : Direction) → r ≡ Removal.GN d → f.m ≢ 0
   named_second d e = names_of e
 
-  pub named_edge_of_nodes : (d : Direction) → r ≡ Removal.NG d → f.g ≢ 0
-  named_edge_of_nodes d e = names_of e
-
   pub named_node : r ≡ Removal.UN → f.n ≢ 0
   named_node e = names_of e
 
   pub named_space : r ≡ Removal.US → f.s ≢ 0
   named_space e = names_of e
-
-pub removed_as : (r x : Removal) (f : Fields) {b b' : List ℕ} → r ≡ x → Edited b b' (destroyed x f (tuples_of b)) → Edited b b' (destroyed r f (tuples_of b))
-removed_as r x f {b = b} {b' = b'} e E = subst (λ (y : Removal). Edited b b' (destroyed y f (tuples_of b))) (sym e) E
 
 -- ---- what each family of operators requires
 
@@ -129,6 +122,3 @@ module _ (op : Operator) (x : ℕ) (f : Fields) (b l : List ℕ) where
       (record { answer = ap (λ (n : ℕ). Ok (Listed n)) h; list = w; edited = unedited b (tuples_of b) L refl; reading = λ z. refl })
 
 -- ---- with nothing as the space
-
-pub idle_as : (op known : Operator) (x : ℕ) (a : Answer) → op ≡ known → Ok a ≡ answer_of (idle_reply known x) → Ok a ≡ answer_of (idle_reply op x)
-idle_as op known x a e A = A ∙ ap (λ (o : Operator). answer_of (idle_reply o x)) (sym e)

@@ -4,12 +4,9 @@ use mathlib.Core.List.{List, []}
 use mathlib.Core.Path.{◌≡◌, refl, sym, ap, ◌∙◌}
 use Prim.Native.Nat.{ℕ}
 use lib.Dec.{leb}
-use borrow.Author.Tests.{eqb-true, leb-true}
+use borrow.Author.Tests.{leb-true}
 use Rattle.model.specs.declared.Call.{Call}
 use Rattle.model.specs.declared.Decoded.{Decoded}
-use Rattle.model.specs.declared.Fields.{Fields}
-use Rattle.model.specs.declared.Key.{Key}
-use Rattle.model.specs.declared.Operator.{Operator}
 use Rattle.model.specs.Keys.{space_key, node_key}
 use Rattle.model.specs.Numbers.{every_up_to}
 use Rattle.model.specs.Operators.{within, reads_of, asks_of}
@@ -23,19 +20,7 @@ use Rattle.located.specs.declared.Located.{Located}
 use Rattle.located.specs.Located.{Told}
 use Rattle.refusals.specs.Checks.{Unstopped}
 
-pub absent_told : (k : Key) (ts : Tuples) (x : Bool) → x ≡ present k ts → not x ≡ not (present k ts)
-absent_told k ts x X = ap not X
-
 -- ---- what an operator works on, once it is known which it is
-
-pub worked_on_lem : (op known : Operator) (f : Fields) (ts : Tuples) (x : Bool) → op ≡ known → x ≡ any_present (worked_on known f) ts
-    → not x ≡ not (any_present (worked_on op f) ts)
-worked_on_lem op known f ts x e X = ap not (X ∙ ap (λ (o : Operator). any_present (worked_on o f) ts) (sym e))
-
-pub works_on_none : (op known : Operator) (f : Fields) (ts : Tuples) → op ≡ known → worked_on known f ≡ [] → true ≡ not (any_present (worked_on op f) ts)
-unfolding any_present
-works_on_none op known f ts e none =
-    ap (λ (ks : List Key). not (any_present ks ts)) (sym none ∙ ap (λ (o : Operator). worked_on o f) (sym e))
 
 -- ---- what one row asks for goes with what it reads
 
@@ -86,10 +71,6 @@ module _ (d : Decoded) (U : Unstopped d) where
       (sym (ap (λ (x : Bool). not x || (asks_of o).space) (asks_of_lem (λ x. x.row.asks.node || x.row.reads.m) true e))
       ∙ known_passes asks_together U.call all_ask U.known)
 
-  in_one_place : d.row.asks.universe ≡ true → d.row.asks.node ≡ false
-  in_one_place e =
-      of_asks (λ x. x.row.asks.node) false (ap (λ (x : ℕ). (asks_of x).node) (eqb-true o 57 (asks_of_lem (λ x. x.row.asks.universe) true e)))
-
 module _ (b : List ℕ) (d : Decoded) where
   abbrev ts : Tuples
   ts = tuples_of b
@@ -112,16 +93,8 @@ module _ (b : List ℕ) (d : Decoded) where
   unfolding edge_absent
   edge_unasked e = sym (ap (λ (t : Bool). t && not (any_present (worked_on d.operator d.fields) ts)) (not_yes d.row.asks.edge e))
 
-  pub edge_asked : (x : Bool) → not d.row.asks.edge ≡ false → x ≡ not (any_present (worked_on d.operator d.fields) ts) → x ≡ edge_absent d ts
-  unfolding edge_absent
-  edge_asked x e X = X ∙ sym (ap (λ (t : Bool). t && not (any_present (worked_on d.operator d.fields) ts)) (not_no d.row.asks.edge e))
-
   module _ (l : Located) (T : Told b d l) (U : Unstopped d) where
     -- ---- 5
-
-    pub space_unasked : not d.row.asks.space ≡ true → false ≡ space_absent d ts
-    unfolding space_absent
-    space_unasked e = sym (ap (λ (t : Bool). t && not space_there) (not_yes d.row.asks.space e))
 
     pub space_asked : not d.row.asks.space ≡ false → not l.space ≡ space_absent d ts
     unfolding space_absent
@@ -137,17 +110,6 @@ module _ (b : List ℕ) (d : Decoded) where
       space_there_lem h =
           let s = space_is_asked d U h in
           T.space (space_is_read d U s) ∙ not_no space_there (and_no d.row.asks.space _ passed s)
-
-      pub node_in_universe_lem : (k : Key) (x : Bool) → d.row.asks.universe ≡ true → k ≡ node_key 0 d.fields.n → x ≡ not (present k ts) → x ≡ node_absent d ts
-      unfolding node_absent
-      node_in_universe_lem k x e K X =
-          X
-          ∙ ap (λ (j : Key). not (present j ts)) K
-          ∙ (λ i. ((sym (in_one_place d U e) i) && not node_there) || ((sym e i) && not node_in_universe))
-
-      pub node_unasked : d.row.asks.universe ≡ false → not d.row.asks.node ≡ true → false ≡ node_absent d ts
-      unfolding node_absent
-      node_unasked u n = λ i. ((sym (not_yes d.row.asks.node n) i) && not node_there) || ((sym u i) && not node_in_universe)
 
       pub node_asked : d.row.asks.universe ≡ false → not d.row.asks.node ≡ false → not l.node ≡ node_absent d ts
       unfolding node_absent

@@ -22,10 +22,10 @@ use Rattle.model.specs.declared.Pair.{Pair}
 use Rattle.model.specs.declared.Refusal.{Refusal}
 use Rattle.model.specs.declared.Refusal.TheVariants.{Full}
 use Rattle.model.specs.declared.Row.{Row}
-use Rattle.model.specs.Operators.{reads_of, asks_of, row_of}
+use Rattle.model.specs.Operators.{row_of}
 use Rattle.model.specs.Tuples.{Tuples, present, add, missing}
 use Rattle.layouts.specs.Buffer.{word, capacity_of, tuples_of}
-use Rattle.model.specs.Steps.{decoded, object_keys, created, listed, would_list, would_add}
+use Rattle.model.specs.Steps.{decoded, object_keys, created, would_list, would_add}
 use Rattle.model.specs.Refusals.{Stop, stop, first, selects_nothing, no_operator, list_short, full, of_call, of_tuples, if_looked_up, earlier, refusal_of}
 use Rattle.model.proofs.Bools.{equal}
 use Rattle.layouts.proofs.Store.{tuples_fit}
@@ -118,16 +118,7 @@ module _ (c : Call) (row : Row) (R : row ≡ row_of c.operator) where
   unfolding no_operator
   row_known = ap (λ (r : Row). not r.known) R
 
-  pub row_reads : row.reads ≡ reads_of c.operator
-  row_reads = ap (λ (r : Row). r.reads) R
-
-  pub row_asks : row.asks ≡ asks_of c.operator
-  row_asks = ap (λ (r : Row). r.asks) R
-
 -- ---- 9
-
-pub short_counted : (l : Listing) (f : Fields) (ts : Tuples) (room k : ℕ) → k ≡ length (listed l f ts) → ltb room k ≡ ltb room (length (listed l f ts))
-short_counted l f ts room k K = ap (ltb room) K
 
 pub short_as : (d : Decoded) (op : Operator) (ts : Tuples) (room : ℕ) (x : Bool) → d.operator ≡ op
     → x ≡ ltb room (length (would_list op d.fields ts)) → x ≡ list_short d ts room
@@ -158,9 +149,6 @@ adds_none d op ts K e = would_add_lem d op ts 0 K (sym (ap (λ (ks : List Key). 
 
 pub used_fits : (b : List ℕ) (x t y : ℕ) → Linked b → x ≡ word b 0 → t ≡ length (tuples_of b) → y ≡ t → y ≤ x
 used_fits b x t y L X T Y = omega (arith, X, T, Y, L.chains.capacity, tuples_fit b L.chains)
-
-pub free_told : (b : List ℕ) (x t y : ℕ) → Linked b → x ≡ word b 0 → t ≡ length (tuples_of b) → y ≡ t → x - y ≡ capacity_of b - length (tuples_of b)
-free_told b x t y L X T Y = ap₂ ◌-◌ (X ∙ L.chains.capacity) (Y ∙ T)
 
 -- more to add than records left
 left_over : (C t a : ℕ) → t ≤ C → ltb (C - t) a ≡ ltb C (t + a)

@@ -2,7 +2,7 @@ use Rattle.std.proofs.lemmas.Result.{err_from_is_err_and}
 use Rattle.refusals.proofs.Stops.{unstopped}
 use Rattle.located.proofs.Nearby.{universe_near, also_near, located_told}
 use Rattle.edit.proofs.Built.{store_linked}
-use Rattle.calls.proofs.Known.{ready, refused_known, performed_known, decoded_row}
+use Rattle.calls.proofs.Known.{ready, refused_known, performed_known}
 use Rattle.calls.proofs.look_up.Goals as goal
 
 pub locate_universe-above-requires : goal.locate_universe-above-requires

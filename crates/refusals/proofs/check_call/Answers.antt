@@ -1,5 +1,5 @@
 use Rattle.model.specs.Refusals.{of_call}
-use Rattle.refusals.proofs.Stops.{stops, passes, nothing_left, row_known, row_reads, row_asks}
+use Rattle.refusals.proofs.Stops.{stops, passes, nothing_left, row_known}
 use Rattle.refusals.proofs.check_call.Goals as goal
 
 pub returns-then-not-row : goal.returns-then-not-row

@@ -1,5 +1,4 @@
 use Rattle.edit.proofs.Built.{store_linked}
-use Rattle.refusals.proofs.Stops.{stops, passes, nothing_left}
 use Rattle.refusals.proofs.check_step.Goals as goal
 
 pub edge_absent-requires : goal.edge_absent-requires

@@ -1,4 +1,4 @@
-use Rattle.refusals.proofs.Stops.{used_fits, free_told}
+use Rattle.refusals.proofs.Stops.{used_fits}
 use Rattle.refusals.proofs.free_records.Goals as goal
 
 pub overflow_sub-result : goal.overflow_sub-result

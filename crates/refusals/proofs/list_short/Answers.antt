@@ -1,7 +1,6 @@
 use Rattle.listings.proofs.Asked.{surely_not_short}
 use Rattle.listings.proofs.Stores.{store_readable}
 use Rattle.edit.proofs.Built.{store_linked}
-use Rattle.refusals.proofs.Stops.{short_counted}
 use Rattle.refusals.proofs.list_short.Goals as goal
 
 pub surely_fits-requires : goal.surely_fits-requires

@@ -1,5 +1,5 @@
 use Rattle.edit.proofs.Built.{store_linked}
-use Rattle.calls.proofs.Performs.{pair_edge, pair_second, named_edge, named_second, named_edge_of_nodes, named_node, named_space, removed_as}
+use Rattle.calls.proofs.Performs.{pair_edge, pair_second, named_edge, named_second, named_node, named_space}
 use Rattle.calls.proofs.perform.destroy.Goals as goal
 
 pub destroy_pair-requires : goal.destroy_pair-requires
