@@ -24,7 +24,7 @@ fn key_absent(b: &[u32], hint: usize, k: Key) -> bool
 }
 
 // Condition 5: s is absent.
-#[tactic(auto, unfolding(model::specs::Refusals::space_absent, layouts::specs::Buffer::tuples_of))]
+#[tactic(auto, unfolding(model::specs::Refusals::space_absent))]
 fn space_absent(b: &[u32], d: Decoded, l: Located) -> bool
     requires { Told b.now d l × Unstopped d }
     ensures { result ≡ space_absent d (tuples_of b.now) }
@@ -36,7 +36,7 @@ fn space_absent(b: &[u32], d: Decoded, l: Located) -> bool
 }
 
 // Condition 6: n is absent from s, or, for 57, from 0. Asked where condition 5 does not apply.
-#[tactic(auto, unfolding(model::specs::Refusals::node_absent, model::specs::Refusals::space_absent, layouts::specs::Buffer::tuples_of))]
+#[tactic(auto, unfolding(model::specs::Refusals::node_absent))]
 fn node_absent(b: &[u32], d: Decoded, l: Located) -> bool
     requires { Linked b.now × Told b.now d l × Unstopped d × (space_absent d (tuples_of b.now) ≡ false) }
     ensures { result ≡ node_absent d (tuples_of b.now) }
@@ -51,7 +51,7 @@ fn node_absent(b: &[u32], d: Decoded, l: Located) -> bool
 }
 
 // Condition 7: m, where it is read, is absent from s. Asked where condition 5 does not apply.
-#[tactic(auto, using(crate::proofs::Absent::second_unread, crate::proofs::Absent::second_read), unfolding(model::specs::Refusals::second_absent, model::specs::Refusals::space_absent, layouts::specs::Buffer::tuples_of))]
+#[tactic(auto, using(crate::proofs::Absent::second_read), unfolding(model::specs::Refusals::second_absent))]
 fn second_absent(b: &[u32], d: Decoded, l: Located) -> bool
     requires { Told b.now d l × Unstopped d × (space_absent d (tuples_of b.now) ≡ false) }
     ensures { result ≡ second_absent d (tuples_of b.now) }
@@ -63,7 +63,7 @@ fn second_absent(b: &[u32], d: Decoded, l: Located) -> bool
 }
 
 // Is nothing present of what C, B, V and X work on.
-#[tactic(auto, unfolding(model::specs::Tuples::any_present, layouts::specs::Buffer::tuples_of, model::specs::Refusals::worked_on))]
+#[tactic(auto, unfolding(model::specs::Tuples::any_present, model::specs::Refusals::worked_on))]
 fn object_absent(b: &[u32], near: Near, op: Operator, f: Fields) -> bool
     requires { Linked b.now × NearIn b.now near }
     ensures { result ≡ not (any_present (worked_on op f) (tuples_of b.now)) }
@@ -79,7 +79,7 @@ fn object_absent(b: &[u32], near: Near, op: Operator, f: Fields) -> bool
 }
 
 // Condition 8: no such edge.
-#[tactic(auto, unfolding(model::specs::Refusals::edge_absent, layouts::specs::Buffer::tuples_of))]
+#[tactic(auto, unfolding(model::specs::Refusals::edge_absent))]
 fn edge_absent(b: &[u32], d: Decoded, near: Near) -> bool
     requires { Linked b.now × NearIn b.now near }
     ensures { result ≡ edge_absent d (tuples_of b.now) }
@@ -91,7 +91,6 @@ fn edge_absent(b: &[u32], d: Decoded, near: Near) -> bool
 }
 
 // Condition 9 for an S operator: the entries are counted only where the tuples could give more than the list holds.
-#[tactic(auto, unfolding(layouts::specs::Buffer::is_store, model::specs::Steps::listed, layouts::specs::Buffer::tuples_of))]
 fn list_short(b: &[u32], near: Near, l: Listing, f: Fields, room: usize) -> bool
     requires { (is_store b.now ≡ true) × NearIn b.now near × NamesAsked l f }
     ensures { result ≡ ltb room (length (listed l f (tuples_of b.now))) }
@@ -103,7 +102,7 @@ fn list_short(b: &[u32], near: Near, l: Listing, f: Fields, room: usize) -> bool
 }
 
 // Condition 9: the answer list is shorter than what the call would list; that is nothing but for S.
-#[tactic(auto, unfolding(layouts::specs::Buffer::is_store, model::specs::Refusals::list_short, layouts::specs::Buffer::tuples_of, model::specs::Steps::would_list))]
+#[tactic(auto, unfolding(model::specs::Refusals::list_short, model::specs::Steps::would_list))]
 fn is_short(b: &[u32], near: Near, d: Decoded, room: usize) -> bool
     requires { (is_store b.now ≡ true) × NearIn b.now near × Unstopped d }
     ensures { result ≡ list_short d (tuples_of b.now) room }
@@ -119,7 +118,7 @@ fn is_short(b: &[u32], near: Near, d: Decoded, room: usize) -> bool
 }
 
 // How many tuples the call would add; none but for C.
-#[tactic(auto, unfolding(model::specs::Tuples::missing, layouts::specs::Buffer::tuples_of, model::specs::Steps::would_add))]
+#[tactic(auto, unfolding(model::specs::Tuples::missing, model::specs::Steps::would_add))]
 fn count_added(b: &[u32], near: Near, universe: Near, d: Decoded) -> usize
     requires { Linked b.now × NearIn b.now near × NearIn b.now universe }
     ensures { result ≡ length (missing (would_add d.operator d.fields) (tuples_of b.now)) }
@@ -135,7 +134,6 @@ fn count_added(b: &[u32], near: Near, universe: Near, d: Decoded) -> usize
 }
 
 // How many records are free: word 0 is C.
-#[tactic(auto, unfolding(layouts::specs::Buffer::capacity_of, layouts::specs::Buffer::tuples_of))]
 fn free_records(b: &[u32]) -> usize
     requires { Linked b.now }
     ensures { result ≡ capacity_of b.now - length (tuples_of b.now) }
@@ -160,7 +158,6 @@ fn is_full(b: &[u32], near: Near, universe: Near, d: Decoded) -> bool
 
 // Conditions 2, 3, 12 and 4, whatever the store holds: the first that stops the call is the error.
 // `nothing` says that the space of the call is read and nothing.
-#[tactic(auto, unfolding(crate::specs::Checks::checked, model::specs::Refusals::first, model::specs::Refusals::of_call, model::specs::Refusals::selects_nothing))]
 pub fn check_call(c: Call, row: Row, nothing: bool) -> Result<(), Refusal>
     requires { (row ≡ row_of c.operator) × (nothing ≡ selects_nothing c) }
     ensures { result ≡ checked (first (of_call c)) }
