@@ -5,8 +5,9 @@ use Prim.Native.Nat.{ℕ}
 use contract.Lifetimes.{Lfts}
 use borrow.Fn.Kinds.{Dens, res_t, ended_of}
 use denote.Triple.Clauses.{AtExit}
+use Rattle.std.specs.Prelude.{Result, Ok}
 use Rattle.model.specs.declared.Answer.{Answer}
-use Rattle.model.specs.declared.Preparation.TheVariants.{Capacity}
+use Rattle.model.specs.declared.Refusal.{Refusal}
 use Rattle.model.specs.Tuples.{fresh}
 use Rattle.model.specs.Traces.{Trace}
 use Rattle.model.specs.CallLists.{MeetsDemand1, WholeList}
@@ -38,14 +39,14 @@ pub data CalledInPairsFromC : List ℕ → PairsMade → List ℕ → Type 0 whe
 -- it is one call in pairs
 pub called_in_pairs : {b b' : List ℕ} {x : PairsMade} → CalledInPairsFromC b x b' → OneInPairs b x b'
 called_in_pairs {b} {b'} {x} (called_from_c κs a r e K) =
-    read_in_words (λ (y : Answer). CallInPairs b x.lent x.call y b' x.left) _ r K.answer K.call
+    read_in_words (λ (y : Result Answer Refusal). CallInPairs b x.lent x.call y b' x.left) _ r K.answer K.call
 
 -- demand 1: of every call
 pub c_pairs_demand_1 : (b b' : List ℕ) (x : PairsMade) → CalledInPairsFromC b x b' → MeetsDemand1 stored b x b'
 c_pairs_demand_1 b b' x made = pairs_meet_demand_1 b b' x (called_in_pairs made)
 
 -- demand 3: for every C that preparing answers, the buffer that it leaves and every list of calls with lists of pairs
-pub c_pairs_demand_3 : (raw b b' : List ℕ) (C : ℕ) (xs : List PairsMade) → PreparedFromC raw (preparation_words (Capacity C)) b → Trace CalledInPairsFromC b xs b'
+pub c_pairs_demand_3 : (raw b b' : List ℕ) (C : ℕ) (xs : List PairsMade) → PreparedFromC raw (preparation_words (Ok C)) b → Trace CalledInPairsFromC b xs b'
     → WholeList stored C fresh (map exchange_in_pairs xs) b'
 c_pairs_demand_3 raw b b' C xs P calls =
     let Q = c_prepared raw b C P in

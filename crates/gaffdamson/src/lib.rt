@@ -3,22 +3,21 @@
 ghost use Rattle.std.specs.Prelude.{◌≡◌};
 ghost use Rattle.layouts.specs.Stored.{stored};
 ghost use Rattle.run.specs.Words.{call_of, bit_of};
-ghost use Rattle.run.specs.Runs.{Ran};
-ghost use Rattle.gaffdamson.specs.Calls.{Called, CalledInPairs, preparation_words, PreparedAs};
+ghost use Rattle.gaffdamson.specs.Calls.{Called, CalledInPairs, preparation_words, PreparedAs, run_word, RanAs};
 
-use model::{Answer, Pair, Preparation};
+use model::{Call, Pair, Refusal};
 use run::{AnswerWords, CallWords};
 
 // The kind of the answer of a buffer that was prepared.
 const CAPACITY: u32 = 5;
 
 // The answer of preparing, as words.
-fn preparation_words(p: Preparation) -> AnswerWords
+fn preparation_words(p: Result<u32, Refusal>) -> AnswerWords
     ensures { result ≡ preparation_words p }
 {
     match p {
-        Preparation::Refused(number) => run::answer_words(Answer::Refusal(number)),
-        Preparation::Capacity(c) => AnswerWords {
+        Err(refusal) => run::answer_words(Err(refusal)),
+        Ok(c) => AnswerWords {
             kind: CAPACITY,
             first: c,
             second: 0,
@@ -31,8 +30,7 @@ fn preparation_words(p: Preparation) -> AnswerWords
 pub extern "C" fn gaffdamson_prepare(store: &mut [u32]) -> AnswerWords
     ensures { PreparedAs store.old result store.new }
 {
-    let prepared = fresh::prepare(store);
-    preparation_words(prepared)
+    preparation_words(fresh::prepare(store))
 }
 
 // Is the buffer a store: 1 for yes, 0 for no.
@@ -40,7 +38,7 @@ pub extern "C" fn gaffdamson_prepare(store: &mut [u32]) -> AnswerWords
 pub extern "C" fn gaffdamson_is_store(store: &[u32]) -> u32
     ensures { result ≡ bit_of (stored.is_store store.now) }
 {
-    run::bit_of(verify::is_store(store))
+    u32::from(verify::is_store(store))
 }
 
 // One call on any buffer; pairs stand in the answer list as edge × 65,536 + node.
@@ -52,8 +50,7 @@ pub extern "C" fn gaffdamson_call(
 ) -> AnswerWords
     ensures { Called store.old list.old (call_of call) result store.new list.new }
 {
-    let asked = run::call_of(call);
-    let answer = calls::execute(store, asked, list);
+    let answer = calls::execute(store, Call::from(call), list);
     run::answer_words(answer)
 }
 
@@ -66,12 +63,21 @@ pub extern "C" fn gaffdamson_call_pairs(
 ) -> AnswerWords
     ensures { CalledInPairs store.old list.old (call_of call) result store.new list.new }
 {
-    let asked = run::call_of(call);
-    let answer = pairs::execute_pairs(store, asked, list);
+    let answer = pairs::execute_pairs(store, Call::from(call), list);
     run::answer_words(answer)
 }
 
-// Runs a whole list of calls; the store is checked once.
+// What a run comes to, as a word: 0 where all calls were made, else the number of the condition that stopped it.
+fn run_word(r: Result<(), Refusal>) -> u32
+    ensures { result ≡ run_word r }
+{
+    match r {
+        Ok(()) => 0,
+        Err(refusal) => u32::from(refusal),
+    }
+}
+
+// Runs a whole list of calls; the store is checked once. Answers 0 when all were made, 1 when the buffer is no store, 9 when there is not enough room.
 #[unsafe(no_mangle)]
 pub extern "C" fn gaffdamson_run(
     store: &mut [u32],
@@ -79,7 +85,7 @@ pub extern "C" fn gaffdamson_run(
     answers: &mut [u32],
     lists: &mut [u32],
 ) -> u32
-    ensures { Ran store.old calls.now answers.old lists.old result store.new answers.new lists.new }
+    ensures { RanAs store.old calls.now answers.old lists.old result store.new answers.new lists.new }
 {
-    run::run_calls(store, calls, answers, lists)
+    run_word(run::run_calls(store, calls, answers, lists))
 }

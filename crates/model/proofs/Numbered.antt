@@ -1,5 +1,7 @@
 -- Each condition has a number of its own (specs/Numbered.antt).
 use mathlib.Core.Path.{◌≡◌, refl, sym, ap, ◌∙◌}
+use Prim.Native.Nat.{◌≤◌}
+use native.Mathlib.Omega.{arith}
 use Rattle.model.specs.declared.Refusal.{Refusal}
 use Rattle.model.specs.declared.Refusal.TheVariants.{NotAStore, NoOperator, ZeroName, UniverseDestroyed, SpaceAbsent, NodeAbsent, SecondAbsent, EdgeAbsent, ListTooShort, Full, Unreadable, NoSelection}
 use Rattle.model.specs.Numbered.{number_of, refusal_in}
@@ -23,3 +25,19 @@ number_back NoSelection = refl
 -- so that what is said of conditions by name is said of their numbers
 pub number_of_injective : (a b : Refusal) → number_of a ≡ number_of b → a ≡ b
 number_of_injective a b e = sym (number_back a) ∙ ap refusal_in e ∙ number_back b
+
+-- none has the number 0
+pub number_positive : (refusal : Refusal) → 1 ≤ number_of refusal
+unfolding number_of
+number_positive NotAStore = omega arith
+number_positive NoOperator = omega arith
+number_positive ZeroName = omega arith
+number_positive UniverseDestroyed = omega arith
+number_positive SpaceAbsent = omega arith
+number_positive NodeAbsent = omega arith
+number_positive SecondAbsent = omega arith
+number_positive EdgeAbsent = omega arith
+number_positive ListTooShort = omega arith
+number_positive Full = omega arith
+number_positive Unreadable = omega arith
+number_positive NoSelection = omega arith

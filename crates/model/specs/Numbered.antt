@@ -18,7 +18,7 @@ number_of Full = 10
 number_of Unreadable = 11
 number_of NoSelection = 12
 
--- the condition of a number; any number above 11 is read as 12, and nothing rests on that
+-- the condition of a number; a number that none of the others has is read as 12, and nothing rests on that
 unfoldable pub refusal_in : ℕ → Refusal
 refusal_in number =
     cond (eqb number 1) NotAStore

@@ -9,6 +9,13 @@ use native.Mathlib.Omega.{arith}
 use lib.Dec.{eqb, leb, ltb}
 use lib.ListN.{length, drop, length-map}
 use borrow.Author.Tests.{eqb-true, eqb-false, ltb-true, ltb-false, lt-ltb, le-ltb, leb-true, leb-false, le-leb}
+use denote.Enum.Bare.{same_true}
+use Rattle.std.specs.Prelude.{Result, Ok, Err, Some, Option as Maybe}
+use Rattle.std.specs.Option.{option_eq}
+use Rattle.std.specs.Result.{result_err}
+use Rattle.std.proofs.Common.{rules}
+use Rattle.model.specs.contracts.RefusalPartialEq.TheImpl.{eq-value}
+use Rattle.model.specs.contracts.Refusal.{the_type}
 use Rattle.model.specs.declared.Answer.{Answer}
 use Rattle.model.specs.declared.Answer.TheVariants.{List as Counted}
 use Rattle.model.specs.declared.Call.{Call}
@@ -17,15 +24,19 @@ use Rattle.model.specs.declared.Listing.{Listing}
 use Rattle.model.specs.declared.Operator.{Operator}
 use Rattle.model.specs.declared.Operator.TheVariants.{Create, Bind, Value as Values, Exists, Destroy, List as Lists}
 use Rattle.model.specs.declared.Pair.{Pair}
+use Rattle.model.specs.declared.Refusal.{Refusal}
+use Rattle.model.specs.declared.Refusal.TheVariants.{NotAStore, NoOperator, ZeroName, UniverseDestroyed, SpaceAbsent, NodeAbsent, SecondAbsent, EdgeAbsent, ListTooShort, Full}
+use Rattle.model.specs.Numbered.{number_of}
 use Rattle.model.specs.Operators.{operator_of, table}
 use Rattle.model.specs.Tuples.{Tuples, missing}
-use Rattle.model.specs.Steps.{Reply, refusal, name, added, removed, valued, yes_no, pairs, fields_of, decoded, first_argument, listed, would_list, would_add, reply}
+use Rattle.model.specs.Steps.{Reply, pairs, fields_of, decoded, first_argument, listed, would_list, would_add, reply}
 use Rattle.model.specs.Refusals.{Stop, stop, first, selects_nothing, no_operator, zero_name, destroys_universe, space_absent, node_absent, second_absent, edge_absent, list_short, full, of_call, refusal_of}
 use Rattle.model.specs.Machine.{outcome_of, step, idle, machine}
 use Rattle.model.specs.OneCall.{answer_of, pack, list_after, writes, OnStore, OneCall}
 use Rattle.model.proofs.Bools.{not_yes, not_no, failed, clash}
 use Rattle.model.proofs.Steps.{first_passed}
-use Rattle.model.proofs.Refusals.{looked_up, not_looked_up, stopped, reading, first_none, first_some, every_number, first_number, answer_form, refused_exactly}
+use Rattle.model.proofs.Demand1.{refused_reply}
+use Rattle.model.proofs.Refusals.{looked_up, not_looked_up, stopped, reading, first_none, first_some, every_condition, first_condition, answer_form, refused_exactly}
 use Rattle.layouts.specs.Buffer.{capacity_of, tuples_of, is_store}
 use Rattle.layouts.specs.Stored.{stored}
 use Rattle.layouts.proofs.Stored.{stored_lawful}
@@ -38,7 +49,7 @@ use Rattle.listings.proofs.Stores.{store_readable, names_asked}
 use Rattle.pairs.specs.declared.Decision.{Decision}
 use Rattle.pairs.specs.declared.Decision.TheVariants.{Answered, Listed}
 use Rattle.pairs.specs.InPairs.{pairs_after, CallInPairs}
-use Rattle.pairs.specs.Decisions.{list_refused, operator_query, query_for, decided_list, decided_answer, Decided}
+use Rattle.pairs.specs.Decisions.{operator_query, query_for, decided_list, decided_answer, Decided}
 
 -- ---- laws of lists
 
@@ -52,29 +63,30 @@ map_drop f (suc k) (x ∷ xs) = map_drop f k xs
 -- the conditions before it, where the space is looked up
 abbrev before : Tuples → Call → List Stop
 before ts c =
-    stop 2 (no_operator c)
-    ∷ stop 3 (zero_name c)
-    ∷ stop 4 (destroys_universe c)
-    ∷ stop 5 (space_absent (decoded c) ts)
-    ∷ stop 6 (node_absent (decoded c) ts)
-    ∷ stop 7 (second_absent (decoded c) ts)
-    ∷ stop 8 (edge_absent (decoded c) ts)
+    stop NoOperator (no_operator c)
+    ∷ stop ZeroName (zero_name c)
+    ∷ stop UniverseDestroyed (destroys_universe c)
+    ∷ stop SpaceAbsent (space_absent (decoded c) ts)
+    ∷ stop NodeAbsent (node_absent (decoded c) ts)
+    ∷ stop SecondAbsent (second_absent (decoded c) ts)
+    ∷ stop EdgeAbsent (edge_absent (decoded c) ts)
     ∷ []
 
 -- it, and the one behind it
 abbrev last : Bool → Bool → List Stop
-last short fills = stop 9 short ∷ stop 10 fills ∷ []
+last short fills = stop ListTooShort short ∷ stop Full fills ∷ []
 
-abbrev not_nine : ℕ → Bool
-not_nine n = not (eqb n 9)
+abbrev not_short : Refusal → Bool
+not_short r = not (eqb (number_of r) 9)
 
-never_nine : (xs : List Stop) → every_number not_nine xs ≡ true → first xs ≢ some 9
-never_nine xs h e = false≢true (first_number not_nine xs 9 h e)
+never_short : (xs : List Stop) → every_condition not_short xs ≡ true → first xs ≢ some ListTooShort
+unfolding number_of
+never_short xs h e = false≢true (first_condition not_short xs ListTooShort h e)
 
-short_wins : (short fills : Bool) → first (last short fills) ≡ some 9 → short ≡ true
-unfolding first
+short_wins : (short fills : Bool) → first (last short fills) ≡ some ListTooShort → short ≡ true
+unfolding first number_of
 short_wins true fills e = refl
-short_wins false fills e = absurd (never_nine (stop 10 fills ∷ []) refl e)
+short_wins false fills e = absurd (never_short (stop Full fills ∷ []) refl e)
 
 -- nothing stops the call but that its list is too short
 record OnlyShort (ts : Tuples) (c : Call) (room : ℕ) : Type 0 where
@@ -93,31 +105,32 @@ module _ (C : ℕ) (ts : Tuples) (c : Call) where
       → refusal_of C ts c room ≡ first (last (list_short (decoded c) ts room) (full C (decoded c) ts))
   last_decide room N p = looked_up C ts c room N ∙ first_none (before ts c) _ p
 
-  stopped_before : (room number : ℕ) → selects_nothing c ≡ false → first (before ts c) ≡ some number → refusal_of C ts c room ≡ some number
-  stopped_before room number N p = looked_up C ts c room N ∙ first_some (before ts c) _ number p
+  stopped_before : (room : ℕ) (condition : Refusal) → selects_nothing c ≡ false → first (before ts c) ≡ some condition → refusal_of C ts c room ≡ some condition
+  stopped_before room condition N p = looked_up C ts c room N ∙ first_some (before ts c) _ condition p
 
-  still_short : (room : ℕ) → OnlyShort ts c room → refusal_of C ts c room ≡ some 9
+  still_short : (room : ℕ) → OnlyShort ts c room → refusal_of C ts c room ≡ some ListTooShort
   unfolding first
   still_short room S =
       last_decide room S.selects S.passes ∙ ap (λ (t : Bool). first (last t (full C (decoded c) ts))) S.short
 
   -- condition 9 wins only so
-  only_short : (room : ℕ) → refusal_of C ts c room ≡ some 9 → OnlyShort ts c room
+  only_short : (room : ℕ) → refusal_of C ts c room ≡ some ListTooShort → OnlyShort ts c room
+  unfolding number_of
   only_short room e = go (selects_nothing c) refl
     where
-      passing : selects_nothing c ≡ false → (r : Option ℕ) → first (before ts c) ≡ r → OnlyShort ts c room
+      passing : selects_nothing c ≡ false → (r : Option Refusal) → first (before ts c) ≡ r → OnlyShort ts c room
       passing N none p = record { selects = N; passes = p; short = short_wins _ _ (sym (last_decide room N p) ∙ e) }
-      passing N (some n) p = absurd (never_nine (before ts c) refl (p ∙ sym (stopped_before room n N p) ∙ e))
+      passing N (some n) p = absurd (never_short (before ts c) refl (p ∙ sym (stopped_before room n N p) ∙ e))
 
       go : (t : Bool) → selects_nothing c ≡ t → OnlyShort ts c room
-      go true N = absurd (never_nine (of_call c) (unfold of_call in refl) (sym (not_looked_up C ts c room N) ∙ e))
+      go true N = absurd (never_short (of_call c) (unfold of_call in refl) (sym (not_looked_up C ts c room N) ∙ e))
       go false N = passing N (first (before ts c)) refl
 
   -- where it does not win, a longer list changes nothing
-  longer_list : (less room : ℕ) → less ≤ room → refusal_of C ts c less ≢ some 9 → refusal_of C ts c room ≡ refusal_of C ts c less
+  longer_list : (less room : ℕ) → less ≤ room → refusal_of C ts c less ≢ some ListTooShort → refusal_of C ts c room ≡ refusal_of C ts c less
   longer_list less room le h = go (selects_nothing c) refl
     where
-      passing : selects_nothing c ≡ false → (r : Option ℕ) → first (before ts c) ≡ r → refusal_of C ts c room ≡ refusal_of C ts c less
+      passing : selects_nothing c ≡ false → (r : Option Refusal) → first (before ts c) ≡ r → refusal_of C ts c room ≡ refusal_of C ts c less
       passing N none p =
           let enough = failed (list_short (decoded c) ts less) (λ t. h (still_short less (record { selects = N; passes = p; short = t }))) in
           last_decide room N p
@@ -175,7 +188,7 @@ module _ (ts : Tuples) (c : Call) (Q : Queried ts c) where
       → (machine C ts c room).answer ≡ pairs (length (queried (query_for c) ts)) (queried (query_for c) ts)
   unfolding machine outcome_of reply
   lists_queried C room N pass =
-      ap (λ (r : Option ℕ). (outcome_of r ts c).answer) pass
+      ap (λ (r : Option Refusal). (outcome_of r ts c).answer) pass
       ∙ ap (λ (t : Bool). (cond t (idle c ts) (step c ts)).answer) N
       ∙ ap (λ (op : Operator). reply op (first_argument (decoded c)) (fields_of c) ts) Q.operator
       ∙ ap (λ (ps : List Pair). pairs (length ps) ps) (sym Q.same)
@@ -224,28 +237,37 @@ room_counted b q room k K = ap (λ (n : ℕ). leb n room) K
 
 -- ---- what a call with no place for a list answers
 
+-- the comparison of its refusal with condition 9
+abbrev is_short : Maybe Refusal → Bool
+is_short e = option_eq eq-value.it e (Some ListTooShort)
+
+short_only : (a : Result Answer Refusal) → is_short (result_err a) ≡ true → a ≡ Err ListTooShort
+short_only (Ok x) f = absurd (false≢true f)
+short_only (Err condition) f = ap Err (same_true the_type (search rules) condition ListTooShort f)
+
+module _ (a : Result Answer Refusal) (e : Maybe Refusal) (E : e ≡ result_err a) (t : Bool) (T : t ≡ not (is_short e)) where
+  pub refused_short : t ≡ false → a ≡ Err ListTooShort
+  refused_short f = short_only a (sym (ap is_short E) ∙ not_no (is_short e) (sym T ∙ f))
+
+  pub not_short_refused : t ≡ true → a ≡ Err ListTooShort → ⊥
+  not_short_refused f same = clash (ap is_short (E ∙ ap result_err same)) (not_yes (is_short e) (sym T ∙ f))
+
+-- condition 9 is not condition 1
+short_not_none : ◌≡◌ {A = Result Answer Refusal} (Err ListTooShort) (Err NotAStore) → ⊥
+short_not_none e = cc
+
 -- a list that has no place stays so
-pub no_places : (b b' ws ws' : List ℕ) (c : Call) (a : Answer) → length ws ≡ 0 → length ws' ≡ 0 → OneCall stored b ws c a b' ws' → OneCall stored b [] c a b' []
+pub no_places : (b b' ws ws' : List ℕ) (c : Call) (a : Result Answer Refusal) → length ws ≡ 0 → length ws' ≡ 0 → OneCall stored b ws c a b' ws' → OneCall stored b [] c a b' []
 no_places b b' [] [] c a e f one = one
 no_places b b' [] (w ∷ ws) c a e f one = absurd (omega (arith, f))
 no_places b b' (w ∷ ws) ws' c a e f one = absurd (omega (arith, e))
-
-refused_nine : (r : Reply) → list_refused (answer_of r) ≡ true → r ≡ refusal 9
-unfolding list_refused answer_of
-refused_nine (refusal number) e = ap refusal (eqb-true number 9 e)
-refused_nine (name x) e = absurd (false≢true e)
-refused_nine (added x k) e = absurd (false≢true e)
-refused_nine (removed x k) e = absurd (false≢true e)
-refused_nine (valued v) e = absurd (false≢true e)
-refused_nine (yes_no t) e = absurd (false≢true e)
-refused_nine (pairs k ps) e = absurd (false≢true e)
 
 -- an answer that writes nothing where there is no place lists nothing
 unlisted : (C : ℕ) (ts : Tuples) (c : Call) (room : ℕ) (ws : List ℕ) (l : List Pair) → [] ≡ list_after (machine C ts c room).answer []
     → (list_after (machine C ts c room).answer ws ≡ ws) × (pairs_after (machine C ts c room).answer l ≡ l)
 unfolding list_after pairs_after
 unlisted C ts c room ws l =
-    answer_form (λ (r : Reply). [] ≡ list_after r [] → (list_after r ws ≡ ws) × (pairs_after r l ≡ l)) C ts c room (λ number e. (refl, refl)) (λ x e. (refl, refl))
+    answer_form (λ (r : Reply). [] ≡ list_after r [] → (list_after r ws ≡ ws) × (pairs_after r l ≡ l)) C ts c room (λ condition e. (refl, refl)) (λ x e. (refl, refl))
     (λ x k e. (refl, refl)) (λ x k e. (refl, refl)) (λ v e. (refl, refl)) (λ t e. (refl, refl)) (λ e. (refl, refl)) (λ q. go (listed q (fields_of c) ts))
   where
     go : (ps : List Pair) → [] ≡ list_after (pairs (length ps) ps) [] → (list_after (pairs (length ps) ps) ws ≡ ws) × (pairs_after (pairs (length ps) ps) l ≡ l)
@@ -274,7 +296,7 @@ module _ (b : List ℕ) (c : Call) (store : is_store b ≡ true) (less : ℕ) (S
   lists_entries room h = lists_queried (tuples_of b) c listing_call (capacity_of b) room S.selects (none_stops room h)
 
   listed_on_store : (l : List Pair) → length entries ≤ length l
-      → OnStore stored b (map pack l) c (Counted (length entries)) b (map pack (entries ++ drop (length entries) l))
+      → OnStore stored b (map pack l) c (Ok (Counted (length entries))) b (map pack (entries ++ drop (length entries) l))
   unfolding answer_of list_after writes
   listed_on_store l h =
       let A = lists_entries (length (map pack l)) (omega (arith, h, length-map l pack)) in
@@ -288,12 +310,12 @@ module _ (b : List ℕ) (c : Call) (store : is_store b ≡ true) (less : ℕ) (S
         state = sym (reading (capacity_of b) (tuples_of b) c (length (map pack l)) (ap writes listing_call.operator));
         size = refl;
         past = refl;
-        refused = λ number f. refl;
+        refused = λ condition f. refl;
         reading = λ w. refl;
         unselected = λ w. refl;
       }
 
-  listed_in_pairs : (l : List Pair) → length entries ≤ length l → CallInPairs b l c (Counted (length entries)) b (entries ++ drop (length entries) l)
+  listed_in_pairs : (l : List Pair) → length entries ≤ length l → CallInPairs b l c (Ok (Counted (length entries))) b (entries ++ drop (length entries) l)
   unfolding pairs_after
   listed_in_pairs l h =
       record {
@@ -317,7 +339,7 @@ abbrev is_listed : Decision → Bool
 is_listed (Answered a) = false
 is_listed (Listed q) = true
 
-module _ (b b' : List ℕ) (c : Call) (a : Answer) (one : OneCall stored b [] c a b' []) where
+module _ (b b' : List ℕ) (c : Call) (a : Result Answer Refusal) (one : OneCall stored b [] c a b' []) where
   abbrev C : ℕ
   C = capacity_of b
 
@@ -339,7 +361,7 @@ module _ (b b' : List ℕ) (c : Call) (a : Answer) (one : OneCall stored b [] c 
         state = O.state ∙ ap (λ o. o.state) (sym M);
         size = O.size;
         past = O.past;
-        refused = λ number f. O.refused number (sym told ∙ f);
+        refused = λ condition f. O.refused condition (sym told ∙ f);
         reading = O.reading;
         unselected = O.unselected;
       }
@@ -362,60 +384,55 @@ module _ (b b' : List ℕ) (c : Call) (a : Answer) (one : OneCall stored b [] c 
         call = λ l size. same_in_pairs l (λ e. ap (refusal_of C ts c) size ∙ same e);
       }
 
-  -- ---- is it refusal 9
+  -- ---- where it is refusal 9
 
-  refused_store : list_refused a ≡ true → is_store b ≡ true
-  unfolding list_refused
+  refused_store : a ≡ Err ListTooShort → is_store b ≡ true
   refused_store e = go (is_store b) refl
     where
       go : (t : Bool) → is_store b ≡ t → is_store b ≡ true
       go true s = s
-      go false s = absurd (false≢true (sym (ap list_refused (one.no_store s).answer) ∙ e))
+      go false s = absurd (short_not_none (sym e ∙ (one.no_store s).answer))
 
-  refused_short : list_refused a ≡ true → OnlyShort ts c 0
-  refused_short e =
+  short_stops : a ≡ Err ListTooShort → OnlyShort ts c 0
+  short_stops e =
       let O = one.on_store (refused_store e) in
-      only_short C ts c 0 ((refused_exactly C ts c 0 9).0 (refused_nine _ (sym (ap list_refused O.answer) ∙ e)))
+      only_short C ts c 0 ((refused_exactly C ts c 0 ListTooShort).0 (refused_reply _ ListTooShort (sym O.answer ∙ e)))
 
-  not_nine_lem : is_store b ≡ true → list_refused a ≡ false → refusal_of C ts c 0 ≢ some 9
-  unfolding list_refused answer_of
-  not_nine_lem s e nine = clash (ap list_refused ((one.on_store s).answer ∙ ap answer_of (stopped C ts c 0 9 nine).0)) e
+  not_nine : is_store b ≡ true → (a ≡ Err ListTooShort → ⊥) → refusal_of C ts c 0 ≢ some ListTooShort
+  unfolding answer_of
+  not_nine s h nine = h ((one.on_store s).answer ∙ ap answer_of (stopped C ts c 0 ListTooShort nine).0)
 
-  refused_unchanged : list_refused a ≡ true → b' ≡ b
-  refused_unchanged e = (one.on_store (refused_store e)).refused 9 (still_short C ts c 0 (refused_short e))
+  refused_unchanged : a ≡ Err ListTooShort → b' ≡ b
+  refused_unchanged e = (one.on_store (refused_store e)).refused ListTooShort (still_short C ts c 0 (short_stops e))
 
   -- ---- the three ways
 
-  module _ (t : Bool) (T : t ≡ list_refused a) where
-    nine_answered : not t ≡ false → list_refused a ≡ true
-    nine_answered e = sym T ∙ not_no t e
+  pub not_refused : (room : ℕ) → (a ≡ Err ListTooShort → ⊥) → Decided b c room (Answered a) b'
+  not_refused room h = answered room (λ s. longer_list C ts c 0 room (omega arith) (not_nine s h))
 
-    pub not_refused : (room : ℕ) → not t ≡ true → Decided b c room (Answered a) b'
-    not_refused room e = answered room (λ s. longer_list C ts c 0 room (omega arith) (not_nine_lem s (sym T ∙ not_yes t e)))
-
-    pub refused_readable : not t ≡ false → Readable b'
-    refused_readable e = store_readable b' (one.on_store (refused_store (nine_answered e))).store
+  module _ (R : a ≡ Err ListTooShort) where
+    pub refused_readable : Readable b'
+    refused_readable = store_readable b' (one.on_store (refused_store R)).store
 
     -- no S operator lists more entries than there are tuples
-    pub refused_few : not t ≡ false → (q : Query) → q ≡ query_for c → length (queried q (tuples_of b')) ≤ length (tuples_of b')
-    refused_few e q K =
-        let Q = has_query ts c 0 (refused_short (nine_answered e)) in
-        subst₂ (λ (x : Query) (w : List ℕ). length (queried x (tuples_of w)) ≤ length (tuples_of w)) (sym K) (sym (refused_unchanged (nine_answered e)))
+    pub refused_few : (q : Query) → q ≡ query_for c → length (queried q (tuples_of b')) ≤ length (tuples_of b')
+    refused_few q K =
+        let Q = has_query ts c 0 (short_stops R) in
+        subst₂ (λ (x : Query) (w : List ℕ). length (queried x (tuples_of w)) ≤ length (tuples_of w)) (sym K) (sym (refused_unchanged R))
         (omega (arith, ap length Q.same, listed_within ts Q.listing (fields_of c)))
 
     module _ (room : ℕ) (q : Query) (K : q ≡ query_for c) (u : Bool) (U : u ≡ leb (length (queried q (tuples_of b'))) room) where
-      room_told : not t ≡ false → leb (length (queried (query_for c) ts)) room ≡ u
-      room_told e = sym (U ∙ ap₂ (λ (x : Query) (w : List ℕ). leb (length (queried x (tuples_of w))) room) K (refused_unchanged (nine_answered e)))
+      room_told : leb (length (queried (query_for c) ts)) room ≡ u
+      room_told = sym (U ∙ ap₂ (λ (x : Query) (w : List ℕ). leb (length (queried x (tuples_of w))) room) K (refused_unchanged R))
 
-      pub refused_at_length : not t ≡ false → u ≡ false → Decided b c room (Answered a) b'
-      refused_at_length e f =
-          let S = refused_short (nine_answered e) in
-          let more = leb-false (length (queried (query_for c) ts)) room (room_told e ∙ f) in
+      pub refused_at_length : u ≡ false → Decided b c room (Answered a) b'
+      refused_at_length f =
+          let S = short_stops R in
+          let more = leb-false (length (queried (query_for c) ts)) room (room_told ∙ f) in
           let short = short_queried ts c (has_query ts c 0 S) room ∙ lt-ltb room (length (queried (query_for c) ts)) more in
           answered room (λ s. still_short C ts c room (record { selects = S.selects; passes = S.passes; short = short }) ∙ sym (still_short C ts c 0 S))
 
-      pub listed_at_length : not t ≡ false → u ≡ true → Decided b c room (Listed q) b'
-      listed_at_length e f =
-          let R = nine_answered e in
-          let fits = leb-true (length (queried (query_for c) ts)) room (room_told e ∙ f) in
-          subst₂ (λ (x : Query) (w : List ℕ). Decided b c room (Listed x) w) (sym K) (sym (refused_unchanged R)) (with_room_lem b c (refused_store R) 0 (refused_short R) room fits)
+      pub listed_at_length : u ≡ true → Decided b c room (Listed q) b'
+      listed_at_length f =
+          let fits = leb-true (length (queried (query_for c) ts)) room (room_told ∙ f) in
+          subst₂ (λ (x : Query) (w : List ℕ). Decided b c room (Listed x) w) (sym K) (sym (refused_unchanged R)) (with_room_lem b c (refused_store R) 0 (short_stops R) room fits)

@@ -9,9 +9,9 @@ use lib.Seq.{take_at}
 use contract.Lifetimes.{Lfts}
 use borrow.Fn.Kinds.{Dens, res_t, ended_of}
 use denote.Triple.Clauses.{AtExit}
+use Rattle.std.specs.Prelude.{Ok}
 use Rattle.model.specs.declared.Call.{Call}
 use Rattle.model.specs.declared.Pair.{Pair}
-use Rattle.model.specs.declared.Preparation.TheVariants.{Capacity}
 use Rattle.model.specs.Tuples.{fresh}
 use Rattle.model.specs.Steps.{Reply, pairs, fields_of, listed}
 use Rattle.model.specs.Machine.{State, Outcome, machine, serve}
@@ -48,7 +48,7 @@ observed_in_pairs_lem : (C : ℕ) (ts : State) (c : Call) (room : ℕ) (l : List
     → observed_in_pairs (answer_of (machine C ts c room).answer) (pairs_after (machine C ts c room).answer l) ≡ (machine C ts c room).answer
 unfolding observed_in_pairs answer_of pairs_after
 observed_in_pairs_lem C ts c room l =
-    answer_form (λ (r : Reply). observed_in_pairs (answer_of r) (pairs_after r l) ≡ r) C ts c room (λ number. refl) (λ x. refl) (λ x k. refl) (λ x k. refl)
+    answer_form (λ (r : Reply). observed_in_pairs (answer_of r) (pairs_after r l) ≡ r) C ts c room (λ condition. refl) (λ x. refl) (λ x k. refl) (λ x k. refl)
     (λ v. refl) (λ b. refl) refl
     (λ x.
     let ps : List Pair = listed x (fields_of c) ts in
@@ -95,9 +95,9 @@ module _ (b b' : List ℕ) (x : PairsMade) (P : OneInPairs b x b') where
   pairs_meet_demand_1 =
       let D = one_call_demand_1 stored stored_lawful b (map pack x.lent) x.call x.answer b' (map pack x.left) P.call in
       record {
-        refused = λ number r. (
-          (D.refused number r).0,
-          unwritten (λ e. ap (λ (y : Reply). pairs_after y x.lent) (refused_reply given.answer number (sym (given_answer e) ∙ r))),
+        refused = λ condition r. (
+          (D.refused condition r).0,
+          unwritten (λ e. ap (λ (y : Reply). pairs_after y x.lent) (refused_reply given.answer condition (sym (given_answer e) ∙ r))),
         );
         no_store = D.no_store;
         reading = D.reading;
@@ -106,7 +106,7 @@ module _ (b b' : List ℕ) (x : PairsMade) (P : OneInPairs b x b') where
           unwritten
               (λ e.
               ap (λ (o : Outcome). pairs_after o.answer x.lent) (nothing_idle (stored.capacity_of b) (stored.state_of b) x.call (length x.lent) t)
-              ∙ nothing_form (λ (y : Reply). pairs_after y x.lent ≡ x.lent) (λ number. refl) (λ n. refl) (λ n. refl) (λ n. refl) (λ v. refl) refl refl x.call),
+              ∙ nothing_form (λ (y : Reply). pairs_after y x.lent ≡ x.lent) (λ condition. refl) (λ n. refl) (λ n. refl) (λ n. refl) (λ v. refl) refl refl x.call),
         );
       }
 
@@ -117,7 +117,7 @@ pub pairs_demand_1 : (b b' : List ℕ) (x : PairsMade) → ExecutedInPairsBy b x
 pairs_demand_1 b b' x made = pairs_meet_demand_1 b b' x (executed_in_pairs made)
 
 -- demand 3: for every C that `prepare` answers, the buffer that it leaves and every list of calls of `execute_pairs`
-pub pairs_demand_3 : (raw b b' : List ℕ) (C : ℕ) (xs : List PairsMade) → PreparedBy raw (Capacity C) b → Trace ExecutedInPairsBy b xs b'
+pub pairs_demand_3 : (raw b b' : List ℕ) (C : ℕ) (xs : List PairsMade) → PreparedBy raw (Ok C) b → Trace ExecutedInPairsBy b xs b'
     → WholeList stored C fresh (map exchange_in_pairs xs) b'
 pairs_demand_3 raw b b' C xs P calls =
     let Q = prepared_by raw b C P in

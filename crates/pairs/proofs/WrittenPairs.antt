@@ -7,8 +7,10 @@ use Prim.Native.Nat.{ℕ, suc, ◌+◌, ◌-◌, ◌<◌, ◌≤◌}
 use native.Mathlib.Omega.{arith}
 use lib.ListN.{length, take, drop, set, length-drop, length-set, take-append-drop}
 use lib.Seq.{take-suc-set, take-add, take-length, drop-set-lt, drop-drop}
+use Rattle.std.specs.Prelude.{Result}
 use Rattle.model.specs.declared.Answer.{Answer}
 use Rattle.model.specs.declared.Pair.{Pair}
+use Rattle.model.specs.declared.Refusal.{Refusal}
 use Rattle.model.proofs.Bools.{clash}
 use Rattle.chain.specs.Links.{Linked}
 use Rattle.entries.specs.declared.Progress.{Progress}
@@ -39,7 +41,7 @@ ended_before p h = ap (λ (t : Bool). cond t (p.done - 1) p.done) h
 
 -- ---- no list
 
-module _ (b : List ℕ) (d : Decision) (a : Answer) (D : d ≡ Answered a) where
+module _ (b : List ℕ) (d : Decision) (a : Result Answer Refusal) (D : d ≡ Answered a) where
   -- it has no pairs
   no_list : decided_list b d ≡ []
   unfolding decided_list

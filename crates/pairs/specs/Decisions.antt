@@ -1,12 +1,13 @@
 -- What a call comes to before its list is written: the contract of decide.
-use Rattle.std.specs.Prelude.{Bool, false, List, [], ◌++◌, ◌≡◌, ℕ, ◌≤◌, eqb, length, drop}
+use Rattle.std.specs.Prelude.{List, [], ◌++◌, ◌≡◌, ℕ, ◌≤◌, length, drop, Result, Ok}
 use Rattle.model.specs.declared.Answer.{Answer}
-use Rattle.model.specs.declared.Answer.TheVariants.{Refusal, Name, Added, Removed, Value, YesNo, List as Counted}
+use Rattle.model.specs.declared.Answer.TheVariants.{List as Counted}
 use Rattle.model.specs.declared.Call.{Call}
 use Rattle.model.specs.declared.Fields.{Fields}
 use Rattle.model.specs.declared.Operator.{Operator}
 use Rattle.model.specs.declared.Operator.TheVariants.{Create, Bind, Value as Values, Exists, Destroy, List as Lists}
 use Rattle.model.specs.declared.Pair.{Pair}
+use Rattle.model.specs.declared.Refusal.{Refusal}
 use Rattle.model.specs.Operators.{operator_of}
 use Rattle.model.specs.Steps.{fields_of}
 use Rattle.layouts.specs.Buffer.{tuples_of}
@@ -17,16 +18,6 @@ use Rattle.listings.specs.Lists.{query_of}
 use Rattle.pairs.specs.declared.Decision.{Decision}
 use Rattle.pairs.specs.declared.Decision.TheVariants.{Answered, Listed}
 use Rattle.pairs.specs.InPairs.{CallInPairs}
-
--- is an answer refusal 9, of a list that is too short
-unfoldable pub list_refused : Answer → Bool
-list_refused (Refusal number) = eqb number 9
-list_refused (Name x) = false
-list_refused (Added x k) = false
-list_refused (Removed x k) = false
-list_refused (Value v) = false
-list_refused (YesNo b) = false
-list_refused (Counted k) = false
 
 -- the query of an S operator; what stands here for others has no effect
 unfoldable pub operator_query : Operator → Fields → Query
@@ -47,9 +38,9 @@ decided_list b (Answered a) = []
 decided_list b (Listed q) = queried q (tuples_of b)
 
 -- the answer
-unfoldable pub decided_answer : List ℕ → Decision → Answer
+unfoldable pub decided_answer : List ℕ → Decision → Result Answer Refusal
 decided_answer b (Answered a) = a
-decided_answer b (Listed q) = Counted (length (queried q (tuples_of b)))
+decided_answer b (Listed q) = Ok (Counted (length (queried q (tuples_of b))))
 
 -- the call c with an answer list of so many places, on the buffer b, comes to o and leaves the buffer b'
 pub record Decided (b : List ℕ) (c : Call) (room : ℕ) (o : Decision) (b' : List ℕ) : Type 0 where
@@ -61,6 +52,6 @@ pub record Decided (b : List ℕ) (c : Call) (room : ℕ) (o : Decision) (b' : L
   pub call : (l : List Pair) → length l ≡ room → CallInPairs b l c (decided_answer b' o) b' (decided_list b' o ++ drop (length (decided_list b' o)) l)
 
 -- the answer, where so many pairs were written
-unfoldable pub answer_with : Decision → ℕ → Answer
+unfoldable pub answer_with : Decision → ℕ → Result Answer Refusal
 answer_with (Answered a) k = a
-answer_with (Listed q) k = Counted k
+answer_with (Listed q) k = Ok (Counted k)

@@ -8,48 +8,30 @@ ghost use Rattle.entries.specs.Cursors.{entry_of, is_there};
 ghost use Rattle.entries.specs.Queries.{Readable, queried};
 ghost use Rattle.entries.specs.Lists.{Packable, GivenAs};
 ghost use Rattle.pairs.specs.InPairs.{CallInPairs};
-ghost use Rattle.pairs.specs.Decisions.{list_refused, operator_query, query_for, decided_list, answer_with, Decided};
+ghost use Rattle.pairs.specs.Decisions.{operator_query, query_for, decided_list, answer_with, Decided};
 ghost use Rattle.pairs.specs.WrittenPairs.{Listable, written_before, Standing, PairWritten, PairsWritten};
 
 use entries::{Progress, Query};
-use model::{Answer, Call, Fields, Operator, Pair};
+use model::{Answer, Call, Fields, Operator, Pair, Refusal};
 
 // The number of the first operator that lists pairs, and of the first one behind those of pairs.
 const FIRST_LISTING: u32 = 30;
 
 const FIRST_OTHER: u32 = 45;
 
-// The refusal of a list that is too short.
-const LIST_TOO_SHORT: u32 = 9;
-
 // What a call comes to: its answer, or a list that is still to be written.
 #[derive(Clone, Copy)]
 pub enum Decision {
-    Answered(Answer),
+    Answered(Result<Answer, Refusal>),
     Listed(Query),
 }
 
 // A call that is lent no place for a list: where it would list something, it is refused by 9.
-fn ask(store: &mut [u32], call: Call) -> Answer
+fn ask(store: &mut [u32], call: Call) -> Result<Answer, Refusal>
     ensures { OneCall stored store.old [] call result store.new [] }
 {
     let mut nowhere: [u32; 0] = [0; 0];
     calls::execute(store, call, &mut nowhere)
-}
-
-// Is an answer the refusal of a list that is too short.
-fn is_list_refused(a: Answer) -> bool
-    ensures { result ≡ list_refused a }
-{
-    match a {
-        Answer::Refusal(number) => number == LIST_TOO_SHORT,
-        Answer::Name(_) => false,
-        Answer::Added(_, _) => false,
-        Answer::Removed(_, _) => false,
-        Answer::Value(_) => false,
-        Answer::YesNo(_) => false,
-        Answer::List(_) => false,
-    }
 }
 
 // The query of an S operator.
@@ -97,7 +79,7 @@ fn decide(store: &mut [u32], call: Call, room: usize) -> Decision
     ensures { Decided store.old call room result store.new }
 {
     let answer = ask(store, call);
-    if !is_list_refused(answer) {
+    if answer.err() != Some(Refusal::ListTooShort) {
         return Decision::Answered(answer);
     }
     let q = query_for(call);
@@ -162,17 +144,17 @@ fn write_pairs(b: &[u32], d: Decision, list: &mut [Pair]) -> usize
 }
 
 // The answer, where so many pairs were written.
-fn answer_with(d: Decision, k: usize) -> Answer
+fn answer_with(d: Decision, k: usize) -> Result<Answer, Refusal>
     ensures { result ≡ answer_with d k }
 {
     match d {
         Decision::Answered(a) => a,
-        Decision::Listed(_) => Answer::List(k),
+        Decision::Listed(_) => Ok(Answer::List(k)),
     }
 }
 
 // One call on any buffer, with any numbers as operator and names and any list of pairs.
-pub fn execute_pairs(store: &mut [u32], call: Call, list: &mut [Pair]) -> Answer
+pub fn execute_pairs(store: &mut [u32], call: Call, list: &mut [Pair]) -> Result<Answer, Refusal>
     ensures { CallInPairs store.old list.old call result store.new list.new }
 {
     let d = decide(store, call, list.len());

@@ -82,9 +82,7 @@ fn edge_absent(b: &[u32], d: Decoded, near: Near) -> bool
     if !d.row.asks.edge {
         return false;
     }
-    let op = d.operator;
-    let f = d.fields;
-    object_absent(b, near, op, f)
+    object_absent(b, near, d.operator, d.fields)
 }
 
 // Condition 9 for an S operator: the entries are counted only where the tuples could give more than the list holds.
@@ -103,15 +101,13 @@ fn is_short(b: &[u32], near: Near, d: Decoded, room: usize) -> bool
     requires { (is_store b.now ≡ true) × NearIn b.now near × Unstopped d }
     ensures { result ≡ list_short d (tuples_of b.now) room }
 {
-    let op = d.operator;
-    let f = d.fields;
-    match op {
+    match d.operator {
         Operator::Create(o) => false,
         Operator::Bind(o) => false,
         Operator::Value(o) => false,
         Operator::Exists(o) => false,
         Operator::Destroy(r) => false,
-        Operator::List(l) => list_short(b, near, l, f, room),
+        Operator::List(l) => list_short(b, near, l, d.fields, room),
     }
 }
 
@@ -120,10 +116,8 @@ fn count_added(b: &[u32], near: Near, universe: Near, d: Decoded) -> usize
     requires { Linked b.now × NearIn b.now near × NearIn b.now universe }
     ensures { result ≡ length (missing (would_add d.operator d.fields) (tuples_of b.now)) }
 {
-    let op = d.operator;
-    let f = d.fields;
-    match op {
-        Operator::Create(o) => steps::count_created(b, near, universe, o, f),
+    match d.operator {
+        Operator::Create(o) => steps::count_created(b, near, universe, o, d.fields),
         Operator::Bind(o) => 0,
         Operator::Value(o) => 0,
         Operator::Exists(o) => 0,
@@ -161,18 +155,16 @@ pub fn check_call(c: Call, row: Row, nothing: bool) -> Result<(), Refusal>
     requires { (row ≡ row_of c.operator) × (nothing ≡ selects_nothing c) }
     ensures { result ≡ checked (first (of_call c)) }
 {
-    let reads = row.reads;
-    let asks = row.asks;
     if !row.known {
         return Err(Refusal::NoOperator);
     }
-    if operators::zero_name(c, reads) {
+    if operators::zero_name(c, row.reads) {
         return Err(Refusal::ZeroName);
     }
-    if operators::lacks_space(c, asks, nothing) {
+    if operators::lacks_space(c, row.asks, nothing) {
         return Err(Refusal::NoSelection);
     }
-    if operators::destroys_universe(c, asks) {
+    if operators::destroys_universe(c, row.asks) {
         return Err(Refusal::UniverseDestroyed);
     }
     Ok(())
@@ -216,6 +208,5 @@ pub fn check_store(
     if second_absent(b, d, l) {
         return Err(Refusal::SecondAbsent);
     }
-    let near = l.near;
-    check_step(b, d, near, universe, room)
+    check_step(b, d, l.near, universe, room)
 }

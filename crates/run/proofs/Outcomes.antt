@@ -8,6 +8,8 @@ use borrow.Author.Tests.{le-leb, leb-true}
 use lib.Dec.{leb}
 use lib.ListN.{length, take, drop, length-drop}
 use lib.Seq.{length-take-le}
+use Rattle.std.specs.Prelude.{Ok, Err}
+use Rattle.model.specs.declared.Refusal.TheVariants.{NotAStore, ListTooShort}
 use Rattle.model.specs.Machine.{State, CallRequest, Request, calling, machine}
 use Rattle.layouts.specs.Buffer.{capacity_of, tuples_of, is_store}
 use Rattle.model.specs.CallLists.{exchange_of, requests}
@@ -57,7 +59,7 @@ module _ (ws a l : List ℕ) where
 
 module _ (b ws a l : List ℕ) where
   -- 1: the buffer is no store
-  pub not_a_store : (s : Bool) → s ≡ is_store b → not s ≡ true → Ran b ws a l 1 b a l
+  pub not_a_store : (s : Bool) → s ≡ is_store b → not s ≡ true → Ran b ws a l (Err NotAStore) b a l
   not_a_store s e n =
       let none : is_store b ≡ false = sym e ∙ not_yes s n in
       record {
@@ -67,7 +69,7 @@ module _ (b ws a l : List ℕ) where
       }
 
   -- 9: there is too little room
-  no_room_lem : is_store b ≡ true → has_room (calls_in ws) a l ≡ false → Ran b ws a l 9 b a l
+  no_room_lem : is_store b ≡ true → has_room (calls_in ws) a l ≡ false → Ran b ws a l (Err ListTooShort) b a l
   no_room_lem e n =
       record {
         no_store = λ f. absurd (clash e f);
@@ -75,19 +77,19 @@ module _ (b ws a l : List ℕ) where
         run = λ f g. absurd (clash g n);
       }
 
-  pub answers_short : (s : Bool) → s ≡ is_store b → not s ≡ false → length a < words_in_answer * call_count ws → Ran b ws a l 9 b a l
+  pub answers_short : (s : Bool) → s ≡ is_store b → not s ≡ false → length a < words_in_answer * call_count ws → Ran b ws a l (Err ListTooShort) b a l
   answers_short s e n h =
       no_room_lem (sym e ∙ not_no s n) (failed (has_room (calls_in ws) a l) (λ f. omega (arith, h, has_room_answers ws a l f)))
 
   pub lists_short : (s f : Bool) → s ≡ is_store b → not s ≡ false → f ≡ leb (rooms_of (calls_from ws (call_count ws) 0)) (length l) → not f ≡ true
-      → Ran b ws a l 9 b a l
+      → Ran b ws a l (Err ListTooShort) b a l
   lists_short s f e n ef nf =
       no_room_lem (sym e ∙ not_no s n) (failed (has_room (calls_in ws) a l) (λ g. clash (has_room_lists ws a l g) (sym ef ∙ not_yes f nf)))
 
-  -- 0: all calls were made
+  -- all calls were made
   pub all_run : (s f : Bool) (b' a' l' : List ℕ) → s ≡ is_store b → not s ≡ false → words_in_answer * call_count ws ≤ length a
       → f ≡ leb (rooms_of (calls_from ws (call_count ws) 0)) (length l) → not f ≡ false
-      → LeftByRun (calls_made (capacity_of b) (tuples_of b) (calls_from ws (call_count ws) 0) l) b a l b' a' l' → Ran b ws a l 0 b' a' l'
+      → LeftByRun (calls_made (capacity_of b) (tuples_of b) (calls_from ws (call_count ws) 0) l) b a l b' a' l' → Ran b ws a l (Ok tt) b' a' l'
   unfolding calls_in
   all_run s f b' a' l' e n wide ef nf L =
       let store : is_store b ≡ true = sym e ∙ not_no s n in

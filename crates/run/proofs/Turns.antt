@@ -9,7 +9,9 @@ use mir.Syntax.{w32}
 use lib.ListN.{length, get_or, take, drop, length-append, length-drop, take-append-drop}
 use lib.Seq.{length-take-le, take_at, drop_at}
 use Rattle.model.specs.declared.Call.{Call}
+use Rattle.std.specs.Prelude.{Result}
 use Rattle.model.specs.declared.Answer.{Answer}
+use Rattle.model.specs.declared.Refusal.{Refusal}
 use Rattle.model.specs.Machine.{State, CallRequest, machine}
 use Rattle.layouts.specs.Buffer.{capacity_of, tuples_of, is_store}
 use Rattle.model.specs.Traces.{Trace, end, then}
@@ -27,16 +29,16 @@ use Rattle.run.proofs.Fits.{rooms_next}
 -- ---- one call
 
 -- the number of pairs that a call lists fits a word, since the length of its list does
-count_fits : (b l b' l' : List ℕ) (c : Call) (a : Answer) → OnStore stored b l c a b' l' → length l' ≡ length l → length l ≤ 4294967295 → list_count a ≤ 4294967295
+count_fits : (b l b' l' : List ℕ) (c : Call) (a : Result Answer Refusal) → OnStore stored b l c a b' l' → length l' ≡ length l → length l ≤ 4294967295 → list_count a ≤ 4294967295
 count_fits b l b' l' c a O e h = let k : list_count a ≤ length l = answer_within stored b l b' l' c a O e in omega arith
 
 -- .. which is the room that the call gives, a word of the list of calls
-pub count_small : (b ws : List ℕ) (i : ℕ) (l b' l' : List ℕ) (c : Call) (a : Answer)
+pub count_small : (b ws : List ℕ) (i : ℕ) (l b' l' : List ℕ) (c : Call) (a : Result Answer Refusal)
     → ((k : ℕ) → Fits w32 (get_or ws k 0)) → length l ≡ room_at ws i → OnStore stored b l c a b' l' → length l' ≡ length l → list_count a ≤ 4294967295
 count_small b ws i l b' l' c a f e O k = count_fits b l b' l' c a O k (omega (arith, e, f (words_in_call * i + 8)))
 
 -- a call and its answer written are what the machine makes of it
-pub one_run : (b ws : List ℕ) (i : ℕ) (answers l b' answers' l' : List ℕ) (c : Call) (a : Answer)
+pub one_run : (b ws : List ℕ) (i : ℕ) (answers l b' answers' l' : List ℕ) (c : Call) (a : Result Answer Refusal)
     → c ≡ call_at ws i → length l ≡ room_at ws i → OnStore stored b l c a b' l' → answers' ≡ put_answer answers i a
     → OneRun (call_made (capacity_of b) (tuples_of b) (request_at ws i) l) i b answers b' answers' l'
 unfolding call_made
@@ -48,7 +50,7 @@ one_run b ws i answers l b' answers' l' c a ec er O ea =
     let left : l' ≡ x.left
     = asked.list ∙ ap (λ (n : ℕ). list_after (machine (capacity_of b) (tuples_of b) (call_at ws i) n).answer l) er in
     record {
-      call = subst (λ (k : List ℕ). OnStore stored b l (call_at ws i) x.answer b' k) left (subst (λ (y : Answer). OnStore stored b l (call_at ws i) y b' l') answer asked);
+      call = subst (λ (k : List ℕ). OnStore stored b l (call_at ws i) x.answer b' k) left (subst (λ (y : Result Answer Refusal). OnStore stored b l (call_at ws i) y b' l') answer asked);
       answered = ea ∙ ap (put_answer answers i) answer;
       listed = left;
     }
@@ -184,7 +186,7 @@ module _ (ws : List ℕ) (count : ℕ) (b₀ a₀ l₀ : List ℕ) where
         ≡ take (words_in_answer * (i + 1)) a' ++ answers_after xs (drop (words_in_answer * (i + 1)) a')
     unfolding answers_after
     answered_next xs =
-        let given : Answer = (made_at ws b l at i).answer in
+        let given : Result Answer Refusal = (made_at ws b l at i).answer in
         let inside : words_in_answer * i + words_in_answer ≤ length a = omega (arith, R.answers_size) in
         let first : take (words_in_answer * (i + 1)) a' ≡ take (words_in_answer * i) a ++ answer_list given
         = ap (take (words_in_answer * (i + 1))) O.answered ∙ answer_first a i given inside in

@@ -1,18 +1,22 @@
 -- Calls and answers as words: what the functions on the words of a call and of an answer give.
-use mathlib.Core.Bool.{Bool, true, false, cond, not}
+use mathlib.Core.Bool.{Bool, true, false, cond}
 use mathlib.Core.List.{List, [], ◌∷◌, ◌++◌, append_assoc}
 use mathlib.Core.Path.{◌≡◌, refl, sym, ap, ap₂, ◌∙◌}
 use Prim.Native.Nat.{ℕ, zero, suc, ◌+◌, ◌-◌, ◌*◌, ◌≤◌, ◌<◌}
 use native.Mathlib.Omega.{arith}
 use borrow.Author.Tests.{ne_eqb, le-leb, lt-leb}
-use lib.Dec.{eqb}
 use lib.ListN.{length, take, drop, set, length-set}
 use lib.Seq.{drop-drop, drop-set-lt, take-suc-set}
+use mir.Val.{bool_byte}
+use Rattle.std.specs.Prelude.{Result, Ok, Err, OkIff}
+use Rattle.std.specs.Result.{result_unwrap_or}
 use Rattle.model.specs.declared.Call.{Call}
 use Rattle.model.specs.declared.Space.{Space}
 use Rattle.model.specs.declared.Space.TheVariants.{Universe, Numbered, Nothing}
 use Rattle.model.specs.declared.Answer.{Answer}
-use Rattle.model.specs.declared.Answer.TheVariants.{Refusal, Name, Added, Removed, Value as Valued, YesNo, List as Listed}
+use Rattle.model.specs.declared.Answer.TheVariants.{Name, Added, Removed, Value as Valued, YesNo, List as Listed}
+use Rattle.model.specs.declared.Refusal.{Refusal}
+use Rattle.model.proofs.Numbered.{number_back}
 use Rattle.model.specs.Keys.{NIL, most_name}
 use Rattle.run.specs.declared.CallWords.{CallWords}
 use Rattle.run.specs.declared.AnswerWords.{AnswerWords}
@@ -20,13 +24,11 @@ use Rattle.run.specs.Words.{words_in_answer, name_in, value_of_form, space_of_fo
 
 -- ---- a call
 
-pub a_name : (w : ℕ) → w ≤ most_name → w ≡ name_in w
+-- a word that fits a name, or 0
+pub name_told : (w : ℕ) {E : Type 0} (r : Result ℕ E) → OkIff r (w < 65536) w → result_unwrap_or r 0 ≡ name_in w
 unfolding name_in
-a_name w h = sym (ap (λ (b : Bool). cond b w 0) (le-leb w most_name h))
-
-pub no_name : (w : ℕ) → most_name < w → 0 ≡ name_in w
-unfolding name_in
-no_name w h = sym (ap (λ (b : Bool). cond b w 0) (lt-leb w most_name h))
+name_told w (Ok x) h = h.1 ∙ sym (ap (λ (b : Bool). cond b w 0) (le-leb w most_name (omega (arith, h.0))))
+name_told w (Err e) h = sym (ap (λ (b : Bool). cond b w 0) (lt-leb w most_name (omega (arith, h))))
 
 pub no_value : (form v : ℕ) → form ≡ 0 → 0 ≡ value_of_form form v
 unfolding value_of_form
@@ -96,37 +98,34 @@ calls_length ws (suc k) i = ap suc (calls_length ws k (i + 1))
 -- ---- an answer
 
 -- the words of an answer whose variant is known
-pub known_words : (a known : Answer) (r w : AnswerWords) → a ≡ known → r ≡ w → w ≡ answer_words known → r ≡ answer_words a
-known_words a known r w e f g = f ∙ g ∙ ap answer_words (sym e)
+pub in_words : {a known : Result Answer Refusal} {kind first second : ℕ} → a ≡ known → kind ≡ kind_of known → first ≡ first_of known → second ≡ second_of known
+    → ◌≡◌ {A = AnswerWords} (record { kind = kind; first = first; second = second }) (answer_words a)
+in_words e p q r = (λ i. record { kind = p i; first = q i; second = r i }) ∙ ap answer_words (sym e)
 
-pub value_words : (a : Answer) (v x : ℕ) (r : AnswerWords) → a ≡ Valued v → x ≡ bit_of (not (eqb v 0)) → r ≡ record { kind = 2; first = v; second = x } → r ≡ answer_words a
-unfolding kind_of first_of second_of
-value_words a v x r e f g = g ∙ ap (λ (y : ℕ). record { kind = 2; first = v; second = y }) f ∙ ap answer_words (sym e)
-
-pub yes_no_words : (a : Answer) (b : Bool) (x : ℕ) (r : AnswerWords) → a ≡ YesNo b → x ≡ bit_of b → r ≡ record { kind = 3; first = x; second = 0 } → r ≡ answer_words a
-unfolding kind_of first_of second_of
-yes_no_words a b x r e f g = g ∙ ap (λ (y : ℕ). record { kind = 3; first = y; second = 0 }) f ∙ ap answer_words (sym e)
+pub bit_lem : (b : Bool) → bool_byte b ≡ bit_of b
+bit_lem true = refl
+bit_lem false = refl
 
 -- what a caller reads in the words of an answer is that answer, so different answers have different words
-pub answer_back : (a : Answer) → answer_in (answer_words a) ≡ a
+pub answer_back : (a : Result Answer Refusal) → answer_in (answer_words a) ≡ a
 unfolding answer_in kind_of first_of second_of
-answer_back (Refusal number) = refl
-answer_back (Name x) = refl
-answer_back (Added x k) = refl
-answer_back (Removed x k) = refl
-answer_back (Valued v) = refl
-answer_back (YesNo true) = refl
-answer_back (YesNo false) = refl
-answer_back (Listed k) = refl
+answer_back (Err condition) = ap Err (number_back condition)
+answer_back (Ok (Name x)) = refl
+answer_back (Ok (Added x k)) = refl
+answer_back (Ok (Removed x k)) = refl
+answer_back (Ok (Valued v)) = refl
+answer_back (Ok (YesNo true)) = refl
+answer_back (Ok (YesNo false)) = refl
+answer_back (Ok (Listed k)) = refl
 
-pub answer_written : (ws : List ℕ) (i : ℕ) (w : AnswerWords) (a : Answer) → w ≡ answer_words a
+pub answer_written : (ws : List ℕ) (i : ℕ) (w : AnswerWords) (a : Result Answer Refusal) → w ≡ answer_words a
     → set (set (set ws (words_in_answer * i) w.kind) (words_in_answer * i + 1) w.first) (words_in_answer * i + 2) w.second ≡ put_answer ws i a
 unfolding put_answer
 answer_written ws i w a e =
     ap (λ (x : AnswerWords). set (set (set ws (words_in_answer * i) x.kind) (words_in_answer * i + 1) x.first) (words_in_answer * i + 2) x.second) e
 
 -- what the slice of answers holds up to answer i, and from the next on, after answer i is written
-module _ (ws : List ℕ) (i : ℕ) (a : Answer) (h : words_in_answer * i + words_in_answer ≤ length ws) where
+module _ (ws : List ℕ) (i : ℕ) (a : Result Answer Refusal) (h : words_in_answer * i + words_in_answer ≤ length ws) where
   pub answer_length : length (put_answer ws i a) ≡ length ws
   unfolding put_answer
   answer_length = simp length-set

@@ -1,5 +1,7 @@
 -- All that a run of a whole list of calls does, on any buffer and with any words: the contract of run_calls.
-use Rattle.std.specs.Prelude.{Bool, true, false, ◌&&◌, List, [], ◌∷◌, ◌++◌, map, ◌↔◌, ◌≢◌, ◌≡◌, ℕ, ◌+◌, ◌*◌, leb, length, take, drop}
+use Rattle.std.specs.Prelude.{Bool, true, false, ◌&&◌, List, [], ◌∷◌, ◌++◌, map, ◌↔◌, ◌≡◌, ℕ, ◌+◌, ◌*◌, leb, length, take, drop, Result, Ok, Err}
+use Rattle.model.specs.declared.Refusal.{Refusal}
+use Rattle.model.specs.declared.Refusal.TheVariants.{NotAStore, ListTooShort}
 use Rattle.model.specs.Machine.{State, CallRequest, calling, machine}
 use Rattle.model.specs.Traces.{Trace}
 use Rattle.model.specs.OneCall.{answer_of, list_after, OnStore}
@@ -49,8 +51,8 @@ has_room rs answers lists = leb (words_in_answer * length rs) (length answers) &
 -- ---- a run
 
 -- a run that is refused changes nothing
-pub record NotRun (number : ℕ) (b answers lists : List ℕ) (r : ℕ) (b' answers' lists' : List ℕ) : Type 0 where
-  pub result : r ≡ number
+pub record NotRun (condition : Refusal) (b answers lists : List ℕ) (r : Result (Unit {0}) Refusal) (b' answers' lists' : List ℕ) : Type 0 where
+  pub result : r ≡ Err condition
   pub same_store : b' ≡ b
   pub same_answers : answers' ≡ answers
   pub same_lists : lists' ≡ lists
@@ -63,28 +65,28 @@ pub record LeftByRun (xs : List CallMade) (b answers lists b' answers' lists' : 
   pub listed : lists' ≡ lists_after xs lists
 
 -- every call was made, in its order and with its own part of the lists
-pub record AllRun (b calls answers lists : List ℕ) (r : ℕ) (b' answers' lists' : List ℕ) : Type 0 where
-  pub result : r ≡ 0
+pub record AllRun (b calls answers lists : List ℕ) (r : Result (Unit {0}) Refusal) (b' answers' lists' : List ℕ) : Type 0 where
+  pub result : r ≡ Ok tt
   pub asked : requests (map exchange_of (calls_made (stored.capacity_of b) (stored.state_of b) (calls_in calls) lists)) ≡ map calling (calls_in calls)
   pub left : LeftByRun (calls_made (stored.capacity_of b) (stored.state_of b) (calls_in calls) lists) b answers lists b' answers' lists'
 
 -- the run of the words `calls` on the buffer b gives r and leaves the buffer b', the answers and the lists
-pub record Ran (b calls answers lists : List ℕ) (r : ℕ) (b' answers' lists' : List ℕ) : Type 0 where
-  pub no_store : stored.is_store b ≡ false → NotRun 1 b answers lists r b' answers' lists'
-  pub no_room : stored.is_store b ≡ true → has_room (calls_in calls) answers lists ≡ false → NotRun 9 b answers lists r b' answers' lists'
+pub record Ran (b calls answers lists : List ℕ) (r : Result (Unit {0}) Refusal) (b' answers' lists' : List ℕ) : Type 0 where
+  pub no_store : stored.is_store b ≡ false → NotRun NotAStore b answers lists r b' answers' lists'
+  pub no_room : stored.is_store b ≡ true → has_room (calls_in calls) answers lists ≡ false → NotRun ListTooShort b answers lists r b' answers' lists'
   pub run : stored.is_store b ≡ true → has_room (calls_in calls) answers lists ≡ true → AllRun b calls answers lists r b' answers' lists'
 
 -- ---- the demands of a run
 
 -- demand 1 of a run, and of each call of it
-pub record RunDemand1 (b calls answers lists : List ℕ) (r : ℕ) (b' answers' lists' : List ℕ) : Type 0 where
-  -- "A refusal is a number and changes no word", whatever its number: neither of the store nor of the answers and lists
-  pub refused : r ≢ 0 → (b' ≡ b) × (answers' ≡ answers) × (lists' ≡ lists)
+pub record RunDemand1 (b calls answers lists : List ℕ) (r : Result (Unit {0}) Refusal) (b' answers' lists' : List ℕ) : Type 0 where
+  -- "A refusal is a number and changes no word", whatever the condition: neither of the store nor of the answers and lists
+  pub refused : (condition : Refusal) → r ≡ Err condition → (b' ≡ b) × (answers' ≡ answers) × (lists' ≡ lists)
   -- "A buffer that isn't a store is itself refused.": 1 exactly when it breaks the rules
-  pub no_store : (r ≡ 1) ↔ (stored.IsStore b → ⊥)
-  pub each : r ≡ 0 → Trace (MeetsDemand1 stored) b (calls_made (stored.capacity_of b) (stored.state_of b) (calls_in calls) lists) b'
+  pub no_store : (r ≡ Err NotAStore) ↔ (stored.IsStore b → ⊥)
+  pub each : r ≡ Ok tt → Trace (MeetsDemand1 stored) b (calls_made (stored.capacity_of b) (stored.state_of b) (calls_in calls) lists) b'
 
--- demand 3 of a run that answers 0, on a store of C records that holds the tuples ts: the calls that stand in the words were made, one after the other,
+-- demand 3 of a run that is not refused, on a store of C records that holds the tuples ts: the calls that stand in the words were made, one after the other,
 -- with all that demand 3 claims of them, and the slices hold their answers and their lists
 pub record WholeRun (C : ℕ) (ts : State) (calls answers lists b' answers' lists' : List ℕ) : Type 0 where
   pub whole : WholeList stored C ts (map exchange_of (calls_made C ts (calls_in calls) lists)) b'

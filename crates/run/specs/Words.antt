@@ -2,12 +2,14 @@
 -- A call has a word for each field: the operator; n; g; m; the form of the value and v; the form of the space and s. In a list of calls the length of the answer
 -- list lent to it is a ninth word. So any nine words are a call; words past the last whole call are not read.
 -- An answer has three words: its kind, and what it carries first and second.
-use Rattle.std.specs.Prelude.{Bool, true, false, cond, not, List, [], ◌∷◌, ℕ, zero, suc, ◌+◌, ◌*◌, ◌/◌, eqb, leb, length, set}
+use Rattle.std.specs.Prelude.{Bool, true, false, cond, not, List, [], ◌∷◌, ℕ, zero, suc, ◌+◌, ◌*◌, ◌/◌, eqb, leb, length, set, Result, Ok, Err}
 use Rattle.model.specs.declared.Call.{Call}
 use Rattle.model.specs.declared.Space.{Space}
 use Rattle.model.specs.declared.Space.TheVariants.{Universe, Numbered, Nothing}
 use Rattle.model.specs.declared.Answer.{Answer}
-use Rattle.model.specs.declared.Answer.TheVariants.{Refusal, Name, Added, Removed, Value as Valued, YesNo, List as Listed}
+use Rattle.model.specs.declared.Answer.TheVariants.{Name, Added, Removed, Value as Valued, YesNo, List as Listed}
+use Rattle.model.specs.declared.Refusal.{Refusal}
+use Rattle.model.specs.Numbered.{number_of, refusal_in}
 use Rattle.model.specs.Keys.{Value, NIL, most_name}
 use Rattle.model.specs.Machine.{CallRequest}
 use Rattle.layouts.specs.Buffer.{word}
@@ -91,58 +93,58 @@ abbrev pub capacity_kind : ℕ
 capacity_kind = 5
 
 -- the kind of an answer
-unfoldable pub kind_of : Answer → ℕ
-kind_of (Refusal number) = 0
-kind_of (Name x) = 1
-kind_of (Added x k) = 6
-kind_of (Removed x k) = 7
-kind_of (Valued v) = 2
-kind_of (YesNo b) = 3
-kind_of (Listed k) = 4
+unfoldable pub kind_of : Result Answer Refusal → ℕ
+kind_of (Err condition) = 0
+kind_of (Ok (Name x)) = 1
+kind_of (Ok (Added x k)) = 6
+kind_of (Ok (Removed x k)) = 7
+kind_of (Ok (Valued v)) = 2
+kind_of (Ok (YesNo b)) = 3
+kind_of (Ok (Listed k)) = 4
 
 abbrev pub bit_of : Bool → ℕ
 bit_of true = 1
 bit_of false = 0
 
 -- what it carries first: the refusal's number, the name, the value, 1 for yes and 0 for no, how many pairs are listed
-unfoldable pub first_of : Answer → ℕ
-first_of (Refusal number) = number
-first_of (Name x) = x
-first_of (Added x k) = x
-first_of (Removed x k) = x
-first_of (Valued v) = v
-first_of (YesNo b) = bit_of b
-first_of (Listed k) = k
+unfoldable pub first_of : Result Answer Refusal → ℕ
+first_of (Err condition) = number_of condition
+first_of (Ok (Name x)) = x
+first_of (Ok (Added x k)) = x
+first_of (Ok (Removed x k)) = x
+first_of (Ok (Valued v)) = v
+first_of (Ok (YesNo b)) = bit_of b
+first_of (Ok (Listed k)) = k
 
 -- what it carries second: how many tuples were added or removed; of a value 1 for a number and 0 for NIL; else 0
-unfoldable pub second_of : Answer → ℕ
-second_of (Refusal number) = 0
-second_of (Name x) = 0
-second_of (Added x k) = k
-second_of (Removed x k) = k
-second_of (Valued v) = bit_of (not (eqb v NIL))
-second_of (YesNo b) = 0
-second_of (Listed k) = 0
+unfoldable pub second_of : Result Answer Refusal → ℕ
+second_of (Err condition) = 0
+second_of (Ok (Name x)) = 0
+second_of (Ok (Added x k)) = k
+second_of (Ok (Removed x k)) = k
+second_of (Ok (Valued v)) = bit_of (not (eqb v NIL))
+second_of (Ok (YesNo b)) = 0
+second_of (Ok (Listed k)) = 0
 
 -- an answer in words ..
-abbrev pub answer_words : Answer → AnswerWords
+abbrev pub answer_words : Result Answer Refusal → AnswerWords
 answer_words a = record { kind = kind_of a; first = first_of a; second = second_of a }
 
 -- what a caller reads in words: the answer of that kind, with what it carries (words that no answer has read as `Removed`; nothing rests on that)
-unfoldable pub answer_in : AnswerWords → Answer
+unfoldable pub answer_in : AnswerWords → Result Answer Refusal
 answer_in w =
-    cond (eqb w.kind 0) (Refusal w.first)
-    (cond (eqb w.kind 1) (Name w.first)
-    (cond (eqb w.kind 2) (Valued w.first)
-    (cond (eqb w.kind 3) (YesNo (eqb w.first 1))
-    (cond (eqb w.kind 4) (Listed w.first)
-    (cond (eqb w.kind 6) (Added w.first w.second) (Removed w.first w.second))))))
+    cond (eqb w.kind 0) (Err (refusal_in w.first))
+    (cond (eqb w.kind 1) (Ok (Name w.first))
+    (cond (eqb w.kind 2) (Ok (Valued w.first))
+    (cond (eqb w.kind 3) (Ok (YesNo (eqb w.first 1)))
+    (cond (eqb w.kind 4) (Ok (Listed w.first))
+    (cond (eqb w.kind 6) (Ok (Added w.first w.second)) (Ok (Removed w.first w.second)))))))
 
 -- .. one after the other
-abbrev pub answer_list : Answer → List ℕ
+abbrev pub answer_list : Result Answer Refusal → List ℕ
 answer_list a = kind_of a ∷ first_of a ∷ second_of a ∷ []
 
 -- answer i written
-unfoldable pub put_answer : List ℕ → ℕ → Answer → List ℕ
+unfoldable pub put_answer : List ℕ → ℕ → Result Answer Refusal → List ℕ
 put_answer ws i a =
     set (set (set ws (words_in_answer * i) (kind_of a)) (words_in_answer * i + 1) (first_of a)) (words_in_answer * i + 2) (second_of a)

@@ -3,10 +3,10 @@
 ghost use Rattle.std.specs.Prelude.{true, ◌≡◌, ◌+◌, ◌*◌, ◌≤◌, leb, length};
 ghost use Rattle.model.specs.OneCall.{list_count};
 ghost use Rattle.layouts.specs.Stored.{stored};
-ghost use Rattle.run.specs.Words.{words_in_call, words_in_answer, name_in, value_of_form, space_of_form, call_of, call_words_at, call_at, room_at, request_at, calls_from, bit_of, answer_words, put_answer};
+ghost use Rattle.run.specs.Words.{words_in_call, words_in_answer, name_in, value_of_form, space_of_form, call_of, call_words_at, call_at, room_at, request_at, calls_from, answer_words, put_answer};
 ghost use Rattle.run.specs.Runs.{rooms_of, call_made, calls_made, OneRun, LeftByRun, Ran};
 
-use model::{Answer, Call, EdgeName, NodeName, Space, SpaceName};
+use model::{Answer, Call, EdgeName, NodeName, Refusal, Space, SpaceName};
 
 // Words of a call in a list of calls, and of an answer.
 const WORDS_IN_CALL: usize = 9;
@@ -15,9 +15,6 @@ const WORDS_IN_CALL: usize = 9;
 const ROOM: usize = 8;
 
 const WORDS_IN_ANSWER: usize = 3;
-
-// The greatest name.
-const MOST_NAME: u32 = 65535;
 
 // The value that is none.
 const NIL: u32 = 0;
@@ -74,10 +71,7 @@ pub struct AnswerWords {
 fn name_in(w: u32) -> u16
     ensures { result ≡ name_in w }
 {
-    if w <= MOST_NAME {
-        return w as u16;
-    }
-    0
+    u16::try_from(w).unwrap_or(0)
 }
 
 // The value of a call, by its form.
@@ -94,26 +88,26 @@ fn value_of_form(form: u32, v: u32) -> u32
 fn space_of_form(form: u32, s: u32) -> Space
     ensures { result ≡ space_of_form form s }
 {
-    if form == UNIVERSE_FORM {
-        return Space::Universe;
+    match form {
+        UNIVERSE_FORM => Space::Universe,
+        NOTHING_FORM => Space::Nothing,
+        _ => Space::Numbered(SpaceName(name_in(s))),
     }
-    if form == NOTHING_FORM {
-        return Space::Nothing;
-    }
-    Space::Numbered(SpaceName(name_in(s)))
 }
 
 // The call that words are.
-pub fn call_of(w: CallWords) -> Call
-    ensures { result ≡ call_of w }
-{
-    Call {
-        operator: w.operator,
-        n: NodeName(name_in(w.n)),
-        g: EdgeName(name_in(w.g)),
-        m: NodeName(name_in(w.m)),
-        v: value_of_form(w.value_form, w.v),
-        s: space_of_form(w.space_form, w.s),
+impl From<CallWords> for Call {
+    ghost from_gives = { λ w call. call ≡ call_of w };
+
+    fn from(w: CallWords) -> Call {
+        Call {
+            operator: w.operator,
+            n: NodeName(name_in(w.n)),
+            g: EdgeName(name_in(w.g)),
+            m: NodeName(name_in(w.m)),
+            v: value_of_form(w.value_form, w.v),
+            s: space_of_form(w.space_form, w.s),
+        }
     }
 }
 
@@ -140,7 +134,7 @@ fn call_at(calls: &[u32], i: usize) -> Call
     requires { words_in_call * i + words_in_call ≤ length calls.now }
     ensures { result ≡ call_at calls.now i }
 {
-    call_of(call_words_at(calls, i))
+    Call::from(call_words_at(calls, i))
 }
 
 // The length of the answer list of call i.
@@ -149,7 +143,7 @@ fn room_at(calls: &[u32], i: usize) -> usize
     ensures { result ≡ room_at calls.now i }
 {
     let at = WORDS_IN_CALL * i + ROOM;
-    words::index_of(calls[at])
+    calls[at] as usize
 }
 
 // Do the answer lists of the first calls fit in so much room.
@@ -158,32 +152,30 @@ fn lists_fit(calls: &[u32], count: usize, room: usize) -> bool
     ensures { result ≡ leb (rooms_of (calls_from calls.now count 0)) room }
 {
     let mut left = room;
-    let mut i = 0;
-    while i < count {
+    for i in 0..count {
         let one = room_at(calls, i);
         if left < one {
             return false;
         }
         left -= one;
-        i += 1;
     }
     true
 }
 
-// 1 for yes, 0 for no.
-pub fn bit_of(b: bool) -> u32
-    ensures { result ≡ bit_of b }
+// An answer as words; the count of a list that a store gives fits, as the callers, runs and the C functions, have shown.
+pub fn answer_words(a: Result<Answer, Refusal>) -> AnswerWords
+    requires { list_count a ≤ 4294967295 }
+    ensures { result ≡ answer_words a }
 {
-    if b {
-        return 1;
-    }
-    0
-}
-
-// An answer with these words.
-fn words_of(kind: u32, first: u32, second: u32) -> AnswerWords
-    ensures { result ≡ record { kind = kind; first = first; second = second } }
-{
+    let (kind, first, second) = match a {
+        Err(refusal) => (REFUSAL, u32::from(refusal), 0),
+        Ok(Answer::Name(x)) => (NAME, u32::from(x), 0),
+        Ok(Answer::Added(x, k)) => (ADDED, u32::from(x), k),
+        Ok(Answer::Removed(x, k)) => (REMOVED, u32::from(x), k),
+        Ok(Answer::Value(v)) => (VALUE, v, u32::from(v != NIL)),
+        Ok(Answer::YesNo(b)) => (YES_NO, u32::from(b), 0),
+        Ok(Answer::List(k)) => (LIST, k as u32, 0),
+    };
     AnswerWords {
         kind,
         first,
@@ -191,24 +183,8 @@ fn words_of(kind: u32, first: u32, second: u32) -> AnswerWords
     }
 }
 
-// An answer as words; the count of a list that a store gives fits, as the callers, runs and the C functions, have shown.
-pub fn answer_words(a: Answer) -> AnswerWords
-    requires { list_count a ≤ 4294967295 }
-    ensures { result ≡ answer_words a }
-{
-    match a {
-        Answer::Refusal(number) => words_of(REFUSAL, number, 0),
-        Answer::Name(x) => words_of(NAME, x as u32, 0),
-        Answer::Added(x, k) => words_of(ADDED, x as u32, k),
-        Answer::Removed(x, k) => words_of(REMOVED, x as u32, k),
-        Answer::Value(v) => words_of(VALUE, v, bit_of(v != NIL)),
-        Answer::YesNo(b) => words_of(YES_NO, bit_of(b), 0),
-        Answer::List(k) => words_of(LIST, k as u32, 0),
-    }
-}
-
 // Writes answer i.
-fn put_answer(answers: &mut [u32], i: usize, a: Answer)
+fn put_answer(answers: &mut [u32], i: usize, a: Result<Answer, Refusal>)
     requires { (words_in_answer * i + words_in_answer ≤ length answers.old) × (list_count a ≤ 4294967295) }
     ensures { answers.new ≡ put_answer answers.old i a }
 {
@@ -235,29 +211,32 @@ fn run_all(store: &mut [u32], calls: &[u32], count: usize, answers: &mut [u32], 
     ensures { LeftByRun (calls_made (stored.capacity_of store.old) (stored.state_of store.old) (calls_from calls.now count 0) lists.old) store.old answers.old lists.old store.new answers.new lists.new }
 {
     let mut at = 0;
-    let mut done = 0;
-    while done < count {
-        let end = at + room_at(calls, done);
-        run_one(store, calls, done, answers, &mut lists[at..end]);
+    for i in 0..count {
+        let end = at + room_at(calls, i);
+        run_one(store, calls, i, answers, &mut lists[at..end]);
         at = end;
-        done += 1;
     }
 }
 
-// Runs the calls that stand in `calls`: answers 0 when all were made, 1 when the buffer is no store, 9 when there is not enough room.
-pub fn run_calls(store: &mut [u32], calls: &[u32], answers: &mut [u32], lists: &mut [u32]) -> u32
+// Runs the calls that stand in `calls`: all are made, unless the buffer is no store (1) or there is not enough room (9).
+pub fn run_calls(
+    store: &mut [u32],
+    calls: &[u32],
+    answers: &mut [u32],
+    lists: &mut [u32],
+) -> Result<(), Refusal>
     ensures { Ran store.old calls.now answers.old lists.old result store.new answers.new lists.new }
 {
     if !verify::is_store(store) {
-        return 1;
+        return Err(Refusal::NotAStore);
     }
     let count = calls.len() / WORDS_IN_CALL;
     if answers.len() < WORDS_IN_ANSWER * count {
-        return 9;
+        return Err(Refusal::ListTooShort);
     }
     if !lists_fit(calls, count, lists.len()) {
-        return 9;
+        return Err(Refusal::ListTooShort);
     }
     run_all(store, calls, count, answers, lists);
-    0
+    Ok(())
 }

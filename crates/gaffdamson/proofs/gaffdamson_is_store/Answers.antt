@@ -1,4 +1,5 @@
+use Rattle.gaffdamson.proofs.Outcomes.{bit_told}
 use Rattle.gaffdamson.proofs.gaffdamson_is_store.Goals as goal
 
 pub returns : goal.returns
-returns c = cc
+returns c = search bit_told

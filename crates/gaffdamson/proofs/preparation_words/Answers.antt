@@ -8,12 +8,10 @@ pub answer_words-requires : goal.answer_words-requires
 unfolding list_count
 answer_words-requires c = omega arith
 
-pub returns-in-Refused : goal.returns-in-Refused
+pub returns-in-Err : goal.returns-in-Err
 unfolding preparation_words
-returns-in-Refused c =
-    c.answer_words.ensures ∙ sym (ap preparation_words c.in-Refused.is)
+returns-in-Err c = c.answer_words.ensures ∙ sym (ap preparation_words c.in-Err.is)
 
-pub returns-in-Capacity : goal.returns-in-Capacity
+pub returns-in-Ok : goal.returns-in-Ok
 unfolding preparation_words
-returns-in-Capacity c =
-    sym (ap preparation_words c.in-Capacity.is)
+returns-in-Ok c = sym (ap preparation_words c.in-Ok.is)

@@ -1,8 +1,6 @@
-use Rattle.run.proofs.WordLaws.{a_name, no_name}
+use Rattle.std.proofs.Common.{◌∙◌}
+use Rattle.run.proofs.WordLaws.{name_told}
 use Rattle.run.proofs.name_in.Goals as goal
 
-pub returns-then-w-le-MOST_NAME : goal.returns-then-w-le-MOST_NAME
-returns-then-w-le-MOST_NAME c = search a_name
-
 pub returns : goal.returns
-returns c = search no_name
+returns c = c.unwrap_or.ensures ∙ name_told _ _ c.try_from.ensures

@@ -1,5 +1,5 @@
 use Rattle.run.proofs.WordLaws.{call_joined}
-use Rattle.run.proofs.call_of.Goals as goal
+use Rattle.run.proofs.CallFromCallWords.from.Goals as goal
 
 pub returns : goal.returns
 returns c = search call_joined
