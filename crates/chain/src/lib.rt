@@ -15,7 +15,8 @@ const ABOVE_RECORDS: usize = 4096;
 // The value that is none.
 const NIL: u32 = 0;
 
-// A place in the used chain: a record and the one after it; 0 for none.
+// A place in the used chain: a record and the one after it.
+// By hand: 0 is no record here and in every hint, as it is in the link words of the buffer that walks compare with.
 #[derive(Clone, Copy)]
 pub struct Place {
     pub before: usize,

@@ -292,7 +292,7 @@ pub fn surely_fits(b: &[u32], room: usize) -> bool
     words::head_word(b, 3) <= room
 }
 
-// The number of entries.
+// The number of entries. By hand: beside `write_entries`, as it is lent no list and asks for no room.
 pub fn count_entries(b: &[u32], hint: usize, q: Query) -> usize
     requires { Readable b.now × Hint b.now hint }
     ensures { result ≡ length (queried q (tuples_of b.now)) }

@@ -81,6 +81,7 @@ fn in_order(rest: &[u8], o: u32) -> Result<Call, Refusal>
     let Some(s) = space else {
         return Err(Refusal::Unreadable);
     };
+    // By hand: `as`, since the numbers are known to fit; `try_from` would have an error that no line reaches.
     let c = Call {
         operator: o,
         n: NodeName(n as u16),

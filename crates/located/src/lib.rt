@@ -40,6 +40,7 @@ fn farther(universe: Near, f: Fields) -> usize
 }
 
 // A key that was sought: the last used record below it, and whether it is there.
+// By hand: no Option, since the record below is of use where the key is not there.
 #[derive(Clone, Copy)]
 struct Sought {
     before: usize,

@@ -20,6 +20,7 @@ const FIRST_LISTING: u32 = 30;
 const FIRST_OTHER: u32 = 45;
 
 // What a call comes to: its answer, or a list that is still to be written.
+// By hand: neither of the two is a failure of the other, so no Result.
 #[derive(Clone, Copy)]
 pub enum Decision {
     Answered(Result<Answer, Refusal>),

@@ -32,7 +32,7 @@ const EDGE_FACTOR: usize = 3571;
 
 const SECOND_FACTOR: usize = 2741;
 
-// The mark of node n in s.
+// The mark of node n in s. By hand: beside the word that packs a pair, since it packs a space and a node.
 #[tactic(auto, unfolding(crate::specs::Presence::node_mark))]
 fn node_mark(s: u32, n: u32) -> u32
     requires { (s ≤ most_name) × (n ≤ most_name) }

@@ -29,10 +29,7 @@ fn space_absent(b: &[u32], d: Decoded, l: Located) -> bool
     requires { Told b.now d l × Unstopped d }
     ensures { result ≡ space_absent d (tuples_of b.now) }
 {
-    if !d.row.asks.space {
-        return false;
-    }
-    !l.space
+    d.row.asks.space && !l.space
 }
 
 // Condition 6: n is absent from s, or, for 57, from 0. Asked where condition 5 does not apply.
@@ -56,10 +53,7 @@ fn second_absent(b: &[u32], d: Decoded, l: Located) -> bool
     requires { Told b.now d l × Unstopped d × (space_absent d (tuples_of b.now) ≡ false) }
     ensures { result ≡ second_absent d (tuples_of b.now) }
 {
-    if !d.row.reads.m {
-        return false;
-    }
-    !l.second
+    d.row.reads.m && !l.second
 }
 
 // Is nothing present of what C, B, V and X work on.
@@ -69,12 +63,10 @@ fn object_absent(b: &[u32], near: Near, op: Operator, f: Fields) -> bool
     ensures { result ≡ not (any_present (worked_on op f) (tuples_of b.now)) }
 {
     match op {
-        Operator::Create(o) => !steps::exists(b, near, o, f),
-        Operator::Bind(o) => !steps::exists(b, near, o, f),
-        Operator::Value(o) => !steps::exists(b, near, o, f),
-        Operator::Exists(o) => !steps::exists(b, near, o, f),
-        Operator::Destroy(r) => true,
-        Operator::List(l) => true,
+        Operator::Create(o) | Operator::Bind(o) | Operator::Value(o) | Operator::Exists(o) => {
+            !steps::exists(b, near, o, f)
+        }
+        Operator::Destroy(_) | Operator::List(_) => true,
     }
 }
 
@@ -84,10 +76,7 @@ fn edge_absent(b: &[u32], d: Decoded, near: Near) -> bool
     requires { Linked b.now × NearIn b.now near }
     ensures { result ≡ edge_absent d (tuples_of b.now) }
 {
-    if !d.row.asks.edge {
-        return false;
-    }
-    object_absent(b, near, d.operator, d.fields)
+    d.row.asks.edge && object_absent(b, near, d.operator, d.fields)
 }
 
 // Condition 9 for an S operator: the entries are counted only where the tuples could give more than the list holds.
@@ -108,12 +97,8 @@ fn is_short(b: &[u32], near: Near, d: Decoded, room: usize) -> bool
     ensures { result ≡ list_short d (tuples_of b.now) room }
 {
     match d.operator {
-        Operator::Create(o) => false,
-        Operator::Bind(o) => false,
-        Operator::Value(o) => false,
-        Operator::Exists(o) => false,
-        Operator::Destroy(r) => false,
         Operator::List(l) => list_short(b, near, l, d.fields, room),
+        _ => false,
     }
 }
 
@@ -125,11 +110,7 @@ fn count_added(b: &[u32], near: Near, universe: Near, d: Decoded) -> usize
 {
     match d.operator {
         Operator::Create(o) => steps::count_created(b, near, universe, o, d.fields),
-        Operator::Bind(o) => 0,
-        Operator::Value(o) => 0,
-        Operator::Exists(o) => 0,
-        Operator::Destroy(r) => 0,
-        Operator::List(l) => 0,
+        _ => 0,
     }
 }
 
@@ -138,7 +119,7 @@ fn free_records(b: &[u32]) -> usize
     requires { Linked b.now }
     ensures { result ≡ capacity_of b.now - length (tuples_of b.now) }
 {
-    words::head_word(b, 0) - words::index_of(edit::tuple_count(b))
+    words::head_word(b, 0) - edit::tuple_count(b) as usize
 }
 
 // No call adds more tuples: those of an adjacent pair, in its space and in UNIVERSE.

@@ -26,7 +26,7 @@ const UNIVERSE_FORM: u32 = 0;
 
 const NOTHING_FORM: u32 = 2;
 
-// The kinds of answers.
+// The kinds of answers. By hand: these are the words that C sees.
 const REFUSAL: u32 = 0;
 
 const NAME: u32 = 1;
@@ -211,6 +211,7 @@ fn run_all(store: &mut [u32], calls: &[u32], count: usize, answers: &mut [u32], 
     ensures { LeftByRun (calls_made (stored.capacity_of store.old) (stored.state_of store.old) (calls_from calls.now count 0) lists.old) store.old answers.old lists.old store.new answers.new lists.new }
 {
     let mut at = 0;
+    // By hand: places and not chunks, since of what `chunks_exact_mut` gives no proof knows the elements afterwards.
     for i in 0..count {
         let end = at + room_at(calls, i);
         run_one(store, calls, i, answers, &mut lists[at..end]);

@@ -17,7 +17,7 @@ const MOST_LINE: usize = 24583;
 // "It reads at most 65,536 bytes of standard input".
 const MOST_INPUT: usize = 65536;
 
-// What a block of output holds, and where it stopped.
+// What a block of output holds, and where it stopped: two places of two texts.
 #[derive(Clone, Copy)]
 pub struct Block {
     // Where the next line starts.
@@ -81,7 +81,7 @@ pub fn run_block(
     Block { next: at, length }
 }
 
-// May an input of so many bytes be run: at most 65,536.
+// May an input of so many bytes be run: at most 65,536. By hand: a test and not a result, which has nothing to give where it holds.
 pub fn accepted(bytes: usize) -> bool
     ensures { result ≡ leb bytes most_input }
 {

@@ -8,6 +8,7 @@ ghost use Rattle.taken.specs.Selections.{passes, taken_by, from_node, span_of, b
 use model::{Direction, Key};
 
 // The edges of pairs of node n in space s (0: in all spaces), with edge g and node m (0: any).
+// By hand: 0 is no name, so that it needs no Option to mean any; the words of keys have it in the same way.
 #[derive(Clone, Copy)]
 pub struct EdgesOf {
     pub d: Direction,
