@@ -29,7 +29,8 @@ use Rattle.model.proofs.Steps.{Passed, passed, agrees, agree, n_named, g_named, 
 use Rattle.model.proofs.Refusals.{stopped, idle_form}
 use Rattle.edit.proofs.Built.{store_tuples, edited_store}
 use Rattle.listings.proofs.Stores.{names_asked}
-use Rattle.calls.specs.Perform.{NamesIn, ReadyFor, Ready, Performed}
+use Rattle.removals.specs.Collected.{NamesIn}
+use Rattle.calls.specs.Perform.{ReadyFor, Ready, Performed}
 use Rattle.refusals.specs.Checks.{checked, of_store}
 use Rattle.refusals.proofs.Stops.{call_passes, call_stops, nothing_passes, all_pass, store_stops}
 

@@ -8,7 +8,6 @@ use native.Mathlib.Omega.{arith}
 use lib.ListN.{length}
 use Rattle.std.specs.Prelude.{Ok}
 use Rattle.model.specs.declared.Answer.TheVariants.{Name, Added, Removed, Value, YesNo, List as Listed}
-use Rattle.model.specs.declared.Direction.{Direction}
 use Rattle.model.specs.declared.Fields.{Fields}
 use Rattle.model.specs.declared.Object.{Object}
 use Rattle.model.specs.declared.Listing.{Listing}
@@ -26,31 +25,8 @@ use Rattle.model.proofs.Steps.{length_destroyed}
 use Rattle.entries.specs.Queries.{written_pairs}
 use Rattle.listings.specs.Lists.{NamesAsked}
 use Rattle.steps.specs.Objects.{Room, Bound}
-use Rattle.calls.specs.Perform.{NamesIn, NamesRead, ReadyFor, Ready, Performed}
-
--- ---- D
-
-module _ (r : Removal) (f : Fields) (h : NamesRead r f) where
-  names_of : {x : Removal} → r ≡ x → NamesIn x f
-  names_of e = subst (λ (y : Removal). NamesIn y f) e h.named
-
-  pub pair_edge : (d : Direction) → r ≡ Removal.P d → f.g ≢ 0
-  pair_edge d e = (names_of e).0
-
-  pub pair_second : (d : Direction) → r ≡ Removal.P d → f.m ≢ 0
-  pair_second d e = (names_of e).1
-
-  pub named_edge : (d : Direction) → r ≡ Removal.GG d → f.g ≢ 0
-  named_edge d e = names_of e
-
-  pub named_second : (d : Direction) → r ≡ Removal.GN d → f.m ≢ 0
-  named_second d e = names_of e
-
-  pub named_node : r ≡ Removal.UN → f.n ≢ 0
-  named_node e = names_of e
-
-  pub named_space : r ≡ Removal.US → f.s ≢ 0
-  named_space e = names_of e
+use Rattle.removals.specs.Collected.{NamesRead}
+use Rattle.calls.specs.Perform.{ReadyFor, Ready, Performed}
 
 -- ---- what each family of operators requires
 

@@ -1,30 +1,16 @@
 -- What a step asks of its call, and all that it does.
-use Rattle.std.specs.Prelude.{false, List, ◌≢◌, ◌≡◌, ℕ, ◌≤◌, length, Ok}
+use Rattle.std.specs.Prelude.{false, List, ◌≡◌, ℕ, ◌≤◌, length, Ok}
 use Rattle.model.specs.declared.Answer.{Answer}
 use Rattle.model.specs.declared.Fields.{Fields}
 use Rattle.model.specs.declared.Operator.{Operator}
 use Rattle.model.specs.declared.Operator.TheVariants.{Create, Bind, Value as Values, Exists, Destroy, List as Lists}
-use Rattle.model.specs.declared.Removal.{Removal}
 use Rattle.layouts.specs.Buffer.{tuples_of}
 use Rattle.model.specs.Steps.{created, listed, reply, after}
 use Rattle.model.specs.OneCall.{answer_of, list_after, writes}
 use Rattle.chain.specs.Links.{Edited}
 use Rattle.listings.specs.Lists.{NamesAsked}
+use Rattle.removals.specs.Collected.{NamesRead}
 use Rattle.steps.specs.Objects.{Room}
-
--- names that a removal reads are not 0
-abbrev pub NamesIn : Removal → Fields → Type 0
-NamesIn (Removal.P d) f = (f.g ≢ 0) × (f.m ≢ 0)
-NamesIn (Removal.G d) f = Unit {0}
-NamesIn (Removal.GG d) f = f.g ≢ 0
-NamesIn (Removal.GN d) f = f.m ≢ 0
-NamesIn (Removal.N d) f = Unit {0}
-NamesIn (Removal.NG d) f = f.g ≢ 0
-NamesIn Removal.UN f = f.n ≢ 0
-NamesIn Removal.US f = f.s ≢ 0
-
-pub record NamesRead (r : Removal) (f : Fields) : Type 0 where
-  pub named : NamesIn r f
 
 -- what conditions 3, 4, 9 and 10 have left of a call that they do not stop
 abbrev pub ReadyFor : Operator → Fields → List ℕ → ℕ → Type 0

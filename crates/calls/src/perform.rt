@@ -2,32 +2,14 @@
 // An inner layer: what its functions require, their callers have shown; only the entry refuses.
 ghost use Rattle.std.specs.Prelude.{true, ◌≡◌, length, Ok};
 ghost use Rattle.layouts.specs.Buffer.{tuples_of, is_store};
-ghost use Rattle.model.specs.Steps.{destroyed, idle_reply};
+ghost use Rattle.model.specs.Steps.{idle_reply};
 ghost use Rattle.model.specs.OneCall.{answer_of};
 ghost use Rattle.chain.specs.Links.{Edited};
 ghost use Rattle.located.specs.Located.{NearIn};
-ghost use Rattle.calls.specs.Perform.{NamesRead, Ready, Performed};
+ghost use Rattle.calls.specs.Perform.{Ready, Performed};
 
 use located::Near;
-use model::{Answer, Fields, Operator, Removal};
-
-// D: removes what the operator names.
-#[tactic(auto, unfolding(model::specs::Steps::destroyed, layouts::specs::Buffer::is_store, layouts::specs::Buffer::tuples_of))]
-fn destroy(b: &mut [u32], near: Near, r: Removal, f: Fields)
-    requires { (is_store b.old ≡ true) × NearIn b.old near × NamesRead r f }
-    ensures { Edited b.old b.new (destroyed r f (tuples_of b.old)) }
-{
-    match r {
-        Removal::P(d) => removals::destroy_pair(b, near, d, f),
-        Removal::G(d) => removals::destroy_edges(b, near, d, f),
-        Removal::GG(d) => removals::destroy_edges_named(b, near, d, f),
-        Removal::GN(d) => removals::destroy_edges_between(b, near, d, f),
-        Removal::N(d) => removals::destroy_nodes(b, near, d, f),
-        Removal::NG(d) => removals::destroy_nodes_by_edge(b, near, d, f),
-        Removal::UN => removals::destroy_node(b, near, f),
-        Removal::US => removals::destroy_space(b, near, f),
-    }
-}
+use model::{Answer, Fields, Operator};
 
 // What an operator answers with nothing as its space, where `name` is the call's first argument: no store is read or written.
 // Condition 12 stops V before.
@@ -72,7 +54,7 @@ pub fn perform(
         Operator::Exists(o) => Answer::YesNo(steps::exists(store, near, o, f)),
         Operator::Destroy(r) => {
             let before = edit::tuple_count(store);
-            destroy(store, near, r, f);
+            removals::destroy(store, near, r, f);
             Answer::Removed(name, before - edit::tuple_count(store))
         }
         Operator::List(l) => Answer::List(listings::write_listed(store, near, l, f, list)),

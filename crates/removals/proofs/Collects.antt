@@ -5,7 +5,7 @@ use mathlib.Core.Logic.{◌≢◌}
 use mathlib.Core.Path.{◌≡◌, refl, sym, ap, ap₂, ◌∙◌, subst}
 use Prim.Native.Nat.{ℕ, zero, suc, ◌+◌, ◌*◌, ◌≤◌, ◌<◌}
 use native.Mathlib.Omega.{arith}
-use lib.Seq.{take-length, length-take-le, take-append_seam}
+use lib.Seq.{length-take-le, take-append_seam}
 use lib.ListN.{length, take, drop, get_or, length-append, length-map}
 use Rattle.model.specs.declared.Fields.{Fields}
 use Rattle.model.specs.declared.Direction.{Direction}
@@ -19,8 +19,8 @@ use Rattle.model.specs.Rules.{TupleRules}
 use Rattle.model.specs.Steps.{node_taken, remove_nodes, listed}
 use Rattle.model.proofs.Entries.{Member, pairs_sound, nodes_sound, only_sound}
 use Rattle.model.proofs.Steps.{every_member, pair_named}
-use Rattle.chain.specs.Links.{Linked, Edited}
-use Rattle.edit.proofs.Built.{unedited, store_tuples}
+use Rattle.chain.specs.Links.{Edited}
+use Rattle.edit.proofs.Built.{store_tuples}
 use Rattle.entries.specs.Queries.{Readable, written_pairs}
 use Rattle.entries.specs.declared.lists.TheConstants.{MOST_LISTED}
 use Rattle.entries.proofs.Counted.{entries_most}
@@ -48,14 +48,7 @@ pub record Removing (b₀ : List ℕ) (s : ℕ) (ns : List ℕ) (b : List ℕ) (
   pub done : Edited b₀ b (remove_each s (take i ns) (tuples_of b₀))
 
 module _ (b₀ : List ℕ) (s : ℕ) (ns : List ℕ) where
-  pub removing_none : Linked b₀ → Removing b₀ s ns b₀ 0
-  unfolding remove_each
-  removing_none L = record { low = omega arith; done = unedited b₀ (tuples_of b₀) L refl }
-
   module _ (b : List ℕ) (i : ℕ) (R : Removing b₀ s ns b i) where
-    pub removing_linked : Linked b
-    removing_linked = R.done.linked
-
     pub removing_next : (b' : List ℕ) → i < length ns → Edited b b' (remove (node_taken s (get_or ns i 0)) (tuples_of b)) → Removing b₀ s ns b' (i + 1)
     removing_next b' h E =
         record {
@@ -69,11 +62,6 @@ module _ (b₀ : List ℕ) (s : ℕ) (ns : List ℕ) where
       where
         next : i + 1 ≡ suc i
         next = omega arith
-
-    pub removing_all : length ns ≤ i → Edited b₀ b (remove_each s ns (tuples_of b₀))
-    removing_all h =
-        let whole : take i ns ≡ ns = ap (λ (n : ℕ). take n ns) (omega (arith, R.low, h)) ∙ take-length ns in
-        subst (λ (xs : List ℕ). Edited b₀ b (remove_each s xs (tuples_of b₀))) whole R.done
 
 -- ---- the nodes of a list
 

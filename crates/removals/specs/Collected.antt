@@ -3,6 +3,7 @@ use Rattle.std.specs.Prelude.{List, [], ◌∷◌, ◌≢◌, ◌≡◌, ℕ, �
 use Rattle.model.specs.declared.Direction.{Direction}
 use Rattle.model.specs.declared.Fields.{Fields}
 use Rattle.model.specs.declared.Pair.{Pair}
+use Rattle.model.specs.declared.Removal.{Removal}
 use Rattle.taken.specs.declared.EdgesOf.{EdgesOf}
 use Rattle.model.specs.Pairs.{edge_of, node_of, EveryPair}
 use Rattle.model.specs.Tuples.{Tuples, remove}
@@ -28,3 +29,17 @@ NodeEntry p = (edge_of p ≡ 0) × (node_of p ≢ 0)
 -- a list of nodes
 abbrev pub NodesListed : List Pair → Type 0
 NodesListed ps = EveryPair NodeEntry ps
+
+-- names that a removal reads are not 0
+abbrev pub NamesIn : Removal → Fields → Type 0
+NamesIn (Removal.P d) f = (f.g ≢ 0) × (f.m ≢ 0)
+NamesIn (Removal.G d) f = Unit {0}
+NamesIn (Removal.GG d) f = f.g ≢ 0
+NamesIn (Removal.GN d) f = f.m ≢ 0
+NamesIn (Removal.N d) f = Unit {0}
+NamesIn (Removal.NG d) f = f.g ≢ 0
+NamesIn Removal.UN f = f.n ≢ 0
+NamesIn Removal.US f = f.s ≢ 0
+
+pub record NamesRead (r : Removal) (f : Fields) : Type 0 where
+  pub named : NamesIn r f

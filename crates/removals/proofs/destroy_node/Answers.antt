@@ -1,6 +1,0 @@
-use Rattle.model.specs.Steps.{destroyed}
-use Rattle.removals.proofs.destroy_node.Goals as goal
-
-pub returns : goal.returns
-unfolding destroyed
-returns c = search
