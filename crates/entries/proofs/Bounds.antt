@@ -19,7 +19,6 @@ use Rattle.layouts.specs.Chains.{Chain, Rest}
 use Rattle.model.proofs.Bools.{not_yes, or_cases, or_left, or_right}
 use Rattle.model.proofs.Order.{keys, compare_eq, compare_lt, compare_gt}
 use Rattle.model.proofs.Ordered.{Below}
-use Rattle.chain.specs.declared.Place.{Place}
 use Rattle.chain.specs.Links.{Linked, place_in}
 use Rattle.layouts.proofs.Chains.{start_within}
 use Rattle.chain.proofs.Walks.{used_rest}
@@ -183,8 +182,3 @@ module _ (b : List ℕ) (q : Query) where
       from_head : (j : ℕ) (is : List ℕ) → Chain (next b) j is → Chain (next b) (head_of is) is
       from_head j [] c = refl
       from_head j (i ∷ is) c = subst (λ (x : ℕ). Chain (next b) x (i ∷ is)) (sym c.1) c
-
--- the place of the start key holds the first record
-pub first_place : (b : List ℕ) (q : Query) (k : Key) (p : Place) → k ≡ start_key q → p ≡ place_in (key_at b) k 0 (used_of b) → p.at ≡ start_in b q
-unfolding start_in
-first_place b q k p ek ep = ap (λ (r : Place). r.at) (ep ∙ ap (λ (j : Key). place_in (key_at b) j 0 (used_of b)) ek)

@@ -10,8 +10,8 @@ use Rattle.model.specs.declared.Direction.{Direction}
 use Rattle.model.specs.declared.Direction.TheVariants.{Outpointing, Inpointing, Adjacent}
 use Rattle.model.specs.declared.Key.{Key}
 use Rattle.model.specs.declared.Pair.{Pair}
-use Rattle.model.specs.Keys.{is_node, is_edge}
-use Rattle.model.specs.Pairs.{pair, only_if, out_pair, in_pair, space_entry}
+use Rattle.model.specs.Keys.{is_edge}
+use Rattle.model.specs.Pairs.{pair, only_if, out_pair, in_pair}
 use Rattle.model.proofs.Bools.{not_yes, not_no, and_never, or_no_left, or_no_right}
 use Rattle.taken.specs.Selections.{passes}
 use Rattle.entries.specs.declared.Part.{Part}
@@ -19,17 +19,12 @@ use Rattle.entries.specs.declared.Part.TheVariants.{Both, Edge, Node}
 use Rattle.entries.specs.declared.PairQuery.{PairQuery}
 use Rattle.entries.specs.declared.Query.TheVariants.{Pairs}
 use Rattle.entries.specs.declared.NamesQuery.{NamesQuery}
-use Rattle.entries.specs.declared.NamesQuery.TheVariants.{Nodes, Spaces, SpacesOf}
 use Rattle.entries.specs.Cursors.{MaybeEntry, list_of}
 use Rattle.entries.specs.Queries.{part_of, chosen, end_pair, first_pairs, first_at, name_at, ends_at}
 
 -- ---- a pair that is asked for or not
 
 module _ (q : PairQuery) (edge node : ℕ) (t : Bool) (e : t ≡ passes q.g q.m (pair edge node)) where
-  pub not_chosen : not t ≡ true → [] ≡ chosen q (pair edge node ∷ [])
-  unfolding chosen
-  not_chosen n = ap (λ (u : Bool). cond u (part_of q.part (pair edge node) ∷ []) []) (sym (not_yes t n) ∙ e)
-
   module _ (n : not t ≡ false) where
     one_part : (part : Part) → q.part ≡ part → part_of part (pair edge node) ∷ [] ≡ chosen q (pair edge node ∷ [])
     unfolding chosen
@@ -90,10 +85,6 @@ module _ (q : PairQuery) (k : Key) where
       ∙ ap (λ (xs : List Pair). chosen q xs) (sym same)
       ∙ sym (ap (λ (t : Bool). cond t (chosen q rs) []) (eq-eqb k.s q.s e))
 
-  pub first_elsewhere : (k.s ≡ q.s → ⊥) → [] ≡ first_at (Pairs q) k
-  unfolding first_at
-  first_elsewhere d = elsewhere (first_pairs q.d q.n k) d
-
   module _ (e : k.s ≡ q.s) (r : MaybeEntry) where
     by_direction : (d : Direction) → q.d ≡ d → list_of r ≡ chosen q (first_pairs d q.n k) → list_of r ≡ first_at (Pairs q) k
     unfolding first_at
@@ -109,46 +100,6 @@ module _ (q : PairQuery) (k : Key) where
     first_in d er = by_direction Inpointing d er
 
 -- ---- nodes and spaces
-
-module _ (k : Key) where
-  module _ (t : Bool) (et : t ≡ is_node k) where
-    module _ (s : ℕ) where
-      at_nodes : (u : Bool) → eqb k.s s ≡ u → (name_at (Nodes s) k) ≡ cond (t && u) (pair 0 k.n ∷ []) []
-      unfolding name_at
-      at_nodes u eu = sym (ap₂ (λ (x y : Bool). cond (x && y) (pair 0 k.n ∷ []) []) et (sym eu))
-
-      pub nodes_no : t ≡ false → [] ≡ name_at (Nodes s) k
-      nodes_no e = sym (at_nodes (eqb k.s s) refl ∙ ap (λ (x : Bool). cond (x && eqb k.s s) (pair 0 k.n ∷ []) []) e)
-
-      pub nodes_other : t ≡ true → (k.s ≡ s → ⊥) → [] ≡ name_at (Nodes s) k
-      nodes_other e d = sym (at_nodes false (ne_eqb k.s s d) ∙ ap (λ (x : Bool). cond (x && false) (pair 0 k.n ∷ []) []) e)
-
-      pub nodes_yes : t ≡ true → k.s ≡ s → pair 0 k.n ∷ [] ≡ name_at (Nodes s) k
-      nodes_yes e d =
-          sym (at_nodes true (eq-eqb k.s s d) ∙ ap (λ (x : Bool). cond (x && true) (pair 0 k.n ∷ []) []) e)
-
-    module _ (n : ℕ) where
-      at_holders : (u : Bool) → eqb k.n n ≡ u → (name_at (SpacesOf n) k) ≡ cond (t && u) (space_entry k.s) []
-      unfolding name_at
-      at_holders u eu = sym (ap₂ (λ (x y : Bool). cond (x && y) (space_entry k.s) []) et (sym eu))
-
-      pub holders_no : t ≡ false → [] ≡ name_at (SpacesOf n) k
-      holders_no e = sym (at_holders (eqb k.n n) refl ∙ ap (λ (x : Bool). cond (x && eqb k.n n) (space_entry k.s) []) e)
-
-      pub holders_other : t ≡ true → (k.n ≡ n → ⊥) → [] ≡ name_at (SpacesOf n) k
-      holders_other e d = sym (at_holders false (ne_eqb k.n n d) ∙ ap (λ (x : Bool). cond (x && false) (space_entry k.s) []) e)
-
-      pub holders_yes : t ≡ true → k.n ≡ n → pair 0 k.s ∷ [] ≡ name_at (SpacesOf n) k
-      holders_yes e d =
-          sym (at_holders true (eq-eqb k.n n d) ∙ ap (λ (x : Bool). cond (x && true) (space_entry k.s) []) e)
-
-  pub spaces_no : (k.n ≡ 0 → ⊥) → [] ≡ name_at Spaces k
-  unfolding name_at
-  spaces_no d = sym (ap (λ (t : Bool). cond t (space_entry k.s) []) (ne_eqb k.n 0 d))
-
-  pub spaces_yes : k.n ≡ 0 → pair 0 k.s ∷ [] ≡ name_at Spaces k
-  unfolding name_at
-  spaces_yes e = sym (ap (λ (t : Bool). cond t (space_entry k.s) []) (eq-eqb k.n 0 e))
 
 -- ---- the cases of a query
 

@@ -8,35 +8,15 @@ use borrow.Author.Tests.{eq-eqb, ne_eqb}
 use Rattle.model.specs.declared.Direction.{Direction}
 use Rattle.model.specs.declared.Direction.TheVariants.{Outpointing, Inpointing, Adjacent}
 use Rattle.model.specs.declared.Key.{Key}
-use Rattle.model.specs.Keys.{node_key, space_key}
 use Rattle.entries.specs.declared.PairQuery.{PairQuery}
 use Rattle.entries.specs.declared.Query.TheVariants.{Pairs}
 use Rattle.entries.specs.declared.NamesQuery.{NamesQuery}
 use Rattle.entries.specs.declared.NamesQuery.TheVariants.{Nodes, Spaces, SpacesOf}
-use Rattle.entries.specs.Queries.{names_start, names_outside, pairs_start, pairs_outside, outside, ends_at}
+use Rattle.entries.specs.Queries.{names_outside, pairs_outside, outside}
 
 -- ---- the ends of an edge
 
-module _ (n : ℕ) (k : Key) where
-  pub ends_first : k.n ≡ n → eqb k.n n ≡ ends_at n k
-  unfolding ends_at
-  ends_first e = let y = eq-eqb k.n n e in y ∙ sym (ap (λ (t : Bool). t || eqb k.m n) y)
-
-  pub ends_second : (k.n ≡ n → ⊥) → eqb k.m n ≡ ends_at n k
-  unfolding ends_at
-  ends_second d = sym (ap (λ (t : Bool). t || eqb k.m n) (ne_eqb k.n n d))
-
 -- ---- where the entries of a query can be
-
-module _ (q : PairQuery) (r : Key) where
-  pub start_out : q.d ≡ Outpointing → r ≡ node_key q.s q.n → r ≡ pairs_start q.d q.s q.n
-  unfolding pairs_start
-  start_out e er = er ∙ ap (λ (x : Direction). pairs_start x q.s q.n) (sym e)
-
-  pub start_other : (q.d ≡ Inpointing) ⊎ (q.d ≡ Adjacent) → r ≡ space_key q.s → r ≡ pairs_start q.d q.s q.n
-  unfolding pairs_start
-  start_other (inl e) er = er ∙ ap (λ (x : Direction). pairs_start x q.s q.n) (sym e)
-  start_other (inr e) er = er ∙ ap (λ (x : Direction). pairs_start x q.s q.n) (sym e)
 
 module _ (q : PairQuery) (k : Key) where
   by_direction : (d : Direction) → q.d ≡ d → (r : Bool) → r ≡ pairs_outside d q.s q.n k → r ≡ outside (Pairs q) k
@@ -58,14 +38,6 @@ module _ (q : PairQuery) (k : Key) where
   outside_other (inr e) = by_direction Adjacent e _ refl
 
 -- ---- names, by the variant that was tested
-
-pub spaces_start : (w : NamesQuery) (r : Key) → (w ≡ Spaces) ⊎ ((n : ℕ) × (w ≡ SpacesOf n)) → r ≡ space_key 0 → r ≡ names_start w
-unfolding names_start
-spaces_start w r (inl e) er = er ∙ ap names_start (sym e)
-spaces_start w r (inr e) er = er ∙ ap names_start (sym e.1)
-
-pub names_start_case : (w x : NamesQuery) (r : Key) → w ≡ x → r ≡ names_start x → r ≡ names_start w
-names_start_case w x r e er = er ∙ ap names_start (sym e)
 
 -- names that are not the nodes of a space are never outside
 pub never_outside : (w : NamesQuery) (k : Key) → ((s : ℕ) → w ≡ Nodes s → ⊥) → false ≡ names_outside w k

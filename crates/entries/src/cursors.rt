@@ -25,6 +25,7 @@ fn turned_to(q: PairQuery, d: Direction) -> PairQuery
 }
 
 // The streams of a query.
+#[tactic(auto, unfolding(crate::specs::Cursors::out_query))]
 fn out_query(q: Query) -> Query
     ensures { result ≡ out_query q }
 {
@@ -37,6 +38,7 @@ fn out_query(q: Query) -> Query
     q
 }
 
+#[tactic(auto, unfolding(crate::specs::Cursors::in_query))]
 fn in_query(q: Query) -> Query
     ensures { result ≡ in_query q }
 {
@@ -47,6 +49,7 @@ fn in_query(q: Query) -> Query
 }
 
 // The side of a query at its start.
+#[tactic(auto, using(crate::proofs::CursorLaws::start_behind), unfolding(crate::specs::Cursors::entry_of))]
 fn start_side(b: &[u32], hint: usize, q: Query) -> Side
     requires { Linked b.now × Hint b.now hint }
     ensures { SideBehind b.now q none result × (entry_of result.stream.entry ≡ none) }
@@ -76,6 +79,7 @@ pub fn start(b: &[u32], hint: usize, q: Query) -> Cursor
 }
 
 // A side of adjacent pairs, before the least entry behind the one that was given: it goes on where that was its own.
+#[tactic(auto, unfolding(crate::specs::Cursors::entry_of, crate::specs::Cursors::one_way))]
 fn move_side(b: &[u32], q: PairQuery, s: Side, given: Option<Entry>) -> Side
     requires { SideBehind b.now (Pairs q) (entry_of given) s × (one_way (Pairs q) ≡ true) }
     ensures { Stands b.now (Pairs q) (entry_of given) result.stream × (result.start ≡ start_in b.now (Pairs q)) }
@@ -99,6 +103,7 @@ fn move_both(b: &[u32], p: PairQuery, c: Cursor, given: Option<Entry>) -> Cursor
 }
 
 // The cursor of pairs, before the least one behind the one that it gave.
+#[tactic(auto, unfolding(crate::specs::Cursors::entry_of))]
 fn advance_pairs(b: &[u32], p: PairQuery, c: Cursor, given: Option<Entry>) -> Cursor
     requires { CursorBehind b.now (Pairs p) (entry_of given) c }
     ensures { StandsBefore b.now (Pairs p) (entry_of given) result }
@@ -112,6 +117,7 @@ fn advance_pairs(b: &[u32], p: PairQuery, c: Cursor, given: Option<Entry>) -> Cu
 }
 
 // The cursor before the least entry behind the one that it gave.
+#[tactic(auto, unfolding(crate::specs::Cursors::entry_of, crate::specs::Cursors::in_order))]
 pub fn advance(b: &[u32], q: Query, c: Cursor, given: Option<Entry>) -> Cursor
     requires { CursorBehind b.now q (entry_of given) c }
     ensures { StandsBefore b.now q (entry_of given) result }

@@ -107,6 +107,7 @@ pub struct Progress {
 }
 
 // Is a node one of the two ends of an edge.
+#[tactic(auto, unfolding(crate::specs::Queries::ends_at))]
 fn touches(n: u32, k: Key) -> bool
     ensures { result ≡ ends_at n k }
 {
@@ -121,6 +122,7 @@ fn is_node(k: Key) -> bool
 }
 
 // The entry for a pair; none where it is not asked for.
+#[tactic(auto, unfolding(crate::specs::Queries::chosen, crate::specs::Cursors::list_of))]
 fn chosen_entry(q: PairQuery, edge: u32, node: u32) -> Option<Entry>
     ensures { list_of result ≡ (chosen q (pair edge node ∷ [])) }
 {
@@ -145,6 +147,7 @@ fn end_entry(q: PairQuery, edge: u32, first: u32, second: u32) -> Option<Entry>
 }
 
 // The first entry that a key gives.
+#[tactic(auto, unfolding(crate::specs::Queries::first_at, crate::specs::Cursors::list_of))]
 fn first_pair_entry(q: PairQuery, k: Key) -> Option<Entry>
     ensures { list_of result ≡ (first_at (Query.Pairs q) k) }
 {
@@ -180,6 +183,7 @@ impl Source for PairQuery {
 }
 
 // The entry of a node of space s.
+#[tactic(auto, unfolding(crate::specs::Cursors::list_of, crate::specs::Queries::name_at))]
 fn node_entry(s: u32, k: Key) -> Option<Entry>
     ensures { list_of result ≡ name_at (NamesQuery.Nodes s) k }
 {
@@ -193,6 +197,7 @@ fn node_entry(s: u32, k: Key) -> Option<Entry>
 }
 
 // The entry of a space.
+#[tactic(auto, unfolding(crate::specs::Cursors::list_of, crate::specs::Queries::name_at))]
 fn space_entry(k: Key) -> Option<Entry>
     ensures { list_of result ≡ name_at NamesQuery.Spaces k }
 {
@@ -203,6 +208,7 @@ fn space_entry(k: Key) -> Option<Entry>
 }
 
 // The entry of a space that holds node n.
+#[tactic(auto, unfolding(crate::specs::Cursors::list_of, crate::specs::Queries::name_at))]
 fn holder_entry(n: u32, k: Key) -> Option<Entry>
     ensures { list_of result ≡ name_at (NamesQuery.SpacesOf n) k }
 {
@@ -237,6 +243,7 @@ impl Source for NamesQuery {
 }
 
 // No key below this one gives a pair.
+#[tactic(auto, unfolding(crate::specs::Queries::pairs_start))]
 fn pairs_start(q: PairQuery) -> Key
     ensures { result ≡ pairs_start q.d q.s q.n }
 {
@@ -247,6 +254,7 @@ fn pairs_start(q: PairQuery) -> Key
 }
 
 // No key below this one gives a name.
+#[tactic(auto, unfolding(crate::specs::Queries::names_start))]
 fn names_start(w: NamesQuery) -> Key
     ensures { result ≡ names_start w }
 {
@@ -257,6 +265,7 @@ fn names_start(w: NamesQuery) -> Key
 }
 
 // No key below this one gives an entry.
+#[tactic(auto, unfolding(crate::specs::Queries::start_key))]
 fn start_key(q: Query) -> Key
     ensures { result ≡ start_key q }
 {
@@ -267,6 +276,7 @@ fn start_key(q: Query) -> Key
 }
 
 // The first record that can give an entry; 0 for none.
+#[tactic(auto, unfolding(crate::specs::Queries::start_in))]
 fn first_record(b: &[u32], hint: usize, q: Query) -> usize
     requires { Linked b.now × Hint b.now hint }
     ensures { result ≡ start_in b.now q }
@@ -275,6 +285,7 @@ fn first_record(b: &[u32], hint: usize, q: Query) -> usize
 }
 
 // Can a key give two entries.
+#[tactic(auto, unfolding(crate::specs::Queries::gives_two))]
 fn gives_two(q: Query) -> bool
     ensures { result ≡ gives_two q }
 {
@@ -285,6 +296,7 @@ fn gives_two(q: Query) -> bool
 }
 
 // Are there places for as many entries as there are tuples: no S operator lists more, so that they need not be counted.
+#[tactic(auto, unfolding(layouts::specs::Buffer::tuples_of))]
 pub fn surely_fits(b: &[u32], room: usize) -> bool
     requires { Linked b.now }
     ensures { result ≡ leb (length (tuples_of b.now)) room }

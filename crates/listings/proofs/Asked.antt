@@ -206,33 +206,10 @@ told_written l f q ts list list' h e W = W ∙ ap (λ (ps : List Pair). written_
 
 -- ---- what a function answers once it knows which operator it has
 
-pub query_as : (l l' : Listing) (f : Fields) (q : Query) → l ≡ l' → q ≡ query_of l' f → q ≡ query_of l f
-query_as l l' f q e Q = Q ∙ ap (λ (x : Listing). query_of x f) (sym e)
-
-pub hint_as : (l l' : Listing) (near : Near) (h : ℕ) → l ≡ l' → h ≡ list_hint l' near → h ≡ list_hint l near
-hint_as l l' near h e H = H ∙ ap (λ (x : Listing). list_hint x near) (sym e)
-
-pub space_hint : (d : Direction) (near : Near) → (d ≡ Inpointing) ⊎ (d ≡ Adjacent) → near.space ≡ pairs_hint d near
-unfolding pairs_hint
-space_hint d near (inl e) = ap (λ (x : Direction). pairs_hint x near) (sym e)
-space_hint d near (inr e) = ap (λ (x : Direction). pairs_hint x near) (sym e)
-
-pub pairs_place : (l : Listing) (d : Direction) (near : Near) (h : ℕ)
-    → (l ≡ Listing.P d) ⊎ ((l ≡ Listing.G d) ⊎ ((l ≡ Listing.GN d) ⊎ ((l ≡ Listing.N d) ⊎ (l ≡ Listing.NG d)))) → h ≡ pairs_hint d near → h ≡ list_hint l near
-unfolding list_hint
-pairs_place l d near h (inl e) H = hint_as l (Listing.P d) near h e H
-pairs_place l d near h (inr (inl e)) H = hint_as l (Listing.G d) near h e H
-pairs_place l d near h (inr (inr (inl e))) H = hint_as l (Listing.GN d) near h e H
-pairs_place l d near h (inr (inr (inr (inl e)))) H = hint_as l (Listing.N d) near h e H
-pairs_place l d near h (inr (inr (inr (inr e)))) H = hint_as l (Listing.NG d) near h e H
-
 pub no_place : (l : Listing) (near : Near) → (l ≡ Listing.US) ⊎ (l ≡ Listing.USn) → 0 ≡ list_hint l near
 unfolding list_hint
 no_place l near (inl e) = ap (λ (x : Listing). list_hint x near) (sym e)
 no_place l near (inr e) = ap (λ (x : Listing). list_hint x near) (sym e)
-
-pub pairs_hint_as : (d d' : Direction) (near : Near) (h : ℕ) → d ≡ d' → h ≡ pairs_hint d' near → h ≡ pairs_hint d near
-pairs_hint_as d d' near h e H = H ∙ ap (λ (x : Direction). pairs_hint x near) (sym e)
 
 -- ---- hints
 

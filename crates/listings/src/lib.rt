@@ -29,6 +29,7 @@ fn pair_query(d: Direction, f: Fields, g: u32, m: u32, part: Part) -> Query
 }
 
 // The query of an S operator.
+#[tactic(auto, unfolding(crate::specs::Lists::query_of))]
 pub fn query_of(l: Listing, f: Fields) -> Query
     ensures { result ≡ query_of l f }
 {
@@ -45,6 +46,7 @@ pub fn query_of(l: Listing, f: Fields) -> Query
 }
 
 // Where the walk for pairs starts: edges from n stand behind n, edges to n anywhere in the space.
+#[tactic(auto, unfolding(crate::specs::Lists::pairs_hint))]
 fn pairs_hint(d: Direction, near: Near) -> usize
     ensures { result ≡ pairs_hint d near }
 {
@@ -55,6 +57,7 @@ fn pairs_hint(d: Direction, near: Near) -> usize
 }
 
 // Where the walk of an S operator starts.
+#[tactic(auto, unfolding(crate::specs::Lists::list_hint))]
 fn list_hint(l: Listing, near: Near) -> usize
     ensures { result ≡ list_hint l near }
 {

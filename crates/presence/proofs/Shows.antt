@@ -75,10 +75,6 @@ module _ (k : Key) (e : good_key k ≡ true) where
 -- ---- the second end of one key
 
 module _ (ts : Tuples) (k : Key) where
-  pub there_none : k.g ≡ 0 → (j : Key) → k ≡ j → eqb k.g 0 ≡ end_there ts j
-  unfolding end_there
-  there_none g j e = let own : true ≡ end_there ts k = simp (eq-eqb k.g 0 g) in eq-eqb k.g 0 g ∙ own ∙ ap (end_there ts) e
-
   pub there_edge : k.g ≢ 0 → (t : Bool) → t ≡ present (node_key k.s k.m) ts → (j : Key) → k ≡ j → t ≡ end_there ts j
   unfolding end_there
   there_edge g t h j e =

@@ -29,6 +29,7 @@ fn end_shown(marks: &Marks, k: Key) -> bool
 }
 
 // Is the second end there of record i; other keys have none.
+#[tactic(auto, unfolding(layouts::specs::Buffer::capacity_of, crate::specs::Presence::end_there, crate::specs::Presence::good_key, layouts::specs::Buffer::key_at))]
 fn end_there(b: &[u32], marks: &Marks, i: usize) -> bool
     requires { Sorted b.now × MarksHold b.now marks.now.words × ((i ≢ 0) × (i ≤ capacity_of b.now) × (good_key (key_at b.now i) ≡ true)) }
     ensures { result ≡ end_there (tuples_of b.now) (key_at b.now i) }

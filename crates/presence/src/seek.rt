@@ -8,7 +8,7 @@ ghost use Rattle.presence.specs.Presence.{Walkable, tuples_from, Seekable, is_at
 use model::Key;
 
 // Does record i have this key.
-#[tactic(auto, using(crate::proofs::Rest::record_inside), unfolding(crate::specs::Presence::is_at))]
+#[tactic(auto, unfolding(layouts::specs::Buffer::capacity_of, crate::specs::Presence::is_at))]
 pub fn is_at(b: &[u32], i: usize, k: Key) -> bool
     requires { Walkable b.now × (i ≤ capacity_of b.now) }
     ensures { result ≡ is_at b.now i k }
@@ -17,7 +17,7 @@ pub fn is_at(b: &[u32], i: usize, k: Key) -> bool
 }
 
 // Does record i have a key below this one.
-#[tactic(auto, using(crate::proofs::Rest::record_inside), unfolding(crate::specs::Presence::is_before))]
+#[tactic(auto, unfolding(layouts::specs::Buffer::capacity_of, crate::specs::Presence::is_before))]
 pub fn is_before(b: &[u32], i: usize, k: Key) -> bool
     requires { Walkable b.now × (i ≤ capacity_of b.now) }
     ensures { result ≡ is_before b.now i k }

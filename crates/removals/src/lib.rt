@@ -25,7 +25,7 @@ fn remove_edges(b: &mut [u32], hint: usize, e: EdgesOf)
 }
 
 // Removes node n from space s (0: from all spaces), with its edges.
-#[tactic(auto, unfolding(model::specs::Steps::node_taken, model::specs::Tuples::remove, layouts::specs::Buffer::tuples_of, taken::specs::Selections::taken_by))]
+#[tactic(auto, unfolding(model::specs::Steps::node_taken, taken::specs::Selections::taken_by))]
 pub fn remove_node(b: &mut [u32], hint: usize, x: NodeOf)
     requires { Linked b.old × Hint b.old hint × (x.n ≢ 0) }
     ensures { Edited b.old b.new (remove (node_taken x.s x.n) (tuples_of b.old)) }
@@ -34,7 +34,7 @@ pub fn remove_node(b: &mut [u32], hint: usize, x: NodeOf)
 }
 
 // Removes a numbered space and all in it.
-#[tactic(auto, unfolding(model::specs::Tuples::remove, model::specs::Steps::space_taken, layouts::specs::Buffer::tuples_of, taken::specs::Selections::taken_by))]
+#[tactic(auto, unfolding(model::specs::Steps::space_taken, taken::specs::Selections::taken_by))]
 fn remove_space(b: &mut [u32], hint: usize, s: u32)
     requires { Linked b.old × Hint b.old hint × (s ≢ 0) }
     ensures { Edited b.old b.new (remove (space_taken s) (tuples_of b.old)) }
@@ -61,7 +61,7 @@ fn edges_of(d: Direction, f: Fields, g: u32, m: u32) -> EdgesOf
 const MOST_COLLECTED: usize = entries::lists::MOST_LISTED;
 
 // Removes each of some nodes from space s (0: from all spaces), with its edges.
-#[tactic(auto, unfolding(crate::specs::Collected::remove_each, layouts::specs::Buffer::tuples_of))]
+#[tactic(auto, unfolding(crate::specs::Collected::remove_each))]
 fn remove_each(b: &mut [u32], s: u32, nodes: &[u32])
     requires { Linked b.old × Named nodes.now }
     ensures { Edited b.old b.new (remove_each s nodes.now (tuples_of b.old)) }
@@ -82,7 +82,7 @@ fn remove_listed(b: &mut [u32], near: Near, l: Listing, f: Fields)
 }
 
 // D: removes what the operator names. With g or m as 0 the edges are those with any edge or any node.
-#[tactic(auto, unfolding(model::specs::Steps::destroyed, layouts::specs::Buffer::is_store, layouts::specs::Buffer::tuples_of, model::specs::Steps::listed))]
+#[tactic(auto, unfolding(model::specs::Steps::destroyed, layouts::specs::Buffer::is_store, model::specs::Steps::listed))]
 pub fn destroy(b: &mut [u32], near: Near, r: Removal, f: Fields)
     requires { (is_store b.old ≡ true) × NearIn b.old near × NamesRead r f }
     ensures { Edited b.old b.new (destroyed r f (tuples_of b.old)) }

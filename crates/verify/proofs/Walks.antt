@@ -83,21 +83,11 @@ module _ (b : List ℕ) where
           ap (λ (k : ℕ). along_run b k at last) more
           ∙ ap (λ (k : ℕ). cond (in_run b at) (along_run b (most - (passed + 1)) (at + 1) at) (record { at = at; left = k; last = last })) (sym more)
 
-      pub along_stop : in_run b at ≡ false → record { at = at; left = most - passed; last = last } ≡ along_run b (most - passed) at last
-      along_stop e =
-          sym
-          (along_one
-          ∙ ap (λ (t : Bool). cond t (along_run b (most - (passed + 1)) (at + 1) at) (record { at = at; left = most - passed; last = last })) e)
-
       pub along_on : in_run b at ≡ true → along_run b (most - (passed + 1)) (at + 1) at ≡ along_run b (most - passed) at last
       along_on e =
           sym
           (along_one
           ∙ ap (λ (t : Bool). cond t (along_run b (most - (passed + 1)) (at + 1) at) (record { at = at; left = most - passed; last = last })) e)
-
-    pub along_end : most ≤ passed → record { at = at; left = 0; last = last } ≡ along_run b (most - passed) at last
-    unfolding along_run
-    along_end h = let none : most - passed ≡ 0 = omega arith in sym (ap (λ (k : ℕ). along_run b k at last) none)
 
   pub walked_end : (left at last : ℕ) → at ≡ 0
       → Some (record { count = capacity_of b - left; last = last }) ≡ walked_on b (record { at = at; left = left; last = last })

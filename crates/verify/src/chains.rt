@@ -40,7 +40,7 @@ pub fn heads_fit(b: &[u32]) -> bool
 }
 
 // One record on; a walk that has ended stays, and so does one that leaves the records.
-#[tactic(auto, using(presence::proofs::Rest::record_inside), unfolding(crate::specs::Checks::stepped))]
+#[tactic(auto, unfolding(layouts::specs::Buffer::capacity_of, crate::specs::Checks::stepped))]
 pub fn step(b: &[u32], c: usize, w: Walk) -> Walk
     requires { Walkable b.now × (c ≡ capacity_of b.now) × (w.left ≢ 0) }
     ensures { result ≡ stepped b.now w }
@@ -56,7 +56,7 @@ pub fn step(b: &[u32], c: usize, w: Walk) -> Walk
 }
 
 // Is the next of a record the one after it in the buffer.
-#[tactic(auto, using(presence::proofs::Rest::record_inside), unfolding(crate::specs::Checks::in_run))]
+#[tactic(auto, unfolding(layouts::specs::Buffer::capacity_of, crate::specs::Checks::in_run))]
 fn in_run(b: &[u32], c: usize, at: usize) -> bool
     requires { Walkable b.now × (c ≡ capacity_of b.now) }
     ensures { result ≡ in_run b.now at }
@@ -73,6 +73,7 @@ fn in_run(b: &[u32], c: usize, at: usize) -> bool
 }
 
 // Walks on as far as each next is the record after, as in a fresh store: there no read waits for the one before it.
+#[tactic(auto, unfolding(crate::specs::Checks::along_run, layouts::specs::Buffer::capacity_of))]
 fn along_run(b: &[u32], c: usize, w: Walk) -> Walk
     requires { Walkable b.now × (c ≡ capacity_of b.now) }
     ensures { result ≡ along_run b.now w.left w.at w.last }
@@ -94,6 +95,7 @@ fn along_run(b: &[u32], c: usize, w: Walk) -> Walk
 }
 
 // Walks on until the chain ends, over at most C records in all; gives up where it does not end so.
+#[tactic(auto, unfolding(layouts::specs::Buffer::capacity_of, crate::specs::Checks::walked_on))]
 fn finish(b: &[u32], w: Walk) -> Option<Walked>
     requires { Walkable b.now × (w.left ≤ capacity_of b.now) }
     ensures { result ≡ walked_on b.now w }

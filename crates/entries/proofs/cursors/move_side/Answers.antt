@@ -1,4 +1,4 @@
-use Rattle.entries.proofs.CursorLaws.{side_stays, side_goes, side_moved}
+use Rattle.entries.proofs.CursorLaws.{side_stays, side_goes}
 use Rattle.entries.proofs.cursors.move_side.Goals as goal
 
 pub returns-then-ne : goal.returns-then-ne
@@ -6,6 +6,3 @@ returns-then-ne c = (search side_stays, search)
 
 pub pairs_behind-stream-requires : goal.pairs_behind-stream-requires
 pairs_behind-stream-requires c = (search side_goes, search)
-
-pub returns : goal.returns
-returns c = (search side_moved, search)

@@ -1,20 +1,10 @@
 use mathlib.Core.Bool.{true}
 use mathlib.Core.Path.{◌≡◌, ap, ◌∙◌}
 use Rattle.presence.specs.Presence.{good_key}
-use Rattle.presence.proofs.Rest.{record_inside}
-use Rattle.presence.proofs.Shows.{good_s, good_m, good_end_some, there_none, there_edge}
+use Rattle.presence.proofs.Shows.{good_s, good_m, good_end_some}
 use Rattle.presence.proofs.kept.end_there.Goals as goal
-
-pub key_of-k-requires : goal.key_of-k-requires
-key_of-k-requires c = search record_inside
-
-pub returns-then-k-eq0 : goal.returns-then-k-eq0
-returns-then-k-eq0 c = search there_none
 
 pub has_node-requires : goal.has_node-requires
 has_node-requires c =
     let good : good_key c.key_of-k.result ≡ true = ap good_key c.key_of-k.ensures ∙ c.requires.2.2 in
     (c.requires.0, c.requires.1, good_s _ good, good_m _ good, good_end_some _ good c.if-k-eq0.false)
-
-pub returns-else-k-eq0 : goal.returns-else-k-eq0
-returns-else-k-eq0 c = search there_edge

@@ -3,7 +3,6 @@ use mathlib.Core.Path.{ap, ◌∙◌}
 use Prim.Native.Nat.{ℕ, ◌-◌, ◌≤◌}
 use native.Mathlib.Omega.{arith}
 use Rattle.layouts.specs.Buffer.{capacity_of}
-use Rattle.presence.proofs.Rest.{record_inside}
 use Rattle.verify.proofs.Walks.{walked_run, walked_end, walked_long, walked_far}
 use Rattle.verify.proofs.chains.finish.Goals as goal
 
@@ -14,10 +13,6 @@ returns-then-at-c c =
 pub returns-then-left-eq0 : goal.returns-then-left-eq0
 returns-then-left-eq0 c =
     walked_long _ c.loop-at.left c.loop-at.at c.loop-at.last c.loop-at-test.true c.if-left-eq0.true ∙ c.loop-at.invariant.2
-
-pub next_of-requires : goal.next_of-requires
-next_of-requires c =
-    record_inside _ _ c.requires.0 (omega (arith, c.loop-at.invariant.0, c.if-at-c.false)) c.loop-at-test.true
 
 pub loop-at-smaller : goal.loop-at-smaller
 loop-at-smaller c =
