@@ -9,10 +9,9 @@ use Rattle.model.specs.Keys.{most_name}
 use Rattle.text.specs.Bytes.{Text, before, blank, same_text, U, hyphen}
 use Rattle.text.specs.Numerals.{is_digit, plain_digits, read_number}
 use Rattle.std.specs.Str.{bytes_eq}
-use Rattle.std.specs.Bool.{then_some}
 use Rattle.text.proofs.Reading.{before_take, same_text_lem, same_bytes, number_most}
 use Rattle.lines.specs.declared.Argument.{Argument}
-use Rattle.lines.specs.declared.Argument.TheVariants.{Number, Universal, NoSelection, Missing}
+use Rattle.lines.specs.declared.Argument.TheVariants.{Number, Universal, NoSelection}
 use Rattle.lines.specs.Calls.{Reading, refused, with_number, take_number, take_space, complete}
 use Rattle.lines.specs.Places.{words_behind, others, as_number, of_word, first_of, field_of, left_by, space_of}
 use Rattle.lines.proofs.WordLaws.{first_word}
@@ -46,12 +45,6 @@ is_nothing_lem most w e f = rw (e, f)
 pub is_number : (most : ℕ) (w : Text) (o : Option ℕ) → same_text w (U ∷ []) ≡ false → same_text w (hyphen ∷ []) ≡ false → o ≡ read_number most w → as_number o ≡ of_word most w
 unfolding of_word
 is_number most w o e f g = ap as_number g ∙ rw (e, f)
-
--- the rest of a line that is empty
-pub no_argument : (most : ℕ) (t : Text) → length t ≡ 0 → Missing ≡ first_of most (words_behind t)
-unfolding words_behind first_of
-no_argument most [] h = refl
-no_argument most (b ∷ bs) h = absurd (omega arith)
 
 pub none_left : (t : Text) → length t ≡ 0 → words_behind t ≡ others (words_behind t)
 unfolding words_behind others
@@ -163,10 +156,6 @@ takes_none true most [] a then f n = refl
 takes_none true most (w ∷ ws) a then f n = word_refused most w (λ (y : ℕ). then y ws) (λ (x : ℕ) (h : of_word most w ≡ Number x). n x (f ∙ h))
 
 -- the words that a space takes
-
-pub given_or_none : (optional : Bool) (s : Space) → then_some optional s ≡ cond optional (Some s) None
-given_or_none true s = refl
-given_or_none false s = refl
 
 pub takes_space : (optional : Bool) (ws : List Text) (s : Space) (r : Option Space) (then : Space → List Text → Reading) → r ≡ space_of optional (first_of most_name ws) → r ≡ Some s
     → take_space optional ws then ≡ then s (others ws)

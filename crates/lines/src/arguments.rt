@@ -25,6 +25,7 @@ fn of_word(word: &[u8], most: u32) -> Argument
 }
 
 // The first argument of the rest of a line, and the rest behind it.
+#[tactic(auto, unfolding(crate::specs::Places::first_of, crate::specs::Places::others, crate::specs::Places::words_behind))]
 pub fn argument_in(rest: &[u8], most: u32) -> (Argument, &[u8])
     ensures argument { result.0 ≡ first_of most (words_behind rest.now) }
     ensures rest { words_behind result.1.now ≡ others (words_behind rest.now) }
@@ -48,6 +49,7 @@ pub fn field_in(read: bool, rest: &[u8], most: u32) -> (Argument, &[u8])
 }
 
 // The first argument as a space, where it is one, and the rest behind it; one that is missing is UNIVERSE where it is optional.
+#[tactic(auto, unfolding(crate::specs::Places::first_of, crate::specs::Places::others, crate::specs::Places::space_of))]
 pub fn space_in(rest: &[u8], optional: bool) -> (Option<Space>, &[u8])
     ensures space { result.0 ≡ space_of optional (first_of most_name (words_behind rest.now)) }
     ensures rest { words_behind result.1.now ≡ others (words_behind rest.now) }

@@ -46,6 +46,7 @@ pub fn line_at(script: &[u8], from: usize) -> &[u8]
 }
 
 // The call, where nothing follows its last argument.
+#[tactic(auto, using(crate::proofs::ArgumentLaws::something_follows, crate::proofs::ArgumentLaws::nothing_follows))]
 fn completed(rest: &[u8], c: Call) -> Result<Call, Refusal>
     ensures { result ≡ complete c (words_behind rest.now) }
 {
@@ -117,6 +118,7 @@ fn space_then_value(rest: &[u8], o: u32) -> Result<Call, Refusal>
 }
 
 // "SUS with a number is 57"; alone it is 56.
+#[tactic(auto, unfolding(crate::specs::Calls::spaces, crate::specs::Places::words_behind))]
 fn spaces_of(rest: &[u8]) -> Result<Call, Refusal>
     ensures { result ≡ spaces (words_behind rest.now) }
 {

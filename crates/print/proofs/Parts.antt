@@ -1,5 +1,5 @@
 -- Answers put part by part: how long each is, and the whole.
-use mathlib.Core.Bool.{Bool, true, false}
+use mathlib.Core.Bool.{Bool, false}
 use mathlib.Core.List.{List, [], ◌∷◌, ◌++◌, map, append_assoc}
 use mathlib.Core.Path.{◌≡◌, sym, ap, ◌∙◌, subst}
 use Rattle.std.specs.Prelude.{Result, Ok}
@@ -10,7 +10,7 @@ use Rattle.model.specs.declared.Answer.{Answer}
 use Rattle.model.specs.declared.Refusal.{Refusal}
 use Rattle.model.specs.OneCall.{name_count, unpack, observed}
 use Rattle.model.specs.Steps.{Reply, pairs}
-use Rattle.text.specs.Bytes.{Text, line_feed, blank, equals_sign, colon, I, L, N, T}
+use Rattle.text.specs.Bytes.{Text, line_feed, blank, equals_sign, colon, I, L, N}
 use Rattle.text.specs.Numerals.{printed_number}
 use Rattle.print.specs.declared.line.Line.{Line}
 use Rattle.print.specs.Answers.{signed, change, yes_or_no, entry_text, entries_text, answer_text, answer_line, Put, Room, Adds, Printable}
@@ -35,22 +35,9 @@ changed_adds x sign k h p q r s =
     (adds_then (omega (arith, length-append (signed equals_sign x ++ (blank ∷ [])) (sign ∷ []), length-append (signed equals_sign x) (blank ∷ [])))
     (adds_then (omega (arith, length-append (signed equals_sign x) (blank ∷ []))) (adds_then (omega arith) p q) r) s)
 
--- T where the answer is yes, NIL where it is no
-pub yes_room : (b : Bool) (l : Line) → b ≡ true → Room (yes_or_no b) l → Room (T ∷ []) l
-unfolding yes_or_no
-yes_room b l e h = subst (λ (x : Bool). Room (yes_or_no x) l) e h
-
 pub no_room : (b : Bool) (l : Line) → b ≡ false → Room (yes_or_no b) l → Room (N ∷ I ∷ L ∷ []) l
 unfolding yes_or_no
 no_room b l e h = subst (λ (x : Bool). Room (yes_or_no x) l) e h
-
-pub yes_adds : {b : Bool} {l l' : Line} → b ≡ true → Adds (T ∷ []) l l' → Adds (yes_or_no b) l l'
-unfolding yes_or_no
-yes_adds e p = adds_same (sym (ap yes_or_no e)) p
-
-pub no_adds : {b : Bool} {l l' : Line} → b ≡ false → Adds (N ∷ I ∷ L ∷ []) l l' → Adds (yes_or_no b) l l'
-unfolding yes_or_no
-no_adds e p = adds_same (sym (ap yes_or_no e)) p
 
 -- a blank, an edge, a colon and a node
 pub entry_size : (w : ℕ) → length (entry_text (unpack w)) ≡ 2 + length (printed_number (w / 65536)) + length (printed_number (w % 65536))

@@ -10,6 +10,7 @@ use line::Line;
 use model::{Answer, Refusal};
 
 // Writes the line of an answer, with the list that was lent to the call, and says where the line ends.
+#[tactic(auto, unfolding(crate::specs::Answers::answer_line, model::specs::OneCall::observed))]
 pub fn put_answer(out: &mut [u8], at: usize, a: Result<Answer, Refusal>, list: &[u32]) -> usize
     requires { Printable (answer_line (observed a list.now)) a list.now out.old at }
     ensures { Put (answer_line (observed a list.now)) out.old at result out.new }

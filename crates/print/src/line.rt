@@ -13,6 +13,7 @@ use model::{Answer, Refusal};
 const NAME_COUNT: u32 = 65536;
 
 // How many digits a number has.
+#[tactic(auto, using(text::proofs::Printing::printed_one, text::proofs::Printing::printed_length))]
 fn digit_count(x: u32) -> usize
     ensures { result ≡ length (printed_number x) }
 {
@@ -43,6 +44,7 @@ impl Line<'_> {
 
     // Writes a text.
     #[inline(always)]
+    #[tactic(auto, using(crate::proofs::Puts::text_put))]
     fn put_text(&mut self, text: &[u8])
         requires { Room text.now self.old }
         ensures { Adds text.now self.old self.new }
@@ -54,6 +56,7 @@ impl Line<'_> {
 
     // Writes a number.
     #[inline(always)]
+    #[tactic(auto, using(crate::proofs::Puts::decimal_printed, crate::proofs::Puts::number_put))]
     fn put_number(&mut self, x: u32)
         requires { Room (printed_number x) self.old }
         ensures { Adds (printed_number x) self.old self.new }
@@ -85,6 +88,7 @@ impl Line<'_> {
     }
 
     // Writes T or NIL.
+    #[tactic(auto, unfolding(crate::specs::Answers::entries_text, crate::specs::Answers::yes_or_no))]
     fn put_yes_or_no(&mut self, yes: bool)
         requires { Room (yes_or_no yes) self.old }
         ensures { Adds (yes_or_no yes) self.old self.new }
@@ -98,6 +102,7 @@ impl Line<'_> {
 
     // Writes an entry of the answer list: a blank, its edge, a colon, its node.
     #[inline(always)]
+    #[tactic(auto, unfolding(crate::specs::Answers::entries_text, crate::specs::Answers::entry_text))]
     fn put_entry(&mut self, w: u32)
         requires { Room (entry_text (unpack w)) self.old }
         ensures { Adds (entry_text (unpack w)) self.old self.new }
@@ -109,6 +114,7 @@ impl Line<'_> {
     }
 
     // Writes entries of the answer list.
+    #[tactic(auto, unfolding(crate::specs::Answers::answer_text, crate::specs::Answers::entries_text))]
     fn put_entries(&mut self, list: &[u32])
         requires { Room (entries_text (map unpack list.now)) self.old }
         ensures { Adds (entries_text (map unpack list.now)) self.old self.new }
@@ -119,6 +125,7 @@ impl Line<'_> {
     }
 
     // Writes L, a count and so many entries of the answer list.
+    #[tactic(auto, unfolding(crate::specs::Answers::answer_text, model::specs::OneCall::observed))]
     fn put_list(&mut self, list: &[u32], k: usize)
         requires { (k ≤ length list.now) × (k ≤ 4294967295) × Room (answer_text (pairs k (map unpack (take k list.now)))) self.old }
         ensures { Adds (answer_text (pairs k (map unpack (take k list.now)))) self.old self.new }
@@ -128,6 +135,7 @@ impl Line<'_> {
     }
 
     // Writes the text of an answer.
+    #[tactic(auto, unfolding(crate::specs::Answers::answer_text, model::specs::OneCall::observed, model::specs::OneCall::list_count))]
     fn put_answer(&mut self, a: Answer, list: &[u32])
         requires { Printable (answer_text (observed (Ok a) list.now)) (Ok a) list.now self.old.out.now self.old.at }
         ensures { Adds (answer_text (observed (Ok a) list.now)) self.old self.new }

@@ -62,6 +62,7 @@ fn read_full<R: Read>(input: &mut R, bytes: &mut [u8]) -> (usize, io::Result<()>
 }
 
 // Runs the lines of a script and writes what they print, block by block; a block whose write fails is passed over.
+#[tactic(auto, unfolding(lines::specs::Lines::lines_of, script::specs::Scripts::lines_output))]
 fn run_lines<W: Write>(
     store: &mut [u32],
     list: &mut [u32],
@@ -95,6 +96,7 @@ fn run_script<W: Write>(script: &[u8], output: &mut W) -> io::Result<()>
 }
 
 // Refuses an input that is too long.
+#[tactic(auto, using(text::proofs::Written::take_first, script::proofs::LineRuns::refusal_length))]
 fn refuse<W: Write>(output: &mut W) -> io::Result<()>
     ensures { OnOk result (Appends (W.contents output.old) (W.contents output.new) (answer_line (refusal Unreadable))) }
 {

@@ -33,10 +33,6 @@ unfolding run_lines
 no_room_lem room ts l [] h = refl
 no_room_lem room ts l (x ∷ xs) h = ap (λ (b : Bool). cond b (first_run room ts l x xs) (unrun ts l (x ∷ xs))) (lt-leb most_line room h)
 
-pub no_line : (room : ℕ) (ts : State) (l : List ℕ) (xs : List Text) → xs ≡ [] → run_lines room ts l xs ≡ unrun ts l xs
-unfolding run_lines
-no_line room ts l xs e = ap (run_lines room ts l) e ∙ ap (unrun ts l) (sym e)
-
 -- where there is room for a line, the first is run
 one_line : (room : ℕ) (ts : State) (l : List ℕ) (x : Text) (xs : List Text) → most_line ≤ room → run_lines room ts l (x ∷ xs) ≡ first_run room ts l x xs
 unfolding run_lines
@@ -212,10 +208,3 @@ module _ (b₀ l₀ : List ℕ) (script : Text) (from : ℕ) (out₀ : Text) whe
       let short : length out₀ - size < most_line = omega (arith, run_sized b l at size out S) in
       run_end b l at size out S (no_room_lem (length out₀ - size) (tuples_of b) l (lines_of (drop at script)) short)
       (λ some room. moved from at size short room S.onward S.unmoved)
-
-  -- .. or where the script ends
-  pub run_whole : (b l : List ℕ) (at size : ℕ) (out : Text) → Running b₀ l₀ script from out₀ b l at size out → length script ≤ at
-      → BlockRun (run_lines (length out₀) (tuples_of b₀) l₀ (lines_of (drop from script))) b₀ l₀ script from out₀ (record { next = at; length = size }) b l out
-  run_whole b l at size out S h =
-      run_end b l at size out S (no_line (length out₀ - size) (tuples_of b) l (lines_of (drop at script)) (no_lines script at h))
-      (λ some room. omega (arith, some))

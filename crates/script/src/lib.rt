@@ -58,6 +58,7 @@ fn next_line(script: &[u8], end: usize) -> usize
 }
 
 // Runs the lines from place `from` on, as long as the output has room for any line.
+#[tactic(auto, unfolding(lines::specs::Lines::lines_of, crate::specs::Runs::run_lines))]
 pub fn run_block(
     store: &mut [u32],
     list: &mut [u32],
@@ -89,6 +90,7 @@ pub fn accepted(bytes: usize) -> bool
 }
 
 // Writes the refusal of an input that is too long.
+#[tactic(auto, unfolding(model::specs::OneCall::observed))]
 pub fn refuse_input(out: &mut [u8]) -> usize
     requires { most_line ≤ length out.old }
     ensures { Put (answer_line (refusal Unreadable)) out.old 0 result out.new }

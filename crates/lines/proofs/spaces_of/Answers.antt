@@ -1,11 +1,8 @@
 use Rattle.std.proofs.Common.{◌≤◌, sym, ◌∙◌, arith}
 use Rattle.model.specs.Keys.{most_name}
 use Rattle.lines.proofs.ArgumentLaws.{argument_fits}
-use Rattle.lines.proofs.CallLaws.{alone, node_given, no_node}
+use Rattle.lines.proofs.CallLaws.{node_given, no_node}
 use Rattle.lines.proofs.spaces_of.Goals as goal
-
-pub returns-then-is_empty : goal.returns-then-is_empty
-returns-then-is_empty c = alone _ (sym c.is_empty.ensures ∙ c.if-is_empty.true)
 
 pub returns-in_default : goal.returns-in_default
 returns-in_default c = no_node _ (sym c.is_empty.ensures ∙ c.if-is_empty.false) _ c.argument_in-argument_n.ensures.argument c.in_default.not-Number

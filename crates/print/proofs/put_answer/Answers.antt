@@ -4,10 +4,6 @@ use Rattle.print.proofs.Puts.{room_after}
 use Rattle.print.proofs.Parts.{line_size, line_adds, line_done}
 use Rattle.print.proofs.put_answer.Goals as goal
 
-pub put_result-requires : goal.put_result-requires
-put_result-requires c =
-    record { room = omega (arith, c.requires.room, line_size (observed c.args.a c.args.list.now)); held = c.requires.held; counted = c.requires.counted }
-
 pub put_byte-requires : goal.put_byte-requires
 put_byte-requires c = room_after _ c.put_result.ensures (omega (arith, c.requires.room, line_size (observed c.args.a c.args.list.now)))
 

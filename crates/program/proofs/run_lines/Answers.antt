@@ -1,7 +1,6 @@
 use Rattle.std.proofs.Common.{refl, arith}
-use Rattle.std.proofs.lemmas.Result.{on_ok_weaker}
 use Rattle.script.proofs.Blocks.{blocks_start, next_block, blocks_end}
-use Rattle.program.proofs.Output.{nothing_written, block_written, all_written, both_good}
+use Rattle.program.proofs.Output.{nothing_written, block_written, both_good}
 use Rattle.program.proofs.run_lines.Goals as goal
 
 pub loop-at-init : goal.loop-at-init
@@ -18,6 +17,3 @@ loop-at-preserved g c =
 
 pub returns-clause-ran : goal.returns-clause-ran
 returns-clause-ran g c = blocks_end _ _ _ _ _ _ c.loop-at.invariant.0 (omega arith)
-
-pub returns-clause-written : goal.returns-clause-written
-returns-clause-written g c = on_ok_weaker _ (λ held. all_written _ _ _ _ _ _ held (omega arith)) c.loop-at.invariant.2

@@ -6,7 +6,3 @@ use Rattle.script.proofs.refuse_input.Goals as goal
 pub put_answer-requires : goal.put_answer-requires
 unfolding observed
 put_answer-requires c = search (rules, refused_printable)
-
-pub returns : goal.returns
-unfolding observed
-returns c = search rules

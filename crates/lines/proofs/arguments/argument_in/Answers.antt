@@ -1,13 +1,7 @@
 use Rattle.std.proofs.Common.{arith}
 use Rattle.text.proofs.Reading.{before_length}
-use Rattle.lines.proofs.ArgumentLaws.{no_argument, none_left, its_argument, its_rest}
+use Rattle.lines.proofs.ArgumentLaws.{its_argument, its_rest}
 use Rattle.lines.proofs.arguments.argument_in.Goals as goal
-
-pub returns-in_default-clause-argument : goal.returns-in_default-clause-argument
-returns-in_default-clause-argument c = no_argument _ _ c.in_default.ensures.cases
-
-pub returns-in_default-clause-rest : goal.returns-in_default-clause-rest
-returns-in_default-clause-rest c = none_left _ c.in_default.ensures.cases
 
 pub split_at-requires : goal.split_at-requires
 split_at-requires c = omega (arith, c.end_of.ensures, before_length 32 c.in-Some.words.now)

@@ -1,4 +1,4 @@
-use Rattle.print.proofs.Entries.{no_entries, entry_room, one_more_entry, all_entries}
+use Rattle.print.proofs.Entries.{no_entries, entry_room, one_more_entry}
 use Rattle.print.proofs.line.Line.put_entries.Goals as goal
 
 pub loop-w-init : goal.loop-w-init
@@ -9,6 +9,3 @@ put_entry-requires c = entry_room _ _ c.requires c.loop-w.invariant c.loop-w-tes
 
 pub loop-w-preserved : goal.loop-w-preserved
 loop-w-preserved c = one_more_entry _ _ c.requires c.loop-w.invariant c.loop-w-test.true c.put_entry.ensures
-
-pub returns : goal.returns
-returns c = all_entries _ _ c.requires c.loop-w.invariant c.loop-w-test.false

@@ -3,9 +3,6 @@ use Rattle.print.proofs.Puts.{room_after}
 use Rattle.print.proofs.Parts.{entry_size, entry_adds}
 use Rattle.print.proofs.line.Line.put_entry.Goals as goal
 
-pub put_byte-requires : goal.put_byte-requires
-put_byte-requires c = omega (arith, c.requires, entry_size c.args.w)
-
 pub put_number-requires : goal.put_number-requires
 put_number-requires c = room_after _ c.put_byte.ensures (omega (arith, c.requires, entry_size c.args.w))
 

@@ -3,9 +3,6 @@ use Rattle.print.proofs.Puts.{room_after}
 use Rattle.print.proofs.Parts.{list_size, list_adds}
 use Rattle.print.proofs.line.Line.put_list.Goals as goal
 
-pub put_signed-requires : goal.put_signed-requires
-put_signed-requires c = omega (arith, c.requires.2, list_size c.args.k c.args.list.now)
-
 pub put_entries-requires : goal.put_entries-requires
 put_entries-requires c = room_after _ c.put_signed.ensures (omega (arith, c.requires.2, list_size c.args.k c.args.list.now))
 
