@@ -8,13 +8,12 @@ use lib.Dec.{eqb}
 use lib.ListN.{length, set, length-set}
 use borrow.Author.Tests.{eqb-true, eqb-false}
 use Rattle.std.specs.Prelude.{Ok, Err}
-use Rattle.model.specs.declared.Key.{Key}
 use Rattle.model.specs.declared.Refusal.TheVariants.{NotAStore}
 use Rattle.model.specs.Keys.{NIL, space_key}
 use Rattle.layouts.specs.Buffer.{word, head_words, record_words, next_place, fits_length, capacity_of, next, tuple_at, past_records, follower, Prepared, Preparing}
 use Rattle.model.proofs.Bools.{clash, not_yes, not_no}
 use Rattle.layouts.proofs.Sizes.{fits_least, fits_most, some_record, few_records, records_fit}
-use Rattle.words.specs.Words.{Inside, put_next, put_tuple}
+use Rattle.words.specs.Words.{Inside, put_next}
 use Rattle.words.proofs.Words.{inside, inside_length, past_head, length_put_word, word_put_word, next_put_next, next_put_next_other}
 use Rattle.words.proofs.Words.{tuple_put_next, past_put_next, length_put_tuple, word_put_tuple, next_put_tuple, tuple_put_tuple, past_put_tuple}
 use Rattle.fresh.specs.Prepare.{headed, universe_in, chained, prepared_buffer, after_preparing}
@@ -25,21 +24,6 @@ pub chained_length : (C : ℕ) (b : List ℕ) (n : ℕ) → length (chained C b 
 unfolding chained
 chained_length C b zero = refl
 chained_length C b (suc n) = length_put_word (chained C b n) (n + 2) next_place _ ∙ chained_length C b n
-
--- one more record
-pub chained_more : (C : ℕ) (b : List ℕ) (i : ℕ) (b₁ b₂ : List ℕ) (j : ℕ) → 2 ≤ i → b₁ ≡ chained C b (i - 2) → j ≡ follower C i → b₂ ≡ put_next b₁ i j
-    → b₂ ≡ chained C b (i + 1 - 2)
-unfolding chained
-chained_more C b zero b₁ b₂ j low e f g = absurd (omega arith)
-chained_more C b (suc zero) b₁ b₂ j low e f g = absurd (omega arith)
-chained_more C b (suc (suc n)) b₁ b₂ j low e f g =
-    let s : suc (suc n) ≡ n + 2 = omega arith in
-    let before : suc (suc n) - 2 ≡ n = omega arith in
-    let after : suc (suc n) + 1 - 2 ≡ suc n = omega arith in
-    g
-    ∙ ap₂ (λ (l : List ℕ) (k : ℕ). put_next l (suc (suc n)) k) (e ∙ ap (chained C b) before) f
-    ∙ ap (λ (i : ℕ). put_next (chained C b n) i (follower C i)) s
-    ∙ ap (chained C b) (sym after)
 
 -- the record whose next is written is there
 pub chained_inside : (C : ℕ) (b b₁ : List ℕ) (n : ℕ) → head_words + record_words * C ≤ length b → b₁ ≡ chained C b n → n + 1 < C → Inside b₁ (n + 2)
@@ -147,10 +131,6 @@ pub heads_put : (b b₁ b₂ b₃ b₄ : List ℕ) (C f : ℕ) → f ≡ followe
 unfolding headed
 heads_put b b₁ b₂ b₃ b₄ C f e p q r s =
     s ∙ ap (λ (l : List ℕ). set l 3 1) (r ∙ ap₂ (λ (l : List ℕ) (w : ℕ). set l 2 w) (q ∙ ap (λ (l : List ℕ). set l 1 1) p) e)
-
-pub universe_put : (b b₁ b₂ : List ℕ) (k : Key) → k ≡ space_key 0 → b₁ ≡ put_next b 1 0 → b₂ ≡ put_tuple b₁ 1 k NIL → b₂ ≡ universe_in b
-unfolding universe_in
-universe_put b b₁ b₂ k e p q = q ∙ ap₂ (λ (l : List ℕ) (j : Key). put_tuple l 1 j NIL) p e
 
 -- ---- preparing
 

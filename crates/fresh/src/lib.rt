@@ -8,6 +8,7 @@ ghost use Rattle.fresh.specs.Prepare.{headed, universe_in, chained, prepared_buf
 use model::Refusal;
 
 // The free record after record i in ascending order; 0 after the last.
+#[tactic(auto, unfolding(layouts::specs::Buffer::follower))]
 fn follower_of(c: usize, i: usize) -> usize
     requires { i ≤ most_index }
     ensures { result ≡ follower c i }
@@ -19,6 +20,7 @@ fn follower_of(c: usize, i: usize) -> usize
 }
 
 // Words 0 to 3 of a store that holds UNIVERSE alone.
+#[tactic(auto, using(crate::proofs::Preparing::heads_put, layouts::proofs::Prepared::follower_most))]
 fn put_heads(b: &mut [u32], c: usize)
     requires { (head_words ≤ length b.old) × (c ≤ 2048) }
     ensures { b.new ≡ headed c b.old }
@@ -31,6 +33,7 @@ fn put_heads(b: &mut [u32], c: usize)
 }
 
 // UNIVERSE with NIL in record 1, which ends its chain.
+#[tactic(auto, unfolding(crate::specs::Prepare::universe_in))]
 fn put_universe(b: &mut [u32])
     requires { Inside b.old 1 }
     ensures { b.new ≡ universe_in b.old }
@@ -41,6 +44,7 @@ fn put_universe(b: &mut [u32])
 }
 
 // Records 2 to C chained as free in ascending order.
+#[tactic(auto, unfolding(crate::specs::Prepare::chained))]
 fn chain_free(b: &mut [u32], c: usize)
     requires { (head_words + record_words * c ≤ length b.old) × (c ≤ 2048) }
     ensures { b.new ≡ chained c b.old (c - 1) }

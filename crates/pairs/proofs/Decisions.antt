@@ -8,7 +8,7 @@ use Prim.Native.Nat.{ℕ, zero, suc, ◌+◌, ◌≤◌, ◌<◌}
 use native.Mathlib.Omega.{arith}
 use lib.Dec.{eqb, leb, ltb}
 use lib.ListN.{length, drop, length-map}
-use borrow.Author.Tests.{eqb-true, eqb-false, ltb-true, ltb-false, lt-ltb, le-ltb, leb-true, leb-false, le-leb}
+use borrow.Author.Tests.{eqb-true, eqb-false, ltb-true, ltb-false, lt-ltb, le-ltb, leb-true, leb-false}
 use denote.Enum.Bare.{same_true}
 use Rattle.std.specs.Prelude.{Result, Ok, Err, Some, Option as Maybe}
 use Rattle.std.specs.Option.{option_eq}
@@ -196,9 +196,6 @@ module _ (ts : Tuples) (c : Call) (Q : Queried ts c) where
 
 -- ---- the query of a call
 
-pub operator_told : (op known : Operator) (f : Fields) (q : Query) → op ≡ known → q ≡ operator_query known f → q ≡ operator_query op f
-operator_told op known f q e K = K ∙ ap (λ (x : Operator). operator_query x f) (sym e)
-
 pub query_told : (c : Call) (op : Operator) (f : Fields) (q : Query) → op ≡ operator_of c.operator → f ≡ fields_of c → q ≡ operator_query op f → q ≡ query_for c
 unfolding query_for
 query_told c op f q O F K = K ∙ ap₂ operator_query O F
@@ -226,15 +223,6 @@ unfolding query_for operator_query operator_of table
 few_told c h = sym (below_same (fields_of c) 30 refl c.operator h)
 
 -- ---- has a list room for the entries of a query
-
-pub surely_room : (b : List ℕ) (q : Query) (room : ℕ) (t : Bool) → length (queried q (tuples_of b)) ≤ length (tuples_of b) → t ≡ leb (length (tuples_of b)) room → t ≡ true
-    → true ≡ leb (length (queried q (tuples_of b))) room
-surely_room b q room t few T e =
-    let most = leb-true (length (tuples_of b)) room (sym T ∙ e) in
-    sym (le-leb _ room (omega (arith, most, few)))
-
-pub room_counted : (b : List ℕ) (q : Query) (room k : ℕ) → k ≡ length (queried q (tuples_of b)) → leb k room ≡ leb (length (queried q (tuples_of b))) room
-room_counted b q room k K = ap (λ (n : ℕ). leb n room) K
 
 -- ---- what a call with no place for a list answers
 

@@ -13,7 +13,7 @@ use Rattle.pairs.specs.declared.Decision.{Decision}
 use Rattle.pairs.specs.declared.Decision.TheVariants.{Answered, Listed}
 use Rattle.pairs.specs.Decisions.{decided_list, decided_answer, answer_with, Decided}
 use Rattle.pairs.specs.InPairs.{CallInPairs}
-use Rattle.pairs.specs.WrittenPairs.{Listable, PairsWritten}
+use Rattle.pairs.specs.WrittenPairs.{PairsWritten}
 
 -- the answer with the number of pairs that were written is that of the call
 answer_decided : (b : List ℕ) (d : Decision) (k : ℕ) → k ≡ length (decided_list b d) → answer_with d k ≡ decided_answer b d
@@ -22,10 +22,6 @@ answer_decided b (Answered a) k e = refl
 answer_decided b (Listed q) k e = ap (λ (n : ℕ). Ok (Counted n)) e
 
 module _ (b : List ℕ) (c : Call) (d : Decision) (b' : List ℕ) (l : List Pair) (D : Decided b c (length l) d b') where
-  -- what write_pairs requires
-  pub writable : Listable b' d × (length (decided_list b' d) ≤ length l)
-  writable = (record { readable = D.readable }, D.fits)
-
   -- the whole is the call in pairs
   pub executed : (k : ℕ) (l' : List Pair) (r : Result Answer Refusal) → PairsWritten (decided_list b' d) l k l' → r ≡ answer_with d k → CallInPairs b l c r b' l'
   executed k l' r P e =

@@ -164,9 +164,6 @@ module _ (b : List ℕ) (d : Decision) (p : Progress) (S : Standing b d p) (h : 
 
 -- ---- all pairs written
 
-pub none_written : (ps l : List Pair) (j : ℕ) → j ≡ 0 → FirstPairs ps j l l
-none_written ps l j z = record { first = ap (λ (n : ℕ). take n l) z ∙ ap (λ (n : ℕ). take n ps) (sym z); rest = refl; long = refl }
-
 -- what falls in each turn: a turn is left for each pair that is not written
 unfoldable pub turns_left : List Pair → Progress → ℕ
 turns_left ps p = cond (is_there (entry_of p.given)) (suc (length ps) - p.done) 0

@@ -36,6 +36,7 @@ fn ask(store: &mut [u32], call: Call) -> Result<Answer, Refusal>
 }
 
 // The query of an S operator.
+#[tactic(auto, unfolding(crate::specs::Decisions::operator_query))]
 fn query_in(op: Operator, f: Fields) -> Query
     ensures { result ≡ operator_query op f }
 {
@@ -50,6 +51,7 @@ fn query_in(op: Operator, f: Fields) -> Query
 }
 
 // The query of a call that lists; of others, that of all spaces, without effect.
+#[tactic(auto, using(crate::proofs::Decisions::query_told, crate::proofs::Decisions::few_told))]
 fn query_for(call: Call) -> Query
     ensures { result ≡ query_for call }
 {
@@ -124,6 +126,7 @@ fn place_of(p: Progress) -> usize
 
 // Pair j + 1 written to its place, and the next one found.
 // Then the first j + 1 places hold the j + 1 least pairs, and all others what they held.
+#[tactic(auto, using(crate::proofs::WrittenPairs::some_done, crate::proofs::WrittenPairs::pair_written), unfolding(entries::specs::Cursors::entry_of, entries::specs::Cursors::is_there))]
 fn write_pair(b: &[u32], d: Decision, p: Progress, list: &mut [Pair]) -> Progress
     requires { Listable b.now d × Standing b.now d p × (is_there (entry_of p.given) ≡ true) × (p.done ≤ length list.old) }
     ensures { PairWritten b.now d p list.old result list.new }
@@ -133,6 +136,7 @@ fn write_pair(b: &[u32], d: Decision, p: Progress, list: &mut [Pair]) -> Progres
 }
 
 // All pairs written to the first places of the list, and their number; the rest stays.
+#[tactic(auto, unfolding(crate::specs::Decisions::decided_list))]
 fn write_pairs(b: &[u32], d: Decision, list: &mut [Pair]) -> usize
     requires { Listable b.now d × (length (decided_list b.now d) ≤ length list.old) }
     ensures { PairsWritten (decided_list b.now d) list.old result list.new }
@@ -145,6 +149,7 @@ fn write_pairs(b: &[u32], d: Decision, list: &mut [Pair]) -> usize
 }
 
 // The answer, where so many pairs were written.
+#[tactic(auto, unfolding(crate::specs::Decisions::answer_with))]
 fn answer_with(d: Decision, k: usize) -> Result<Answer, Refusal>
     ensures { result ≡ answer_with d k }
 {

@@ -58,7 +58,7 @@ fn edge_record(w: u32) -> usize
     if w % NAME_COUNT != 0 {
         return 0;
     }
-    words::index_of(w / NAME_COUNT)
+    (w / NAME_COUNT) as usize
 }
 
 // The place where the mark of node n in s is sought first.
@@ -66,7 +66,7 @@ fn edge_record(w: u32) -> usize
 fn node_slot(s: u32, n: u32) -> usize
     ensures { result ≡ node_slot s n }
 {
-    (SPACE_FACTOR * words::index_of(s) + words::index_of(n)) % MARK_COUNT
+    (SPACE_FACTOR * s as usize + n as usize) % MARK_COUNT
 }
 
 // The place where the mark of an edge tuple of 0 is sought first.
@@ -74,9 +74,9 @@ fn node_slot(s: u32, n: u32) -> usize
 fn edge_slot(k: Key) -> usize
     ensures { result ≡ edge_slot k }
 {
-    let n = words::index_of(k.n);
-    let g = words::index_of(k.g);
-    let m = words::index_of(k.m);
+    let n = k.n as usize;
+    let g = k.g as usize;
+    let m = k.m as usize;
     (n + EDGE_FACTOR * g + SECOND_FACTOR * m) % MARK_COUNT
 }
 

@@ -28,10 +28,6 @@ requests_made C ts (r ∷ rs) l h =
     = requests_made C (machine C ts r.call r.room).state rs (drop r.room l) (omega (arith, length-drop r.room l)) in
     ap₂ (λ (n : ℕ) (qs : List Request). calling (record { call = r.call; room = n }) ∷ qs) size rest
 
--- the buffer is a store, as the code tests it
-pub known_store : (b : List ℕ) (s : Bool) → s ≡ is_store b → not s ≡ false → is_store b ≡ true
-known_store b s e n = sym e ∙ not_no s n
-
 -- the lists fit, as the code tests it
 pub lists_wide : (ws l : List ℕ) (f : Bool) → f ≡ leb (rooms_of (calls_from ws (call_count ws) 0)) (length l) → not f ≡ false
     → rooms_of (calls_from ws (call_count ws) 0) ≤ length l

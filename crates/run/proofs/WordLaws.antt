@@ -4,53 +4,27 @@ use mathlib.Core.List.{List, [], ◌∷◌, ◌++◌, append_assoc}
 use mathlib.Core.Path.{◌≡◌, refl, sym, ap, ap₂, ◌∙◌}
 use Prim.Native.Nat.{ℕ, zero, suc, ◌+◌, ◌-◌, ◌*◌, ◌≤◌, ◌<◌}
 use native.Mathlib.Omega.{arith}
-use borrow.Author.Tests.{ne_eqb, le-leb, lt-leb}
+use borrow.Author.Tests.{ne_eqb}
 use lib.ListN.{length, take, drop, set, length-set}
 use lib.Seq.{drop-drop, drop-set-lt, take-suc-set}
 use mir.Val.{bool_byte}
-use Rattle.std.specs.Prelude.{Result, Ok, Err, OkIff}
-use Rattle.std.specs.Result.{result_unwrap_or}
+use Rattle.std.specs.Prelude.{Result, Ok, Err}
 use Rattle.model.specs.declared.Call.{Call}
 use Rattle.model.specs.declared.Space.{Space}
-use Rattle.model.specs.declared.Space.TheVariants.{Universe, Numbered, Nothing}
 use Rattle.model.specs.declared.Answer.{Answer}
 use Rattle.model.specs.declared.Answer.TheVariants.{Name, Added, Removed, Value as Valued, YesNo, List as Listed}
 use Rattle.model.specs.declared.Refusal.{Refusal}
 use Rattle.model.proofs.Numbered.{number_back}
-use Rattle.model.specs.Keys.{NIL, most_name}
+use Rattle.model.specs.Keys.{NIL}
 use Rattle.run.specs.declared.CallWords.{CallWords}
 use Rattle.run.specs.declared.AnswerWords.{AnswerWords}
 use Rattle.run.specs.Words.{words_in_answer, name_in, value_of_form, space_of_form, call_of, request_at, calls_from, kind_of, bit_of, first_of, second_of, answer_words, answer_in, answer_list, put_answer}
 
 -- ---- a call
 
--- a word that fits a name, or 0
-pub name_told : (w : ℕ) {E : Type 0} (r : Result ℕ E) → OkIff r (w < 65536) w → result_unwrap_or r 0 ≡ name_in w
-unfolding name_in
-name_told w (Ok x) h = h.1 ∙ sym (ap (λ (b : Bool). cond b w 0) (le-leb w most_name (omega (arith, h.0))))
-name_told w (Err e) h = sym (ap (λ (b : Bool). cond b w 0) (lt-leb w most_name (omega (arith, h))))
-
-pub no_value : (form v : ℕ) → form ≡ 0 → 0 ≡ value_of_form form v
-unfolding value_of_form
-no_value form v e = sym (ap (λ (f : ℕ). value_of_form f v) e)
-
 pub a_value : (form v : ℕ) → (form ≡ 0 → ⊥) → v ≡ value_of_form form v
 unfolding value_of_form
 a_value form v h = sym (ap (λ (b : Bool). cond b NIL v) (ne_eqb form 0 h))
-
-pub no_number : (form s : ℕ) → form ≡ 0 → Universe ≡ space_of_form form s
-unfolding space_of_form
-no_number form s e = sym (ap (λ (f : ℕ). space_of_form f s) e)
-
-pub no_space : (form s : ℕ) → form ≡ 2 → Nothing ≡ space_of_form form s
-unfolding space_of_form
-no_space form s e = sym (ap (λ (f : ℕ). space_of_form f s) e)
-
-pub a_number : (form s x : ℕ) → (form ≡ 0 → ⊥) → (form ≡ 2 → ⊥) → x ≡ name_in s → Numbered (record { 0 = x }) ≡ space_of_form form s
-unfolding space_of_form
-a_number form s x h k e =
-    ap (λ (y : ℕ). Numbered (record { 0 = y })) e
-    ∙ sym (ap₂ (λ (a b : Bool). cond a Universe (cond b Nothing (Numbered (record { 0 = name_in s })))) (ne_eqb form 0 h) (ne_eqb form 2 k))
 
 pub call_joined : (w : CallWords) (n g m v : ℕ) (s : Space) → n ≡ name_in w.n → g ≡ name_in w.g → m ≡ name_in w.m
     → v ≡ value_of_form w.value_form w.v → s ≡ space_of_form w.space_form w.s
@@ -96,11 +70,6 @@ calls_length ws zero i = refl
 calls_length ws (suc k) i = ap suc (calls_length ws k (i + 1))
 
 -- ---- an answer
-
--- the words of an answer whose variant is known
-pub in_words : {a known : Result Answer Refusal} {kind first second : ℕ} → a ≡ known → kind ≡ kind_of known → first ≡ first_of known → second ≡ second_of known
-    → ◌≡◌ {A = AnswerWords} (record { kind = kind; first = first; second = second }) (answer_words a)
-in_words e p q r = (λ i. record { kind = p i; first = q i; second = r i }) ∙ ap answer_words (sym e)
 
 pub bit_lem : (b : Bool) → bool_byte b ≡ bit_of b
 bit_lem true = refl

@@ -68,6 +68,7 @@ pub struct AnswerWords {
 }
 
 // A word as a name. Names have 16 bits: a greater number is no name and stands for 0, which is refused where the name is read.
+#[tactic(auto, unfolding(crate::specs::Words::name_in))]
 fn name_in(w: u32) -> u16
     ensures { result ≡ name_in w }
 {
@@ -75,6 +76,7 @@ fn name_in(w: u32) -> u16
 }
 
 // The value of a call, by its form.
+#[tactic(auto, unfolding(crate::specs::Words::value_of_form))]
 fn value_of_form(form: u32, v: u32) -> u32
     ensures { result ≡ value_of_form form v }
 {
@@ -85,6 +87,7 @@ fn value_of_form(form: u32, v: u32) -> u32
 }
 
 // The space of a call, by its form.
+#[tactic(auto, unfolding(crate::specs::Words::space_of_form))]
 fn space_of_form(form: u32, s: u32) -> Space
     ensures { result ≡ space_of_form form s }
 {
@@ -99,6 +102,7 @@ fn space_of_form(form: u32, s: u32) -> Space
 impl From<CallWords> for Call {
     ghost from_gives = { λ w call. call ≡ call_of w };
 
+    #[tactic(auto, using(crate::proofs::WordLaws::call_joined))]
     fn from(w: CallWords) -> Call {
         Call {
             operator: w.operator,
@@ -112,6 +116,7 @@ impl From<CallWords> for Call {
 }
 
 // The words of call i of a list of calls.
+#[tactic(auto, unfolding(crate::specs::Words::call_words_at))]
 fn call_words_at(calls: &[u32], i: usize) -> CallWords
     requires { words_in_call * i + words_in_call ≤ length calls.now }
     ensures { result ≡ call_words_at calls.now i }
@@ -147,6 +152,7 @@ fn room_at(calls: &[u32], i: usize) -> usize
 }
 
 // Do the answer lists of the first calls fit in so much room.
+#[tactic(auto, unfolding(crate::specs::Words::calls_from, crate::specs::Runs::rooms_of))]
 fn lists_fit(calls: &[u32], count: usize, room: usize) -> bool
     requires { words_in_call * count ≤ length calls.now }
     ensures { result ≡ leb (rooms_of (calls_from calls.now count 0)) room }
@@ -163,6 +169,7 @@ fn lists_fit(calls: &[u32], count: usize, room: usize) -> bool
 }
 
 // An answer as words; the count of a list that a store gives fits, as the callers, runs and the C functions, have shown.
+#[tactic(auto, unfolding(model::specs::OneCall::list_count, crate::specs::Words::kind_of, crate::specs::Words::first_of, crate::specs::Words::second_of))]
 pub fn answer_words(a: Result<Answer, Refusal>) -> AnswerWords
     requires { list_count a ≤ 4294967295 }
     ensures { result ≡ answer_words a }
@@ -184,6 +191,7 @@ pub fn answer_words(a: Result<Answer, Refusal>) -> AnswerWords
 }
 
 // Writes answer i.
+#[tactic(auto, using(crate::proofs::WordLaws::answer_written), unfolding(model::specs::OneCall::list_count, crate::specs::Words::put_answer))]
 fn put_answer(answers: &mut [u32], i: usize, a: Result<Answer, Refusal>)
     requires { (words_in_answer * i + words_in_answer ≤ length answers.old) × (list_count a ≤ 4294967295) }
     ensures { answers.new ≡ put_answer answers.old i a }
@@ -196,6 +204,7 @@ fn put_answer(answers: &mut [u32], i: usize, a: Result<Answer, Refusal>)
 }
 
 // Makes call i with its own answer list, and writes its answer.
+#[tactic(auto, using(crate::proofs::Turns::count_small, crate::proofs::Turns::one_run), unfolding(crate::specs::Runs::call_made))]
 fn run_one(store: &mut [u32], calls: &[u32], i: usize, answers: &mut [u32], list: &mut [u32])
     requires { (stored.is_store store.old ≡ true) × (words_in_call * i + words_in_call ≤ length calls.now) × (words_in_answer * i + words_in_answer ≤ length answers.old) × (length list.old ≡ room_at calls.now i) }
     ensures { OneRun (call_made (stored.capacity_of store.old) (stored.state_of store.old) (request_at calls.now i) list.old) i store.old answers.old store.new answers.new list.new }
@@ -206,6 +215,7 @@ fn run_one(store: &mut [u32], calls: &[u32], i: usize, answers: &mut [u32], list
 }
 
 // Makes the first calls of a list, one after the other.
+#[tactic(auto, unfolding(crate::specs::Words::calls_from, crate::specs::Runs::calls_made, crate::specs::Runs::rooms_of))]
 fn run_all(store: &mut [u32], calls: &[u32], count: usize, answers: &mut [u32], lists: &mut [u32])
     requires { (stored.is_store store.old ≡ true) × (words_in_call * count ≤ length calls.now) × (words_in_answer * count ≤ length answers.old) × (rooms_of (calls_from calls.now count 0) ≤ length lists.old) }
     ensures { LeftByRun (calls_made (stored.capacity_of store.old) (stored.state_of store.old) (calls_from calls.now count 0) lists.old) store.old answers.old lists.old store.new answers.new lists.new }

@@ -1,11 +1,12 @@
 -- Laws of a text written into lent bytes.
-use mathlib.Core.List.{[], ◌++◌, append_assoc}
+use mathlib.Core.List.{[], ◌∷◌, ◌++◌, append_assoc}
 use mathlib.Core.Path.{◌≡◌, sym, ap, ◌∙◌}
-use Prim.Native.Nat.{ℕ, ◌+◌, ◌≤◌}
+use Prim.Native.Nat.{ℕ, suc, ◌+◌, ◌≤◌, ◌<◌}
 use native.Mathlib.Nat.{add-zero, add_assoc}
 use native.Mathlib.Omega.{arith}
-use lib.ListN.{length, take, drop, length-append, length-drop, take-append-drop}
-use lib.Seq.{length-take-le, take-append_seam, take_at, drop-append-add, drop-drop}
+use native.Mathlib.Numerals.{add-one}
+use lib.ListN.{length, take, drop, set, length-append, length-drop, take-append-drop}
+use lib.Seq.{length-take-le, take-append_seam, take_at, drop-append-add, drop-drop, set-append_left, take-set-lt, take-suc-set}
 use Rattle.text.specs.Bytes.{Text, written}
 
 -- no text changes nothing
@@ -51,3 +52,15 @@ written_twice out at xs ys h =
     ∙ append_assoc (take at out) xs (ys ++ drop (at + length xs + length ys) out)
     ∙ ap (λ (d : Text). take at out ++ d) (sym (append_assoc xs ys (drop (at + length xs + length ys) out)))
     ∙ ap (λ (n : ℕ). take at out ++ ((xs ++ ys) ++ drop n out)) (add_assoc at (length xs) (length ys) ∙ ap (λ (n : ℕ). at + n) (sym (length-append xs ys)))
+
+-- a text, and one byte before it
+pub written_before_lem : (out : Text) (at b : ℕ) (bs : Text) → at < length out → set (written out (at + 1) bs) at b ≡ written out at (b ∷ bs)
+unfolding written
+written_before_lem out at b bs h =
+    set-append_left (take (at + 1) out) (bs ++ drop (at + 1 + length bs) out) at b (omega (arith, length-take-le (at + 1) out (omega arith)))
+    ∙ ap (λ (f : Text). f ++ (bs ++ drop (at + 1 + length bs) out)) (sym (take-set-lt (at + 1) out at b (omega arith)) ∙ ap (λ (n : ℕ). take n (set out at b)) (add-one at) ∙ take-suc-set out at b h)
+    ∙ append_assoc (take at out) (b ∷ []) (bs ++ drop (at + 1 + length bs) out)
+    ∙ ap (λ (n : ℕ). take at out ++ (b ∷ (bs ++ drop n out))) behind
+  where
+    behind : at + 1 + length bs ≡ at + suc (length bs)
+    behind = omega arith

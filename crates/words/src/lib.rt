@@ -32,13 +32,6 @@ const SECOND: usize = 4;
 
 const VALUE: usize = 5;
 
-// A word as an index.
-pub fn index_of(w: u32) -> usize
-    ensures { result ≡ w }
-{
-    w as usize
-}
-
 // Can a buffer of this length be a store.
 #[tactic(auto, unfolding(layouts::specs::Buffer::fits_length))]
 pub fn fits_length(b: &[u32]) -> bool

@@ -1,8 +1,5 @@
-use Rattle.pairs.proofs.Executed.{writable, executed}
+use Rattle.pairs.proofs.Executed.{executed}
 use Rattle.pairs.proofs.execute_pairs.Goals as goal
-
-pub write_pairs-k-requires : goal.write_pairs-k-requires
-write_pairs-k-requires c = writable c.args.store.now c.args.call c.decide-d.result c.decide-d.new.store c.args.list.now c.decide-d.ensures
 
 pub returns : goal.returns
 returns c =

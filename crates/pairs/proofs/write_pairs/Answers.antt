@@ -1,11 +1,8 @@
 use mathlib.Core.Path.{◌≡◌, sym, ◌∙◌}
 use mathlib.Core.Bool.{true}
 use Rattle.entries.specs.Cursors.{entry_of, is_there}
-use Rattle.pairs.proofs.WrittenPairs.{none_written, all_pairs, turn_enough, turn_wrote, turn_falls}
+use Rattle.pairs.proofs.WrittenPairs.{all_pairs, turn_enough, turn_wrote, turn_falls}
 use Rattle.pairs.proofs.write_pairs.Goals as goal
-
-pub loop-d-init : goal.loop-d-init
-loop-d-init c = (c.first_pair-p.ensures.standing, none_written _ _ _ c.first_pair-p.ensures.written)
 
 pub write_pair-p-requires : goal.write_pair-p-requires
 write_pair-p-requires c =
