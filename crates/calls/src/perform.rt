@@ -27,6 +27,7 @@ pub fn idle(op: Operator, name: u16) -> Answer
     }
 }
 
+// By hand: a match on the operator; operators are a closed set, and closures for their steps would be no shorter.
 // The step of an operator, and its answer: C and D tell how many tuples there are more or fewer than before. `near` and `universe` are hints in the call's space and in UNIVERSE, `name` is the call's first argument.
 pub fn perform(
     store: &mut [u32],

@@ -75,13 +75,7 @@ fn start_behind(b: &[u32], hint: usize, span: Span) -> usize
     requires { Linked b.now × Hint b.now hint }
     ensures { result ≡ sweep_start b.now span }
 {
-    let first = Key {
-        s: span.s,
-        n: span.n,
-        g: 0,
-        m: 0,
-    };
-    let place = chain::seek(b, hint, first);
+    let place = chain::seek(b, hint, words::node_key(span.s, span.n));
     if place.before == 0 {
         return words::head_word(b, 1);
     }

@@ -25,6 +25,7 @@ pub enum Part {
 }
 
 // The pairs of node n in space s, with edge g and node m (0: any).
+// By hand: 0 is no name, so that it needs no Option to mean any; the words of keys have it in the same way.
 #[derive(Clone, Copy)]
 pub struct PairQuery {
     pub d: Direction,
@@ -275,7 +276,7 @@ fn start_key(q: Query) -> Key
     }
 }
 
-// The first record that can give an entry; 0 for none.
+// The first record that can give an entry; 0 for none, as in the link words that the walk from it reads.
 #[tactic(auto, unfolding(crate::specs::Queries::start_in))]
 fn first_record(b: &[u32], hint: usize, q: Query) -> usize
     requires { Linked b.now × Hint b.now hint }
@@ -304,7 +305,7 @@ pub fn surely_fits(b: &[u32], room: usize) -> bool
     words::head_word(b, 3) <= room
 }
 
-// The number of entries. By hand: beside `write_entries`, as it is lent no list and asks for no room.
+// The number of entries. By hand: a function of its own beside `write_entries`, since it is lent no list and asks for no room.
 pub fn count_entries(b: &[u32], hint: usize, q: Query) -> usize
     requires { Readable b.now × Hint b.now hint }
     ensures { result ≡ length (queried q (tuples_of b.now)) }

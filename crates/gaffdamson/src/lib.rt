@@ -54,7 +54,7 @@ pub extern "C" fn gaffdamson_call(
     run::answer_words(answer)
 }
 
-// One call on any buffer; pairs stand in the answer list as structs.
+// One call on any buffer; pairs stand in the answer list as structs. By hand: C has no generic function, so each kind of list has its own.
 #[unsafe(no_mangle)]
 pub extern "C" fn gaffdamson_call_pairs(
     store: &mut [u32],

@@ -21,6 +21,7 @@ const MOST_NAME: u32 = u16::MAX as u32;
 const MOST_VALUE: u32 = u32::MAX;
 
 // What reading an argument finds.
+// By hand: an enum, the form that the specification names for this place.
 #[derive(Clone, Copy)]
 pub enum Argument {
     // A number.

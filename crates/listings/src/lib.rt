@@ -70,7 +70,7 @@ fn list_hint(l: Listing, near: Near) -> usize
     }
 }
 
-// The number of entries that an S operator lists.
+// The number of entries that an S operator lists. By hand: a function of its own beside `write_listed`, since it is lent no list and asks for no room.
 pub fn count_listed(b: &[u32], near: Near, l: Listing, f: Fields) -> usize
     requires { Readable b.now × NearIn b.now near × NamesAsked l f }
     ensures { result ≡ length (listed l f (tuples_of b.now)) }

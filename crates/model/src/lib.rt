@@ -4,6 +4,7 @@
 ghost use Rattle.std.specs.Prelude.{◌≡◌};
 
 // "Nodes, edges and spaces are named by 1 to 65,535 (16 bits), separately": one type for each sort of name.
+// By hand: three types and no generic one, the form that the specification names for this place.
 // Those of nodes and edges have the layout of C, for the pairs of a list that C or Rust lends.
 #[repr(C)]
 #[derive(Clone, Copy, PartialEq, Eq, PartialOrd, Ord)]

@@ -101,7 +101,7 @@ fn direction(first: u32, o: u32) -> Direction
 }
 
 // 1 to 11: C, B, V and X of pairs.
-// By hand: a row of the table for each three operators, here and in the two functions below; a function from row to constructor would say no less.
+// By hand: a match here and in the two functions below, since each row of the table has a constructor of its own.
 #[tactic(auto, unfolding(model::specs::Operators::operator_of))]
 fn pair_operator(o: u32) -> Operator
     requires { (1 ≤ o) × (o < 12) }

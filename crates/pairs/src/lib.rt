@@ -41,12 +41,8 @@ fn query_in(op: Operator, f: Fields) -> Query
     ensures { result ≡ operator_query op f }
 {
     match op {
-        Operator::Create(_) => Query::Names(NamesQuery::Spaces),
-        Operator::Bind(_) => Query::Names(NamesQuery::Spaces),
-        Operator::Value(_) => Query::Names(NamesQuery::Spaces),
-        Operator::Exists(_) => Query::Names(NamesQuery::Spaces),
-        Operator::Destroy(_) => Query::Names(NamesQuery::Spaces),
         Operator::List(l) => listings::query_of(l, f),
+        _ => Query::Names(NamesQuery::Spaces),
     }
 }
 

@@ -32,7 +32,7 @@ const EDGE_FACTOR: usize = 3571;
 
 const SECOND_FACTOR: usize = 2741;
 
-// The mark of node n in s. By hand: beside the word that packs a pair, since it packs a space and a node.
+// The mark of node n in s. By hand: the sum is shorter than a function of two names for it and for the word of a pair.
 #[tactic(auto, unfolding(crate::specs::Presence::node_mark))]
 fn node_mark(s: u32, n: u32) -> u32
     requires { (s ≤ most_name) × (n ≤ most_name) }
@@ -50,7 +50,7 @@ fn edge_mark(i: usize) -> u32
     (i as u32) * NAME_COUNT
 }
 
-// The record of an edge tuple's mark; 0 for no mark and for the mark of a node.
+// The record of an edge tuple's mark; 0, as in a link word, for no mark and for the mark of a node.
 #[tactic(auto, unfolding(crate::specs::Presence::edge_record))]
 fn edge_record(w: u32) -> usize
     ensures { result ≡ edge_record w }
@@ -176,12 +176,7 @@ impl Marks {
         requires { Walkable b.now × MarksFit b.now self.now.words }
         ensures { result ≡ edge_shown b.now self.now.words k }
     {
-        let edge = Key {
-            s: 0,
-            n: k.n,
-            g: k.g,
-            m: k.m,
-        };
+        let edge = Key { s: 0, ..k };
         self.shows(
             edge_slot(k),
             |w|

@@ -27,12 +27,7 @@ fn edge_in_universe(b: &[u32], k: Key) -> bool
     requires { Sorted b.now }
     ensures { result ≡ edge_in_universe (tuples_of b.now) k }
 {
-    let edge = Key {
-        s: 0,
-        n: k.n,
-        g: k.g,
-        m: k.m,
-    };
+    let edge = Key { s: 0, ..k };
     k.g == 0 || holds_from(b, words::head_word(b, 1), edge)
 }
 

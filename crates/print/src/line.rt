@@ -23,7 +23,7 @@ fn digit_count(x: u32) -> usize
     x.ilog10() as usize + 1
 }
 
-// By hand: `write!` gives a Result, and a line for which there is room cannot fail to be written.
+// A line is written by these methods and not by `write!`, which gives a Result: a line for which there is room cannot fail to be written.
 #[derive(Drop)]
 pub struct Line<'a> {
     pub out: &'a mut [u8],

@@ -82,7 +82,7 @@ pub fn run_block(
     Block { next: at, length }
 }
 
-// May an input of so many bytes be run: at most 65,536. By hand: a test and not a result, which has nothing to give where it holds.
+// May an input of so many bytes be run: at most 65,536. By hand: a test, which its caller asks before it runs or refuses the input; as a result it would be taken apart at once.
 pub fn accepted(bytes: usize) -> bool
     ensures { result ≡ leb bytes most_input }
 {
