@@ -1,63 +1,72 @@
--- The order and the equality that the fields of a key give, in the order s, n, g, m, are those of the model.
+-- Keys compared part by part.
+use mathlib.Core.Bool.{Bool, true, false}
+use mathlib.Core.Path.{◌≡◌, refl, sym, ap, ◌∙◌}
 use Prim.Native.Nat.{ℕ, compare, Ordering}
-use lib.Dec.{compare_is_eq}
-use Rattle.std.proofs.Common.{◌≡◌, refl, sym, ap, ◌∙◌, ◌&&◌, nat_eq, is_lt, Less, Equal, Greater, Some, Option}
-use Rattle.std.specs.Ordering.{nat_cmp, is_some_and, partial_ordering_then}
-use Rattle.std.specs.Cmp.{nat_cmp_is}
-use Rattle.std.specs.declared.cmp.Ordering.{Ordering as Answer}
+use native.Mathlib.Nat.{le_of_lt, le_of_eq}
+use lib.Dec.{ltb, eqb, compare_is_eq}
+use borrow.Author.Tests.{lt-ltb, le-ltb}
 use Rattle.model.specs.declared.Key.{Key}
 use Rattle.model.specs.Ordered.{then_by, is_less}
 use Rattle.model.specs.Keys.{compare_keys, same_key}
-use Rattle.model.proofs.Order.{compare_eq, compare_lt, compare_gt}
+use Rattle.model.proofs.Tuples.{same_key_lem}
+use Rattle.model.proofs.Order.{compare_eq, compare_lt, compare_gt, compare_refl}
 
--- the answer of a comparison of numbers, as the library has it
-abbrev answer : Ordering → Answer
-answer Ordering.lt = Less
-answer Ordering.eq = Equal
-answer Ordering.gt = Greater
-
-answer_of_numbers : (x y : ℕ) → nat_cmp x y ≡ answer (compare x y)
-answer_of_numbers x y = go (compare x y) refl
+-- first parts that differ decide
+less_differs : (x y : ℕ) (o : Ordering) → (x ≡ y → ⊥) → ltb x y ≡ is_less (then_by (compare x y) o)
+less_differs x y o h = go (compare x y) refl
   where
-    go : (o : Ordering) → compare x y ≡ o → nat_cmp x y ≡ answer o
-    go Ordering.lt e = sym (nat_cmp_is x y Less (compare_lt x y e))
-    go Ordering.eq e = sym (nat_cmp_is x y Equal (compare_eq x y e))
-    go Ordering.gt e = sym (nat_cmp_is x y Greater (compare_gt x y e))
+    go : (p : Ordering) → compare x y ≡ p → ltb x y ≡ is_less (then_by p o)
+    go Ordering.lt e = lt-ltb x y (compare_lt x y e)
+    go Ordering.eq e = absurd (h (compare_eq x y e))
+    go Ordering.gt e = le-ltb x y (le_of_lt (compare_gt x y e))
 
-answer_then : (o p : Ordering) → partial_ordering_then (Some (answer o)) (Some (answer p)) ≡ Some (answer (then_by o p))
-answer_then Ordering.lt p = refl
-answer_then Ordering.eq p = refl
-answer_then Ordering.gt p = refl
+-- equal ones leave it to the rest
+then_equal : (x y : ℕ) (o : Ordering) → x ≡ y → then_by (compare x y) o ≡ o
+then_equal x y o e = ap (λ (z : ℕ). then_by (compare x z) o) (sym e) ∙ ap (λ (p : Ordering). then_by p o) (compare_refl x)
 
--- the answers of the four parts, one after the other
-abbrev by_parts : Answer → Answer → Answer → Answer → Option Answer
-by_parts s n g m = partial_ordering_then (Some s) (partial_ordering_then (Some n) (partial_ordering_then (Some g) (Some m)))
+less_last : (x y : ℕ) → ltb x y ≡ is_less (compare x y)
+less_last x y = go (compare x y) refl
+  where
+    go : (p : Ordering) → compare x y ≡ p → ltb x y ≡ is_less p
+    go Ordering.lt e = lt-ltb x y (compare_lt x y e)
+    go Ordering.eq e = le-ltb x y (le_of_eq (sym (compare_eq x y e)))
+    go Ordering.gt e = le-ltb x y (le_of_lt (compare_gt x y e))
 
-parts : {s t n o g p m q : Answer} → s ≡ t → n ≡ o → g ≡ p → m ≡ q → by_parts s n g m ≡ by_parts t o p q
-parts e f g h = cc
+module _ (a b : Key) where
+  pub below_s : (a.s ≡ b.s → ⊥) → ltb a.s b.s ≡ is_less (compare_keys a b)
+  unfolding compare_keys
+  below_s h = less_differs a.s b.s _ h
 
-answer_less : (o : Ordering) → is_some_and is_lt (Some (answer o)) ≡ is_less o
-answer_less Ordering.lt = refl
-answer_less Ordering.eq = refl
-answer_less Ordering.gt = refl
+  pub below_n : a.s ≡ b.s → (a.n ≡ b.n → ⊥) → ltb a.n b.n ≡ is_less (compare_keys a b)
+  unfolding compare_keys
+  below_n s h = less_differs a.n b.n _ h ∙ ap is_less (sym (then_equal a.s b.s _ s))
 
-equal_then : (o p : Ordering) → (compare_is_eq o && compare_is_eq p) ≡ compare_is_eq (then_by o p)
-equal_then Ordering.lt p = refl
-equal_then Ordering.eq p = refl
-equal_then Ordering.gt p = refl
+  pub below_g : a.s ≡ b.s → a.n ≡ b.n → (a.g ≡ b.g → ⊥) → ltb a.g b.g ≡ is_less (compare_keys a b)
+  unfolding compare_keys
+  below_g s n h = less_differs a.g b.g _ h ∙ ap is_less (sym (then_equal a.s b.s _ s ∙ then_equal a.n b.n _ n))
 
-pub key_equal : (a b : Key) → (nat_eq a.s b.s && (nat_eq a.n b.n && (nat_eq a.g b.g && nat_eq a.m b.m))) ≡ same_key a b
-unfolding compare_keys
-key_equal a b =
-    ap (λ t. nat_eq a.s b.s && (nat_eq a.n b.n && t)) (equal_then (compare a.g b.g) _)
-    ∙ ap (λ t. nat_eq a.s b.s && t) (equal_then (compare a.n b.n) _)
-    ∙ equal_then (compare a.s b.s) _
+  pub below_m : a.s ≡ b.s → a.n ≡ b.n → a.g ≡ b.g → ltb a.m b.m ≡ is_less (compare_keys a b)
+  unfolding compare_keys
+  below_m s n g =
+      less_last a.m b.m
+      ∙ ap is_less (sym (then_equal a.s b.s _ s ∙ (then_equal a.n b.n _ n ∙ then_equal a.g b.g _ g)))
 
-pub key_less : (a b : Key) → is_some_and is_lt (by_parts (nat_cmp a.s b.s) (nat_cmp a.n b.n) (nat_cmp a.g b.g) (nat_cmp a.m b.m)) ≡ is_less (compare_keys a b)
-unfolding compare_keys
-key_less a b =
-    ap (is_some_and is_lt) (parts (answer_of_numbers a.s b.s) (answer_of_numbers a.n b.n) (answer_of_numbers a.g b.g) (answer_of_numbers a.m b.m)
-    ∙ ap (λ q. partial_ordering_then (Some (answer (compare a.s b.s))) (partial_ordering_then (Some (answer (compare a.n b.n))) q)) (answer_then (compare a.g b.g) _)
-    ∙ ap (λ q. partial_ordering_then (Some (answer (compare a.s b.s))) q) (answer_then (compare a.n b.n) _)
-    ∙ answer_then (compare a.s b.s) _)
-    ∙ answer_less _
+  pub same_s : a.n ≡ b.n → a.g ≡ b.g → a.m ≡ b.m → eqb a.s b.s ≡ same_key a b
+  unfolding compare_keys
+  same_s n g m =
+      ap compare_is_eq (sym (then_same (compare a.s b.s)))
+      ∙ ap (λ (o : Ordering). compare_is_eq (then_by (compare a.s b.s) o))
+      (sym (then_equal a.n b.n _ n ∙ (then_equal a.g b.g _ g ∙ (ap (compare a.m) (sym m) ∙ compare_refl a.m))))
+    where
+      then_same : (o : Ordering) → then_by o Ordering.eq ≡ o
+      then_same Ordering.lt = refl
+      then_same Ordering.eq = refl
+      then_same Ordering.gt = refl
+
+-- keys that differ in a part are not the same
+pub differ : (a b : Key) (part : Key → ℕ) → (part a ≡ part b → ⊥) → false ≡ same_key a b
+differ a b part h = go (same_key a b) refl
+  where
+    go : (t : Bool) → same_key a b ≡ t → false ≡ t
+    go true e = absurd (h (ap part (same_key_lem a b e)))
+    go false e = refl

