@@ -18,17 +18,17 @@ pub fn idle(op: Operator, name: u16) -> Answer
     ensures { Ok result ≡ answer_of (idle_reply op name) }
 {
     match op {
-        Operator::Create(o) => Answer::Added(name, 0),
-        Operator::Bind(o) => Answer::Name(name),
-        Operator::Value(o) => Answer::Value(0),
-        Operator::Exists(o) => Answer::YesNo(false),
-        Operator::Destroy(r) => Answer::Removed(name, 0),
-        Operator::List(l) => Answer::List(0),
+        Operator::Create(_) => Answer::Added(name, 0),
+        Operator::Bind(_) => Answer::Name(name),
+        Operator::Value(_) => Answer::Value(0),
+        Operator::Exists(_) => Answer::YesNo(false),
+        Operator::Destroy(_) => Answer::Removed(name, 0),
+        Operator::List(_) => Answer::List(0),
     }
 }
 
-// By hand: a match on the operator; operators are a closed set, and closures for their steps would be no shorter.
 // The step of an operator, and its answer: C and D tell how many tuples there are more or fewer than before. `near` and `universe` are hints in the call's space and in UNIVERSE, `name` is the call's first argument.
+// By hand: a match on the operator; operators are a closed set, and closures for their steps would be no shorter.
 pub fn perform(
     store: &mut [u32],
     near: Near,

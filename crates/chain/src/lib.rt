@@ -7,13 +7,10 @@ ghost use Rattle.layouts.specs.Buffer.{next, used_of, tuples_of, key_at};
 ghost use Rattle.words.specs.Words.{Inside};
 ghost use Rattle.chain.specs.Links.{both_ways, Linked, Hint, start_of, after_in, place_in, find_in, record_named, Linking, insert_after, Unlinking, remove_after};
 
-use model::{Direction, Key};
+use model::{Direction, Key, NIL};
 
 // A power of two above the number of every record: the remainder by it is the number itself.
 const ABOVE_RECORDS: usize = 4096;
-
-// The value that is none.
-const NIL: u32 = 0;
 
 // A place in the used chain: a record and the one after it.
 // By hand: 0 is no record here and in every hint, as it is in the link words of the buffer that walks compare with.

@@ -10,7 +10,7 @@ ghost use Rattle.chain.specs.Links.{Linked, Hint, KeepsHints, place_in, Edited, 
 ghost use Rattle.taken.specs.Selections.{taken_by};
 ghost use Rattle.edit.specs.Edits.{Adding, Assigned, Turned, sweep_start};
 
-use model::Key;
+use model::{Key, NIL};
 use taken::{Selection, Span};
 
 // How many tuples there are: word 3.
@@ -29,9 +29,6 @@ pub fn held_at(b: &[u32], k: Key, at: usize) -> bool
 {
     at != 0 && words::key_same(k, chain::used_key(b, at))
 }
-
-// The value that is none.
-const NIL: u32 = 0;
 
 // Adds a tuple, NIL, where its key is missing; a present one keeps its value.
 pub fn add_missing(b: &mut [u32], hint: usize, k: Key)

@@ -5,7 +5,7 @@ ghost use Rattle.layouts.specs.Buffer.{head_words, record_words, fits_length, ca
 ghost use Rattle.words.specs.Words.{most_index, Inside};
 ghost use Rattle.fresh.specs.Prepare.{headed, universe_in, chained, prepared_buffer, after_preparing};
 
-use model::Refusal;
+use model::{NIL, Refusal};
 
 // The free record after record i in ascending order; 0 after the last.
 #[tactic(auto, unfolding(layouts::specs::Buffer::follower))]
@@ -40,7 +40,7 @@ fn put_universe(b: &mut [u32])
 {
     let universe = words::node_key(0, 0);
     words::put_next(b, 1, 0);
-    words::put_tuple(b, 1, universe, 0);
+    words::put_tuple(b, 1, universe, NIL);
 }
 
 // Records 2 to C chained as free in ascending order.

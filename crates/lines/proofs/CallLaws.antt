@@ -72,7 +72,8 @@ module _ (o : ℕ) (ws : List Text) (r : Reads) (f : r ≡ reads_of o) (a₁ : A
         pub stop_at_v : NoNumber a₄ → refused ≡ in_order o ws
         stop_at_v z = stopped o (λ (q : Reads). q.v) most_value ws₃ (behind_v o n g m) r f a₄ h₄ z ∙ sym read_m
 
-        module _ (v : ℕ) (k₄ : a₄ ≡ Number v) (ws₄ : List Text) (l₄ : ws₄ ≡ left_by r.v ws₃) (optional : Bool) (p : optional ≡ within 1 50 o) (a₅ : Option Space) (h₅ : a₅ ≡ space_of optional (first_of most_name ws₄)) where
+        module _ (v : ℕ) (k₄ : a₄ ≡ Number v) (ws₄ : List Text) (l₄ : ws₄ ≡ left_by r.v ws₃) (optional : Bool) (p : optional ≡ within 1 50 o)
+            (a₅ : Option Space) (h₅ : a₅ ≡ space_of optional (first_of most_name ws₄)) where
           read_v : in_order o ws ≡ behind_v o n g m v ws₄
           read_v = read_m ∙ took o (λ (q : Reads). q.v) most_value ws₃ (behind_v o n g m) r f a₄ h₄ v k₄ ws₄ l₄
 

@@ -159,7 +159,8 @@ value_last s v h =
     let b = reads_back most_value v h (omega arith) in
     rw b
 
-reads_52 : (n g m v : ℕ) (s : Space) → v ≤ most_value → space_number s ≤ most_name → with_number (operator_number (letters_of 52)) (λ (o : ℕ). arguments o (arguments_of (call_of 52 n g m v s))) ≡ Ok (readable (call_of 52 n g m v s))
+reads_52 : (n g m v : ℕ) (s : Space) → v ≤ most_value → space_number s ≤ most_name →
+    with_number (operator_number (letters_of 52)) (λ (o : ℕ). arguments o (arguments_of (call_of 52 n g m v s))) ≡ Ok (readable (call_of 52 n g m v s))
 unfolding letters_of operator_words operator_number number_from same_text with_number arguments arguments_of reads_of space_then_value readable
 reads_52 n g m v s h k =
     take_space_lem false s (printed_number v ∷ []) (λ (t : Space) (ws : List Text). take_number true most_value ws (λ (x : ℕ) (vs : List Text). complete (call_of 52 0 0 0 x t) vs)) k

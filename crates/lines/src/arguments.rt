@@ -3,10 +3,10 @@ ghost use Rattle.std.specs.Prelude.{◌≡◌};
 ghost use Rattle.model.specs.Keys.{most_name};
 ghost use Rattle.lines.specs.Places.{words_behind, others, of_word, first_of, field_of, left_by, space_of};
 
+use super::Argument;
 use super::numbers::number_in;
 use super::words::end_of;
-use super::{Argument, MOST_NAME};
-use model::{Space, SpaceName};
+use model::{MOST_NAME, Space, SpaceName};
 
 // The argument that a word is.
 fn of_word(word: &[u8], most: u32) -> Argument

@@ -7,17 +7,15 @@ mod words;
 
 ghost use Rattle.std.specs.Prelude.{◌≡◌, ◌≤◌, length, drop};
 ghost use Rattle.text.specs.Bytes.{before, line_feed};
-ghost use Rattle.lines.specs.Calls.{complete, in_order, space_then_value, spaces, read_line};
+ghost use Rattle.lines.specs.Calls.{call_of, complete, in_order, space_then_value, spaces, read_line};
 ghost use Rattle.lines.specs.Places.{words_behind};
 
 use arguments::{argument_in, field_in, space_in};
 use letters::operator_number;
-use model::{Call, EdgeName, NodeName, Refusal, Space};
+use model::{Call, EdgeName, MOST_NAME, NodeName, Refusal, Space};
 use words::end_of;
 
 // "names to 65,535, values to 4,294,967,295".
-const MOST_NAME: u32 = u16::MAX as u32;
-
 const MOST_VALUE: u32 = u32::MAX;
 
 // What reading an argument finds.
@@ -95,6 +93,20 @@ fn in_order(rest: &[u8], o: u32) -> Result<Call, Refusal>
     completed(after_s, c)
 }
 
+// A call that reads no edge and no second node.
+fn node_call(operator: u32, n: u16, v: u32, s: Space) -> Call
+    ensures { result ≡ call_of operator n 0 0 v s }
+{
+    Call {
+        operator,
+        n: NodeName(n),
+        g: EdgeName(0),
+        m: NodeName(0),
+        v,
+        s,
+    }
+}
+
 // "52 s v".
 fn space_then_value(rest: &[u8], o: u32) -> Result<Call, Refusal>
     ensures { result ≡ space_then_value o (words_behind rest.now) }
@@ -107,15 +119,7 @@ fn space_then_value(rest: &[u8], o: u32) -> Result<Call, Refusal>
     let Argument::Number(v) = argument_v else {
         return Err(Refusal::Unreadable);
     };
-    let c = Call {
-        operator: o,
-        n: NodeName(0),
-        g: EdgeName(0),
-        m: NodeName(0),
-        v,
-        s,
-    };
-    completed(after_v, c)
+    completed(after_v, node_call(o, 0, v, s))
 }
 
 // "SUS with a number is 57"; alone it is 56.
@@ -124,28 +128,13 @@ fn spaces_of(rest: &[u8]) -> Result<Call, Refusal>
     ensures { result ≡ spaces (words_behind rest.now) }
 {
     if rest.is_empty() {
-        return Ok(Call {
-            operator: 56,
-            n: NodeName(0),
-            g: EdgeName(0),
-            m: NodeName(0),
-            v: 0,
-            s: Space::Universe,
-        });
+        return Ok(node_call(56, 0, 0, Space::Universe));
     }
     let (argument_n, after_n) = argument_in(rest, MOST_NAME);
     let Argument::Number(n) = argument_n else {
         return Err(Refusal::Unreadable);
     };
-    let c = Call {
-        operator: 57,
-        n: NodeName(n as u16),
-        g: EdgeName(0),
-        m: NodeName(0),
-        v: 0,
-        s: Space::Universe,
-    };
-    completed(after_n, c)
+    completed(after_n, node_call(57, n as u16, 0, Space::Universe))
 }
 
 // The call that a line reads as, or refusal 11.

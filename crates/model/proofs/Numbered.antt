@@ -26,18 +26,26 @@ number_back NoSelection = refl
 pub number_of_injective : (a b : Refusal) → number_of a ≡ number_of b → a ≡ b
 number_of_injective a b e = sym (number_back a) ∙ ap refusal_in e ∙ number_back b
 
+-- the conditions have the numbers 1 to 12
+number_within : (refusal : Refusal) → (1 ≤ number_of refusal) × (number_of refusal ≤ 12)
+unfolding number_of
+number_within NotAStore = (omega arith, omega arith)
+number_within NoOperator = (omega arith, omega arith)
+number_within ZeroName = (omega arith, omega arith)
+number_within UniverseDestroyed = (omega arith, omega arith)
+number_within SpaceAbsent = (omega arith, omega arith)
+number_within NodeAbsent = (omega arith, omega arith)
+number_within SecondAbsent = (omega arith, omega arith)
+number_within EdgeAbsent = (omega arith, omega arith)
+number_within ListTooShort = (omega arith, omega arith)
+number_within Full = (omega arith, omega arith)
+number_within Unreadable = (omega arith, omega arith)
+number_within NoSelection = (omega arith, omega arith)
+
 -- none has the number 0
 pub number_positive : (refusal : Refusal) → 1 ≤ number_of refusal
-unfolding number_of
-number_positive NotAStore = omega arith
-number_positive NoOperator = omega arith
-number_positive ZeroName = omega arith
-number_positive UniverseDestroyed = omega arith
-number_positive SpaceAbsent = omega arith
-number_positive NodeAbsent = omega arith
-number_positive SecondAbsent = omega arith
-number_positive EdgeAbsent = omega arith
-number_positive ListTooShort = omega arith
-number_positive Full = omega arith
-number_positive Unreadable = omega arith
-number_positive NoSelection = omega arith
+number_positive refusal = (number_within refusal).0
+
+-- and all are small
+pub number_most : (refusal : Refusal) → number_of refusal ≤ 12
+number_most refusal = (number_within refusal).1

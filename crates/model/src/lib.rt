@@ -3,15 +3,24 @@
 // The definitions over them, in the order of document 01, are in specs/.
 ghost use Rattle.std.specs.Prelude.{◌≡◌};
 
+// The value that is none.
+pub const NIL: u32 = 0;
+
+// The greatest name.
+pub const MOST_NAME: u32 = u16::MAX as u32;
+
+// How many names there are, with 0, which is none.
+pub const NAME_COUNT: u32 = 65536;
+
 // "Nodes, edges and spaces are named by 1 to 65,535 (16 bits), separately": one type for each sort of name.
 // By hand: three types and no generic one, the form that the specification names for this place.
 // Those of nodes and edges have the layout of C, for the pairs of a list that C or Rust lends.
 #[repr(C)]
-#[derive(Clone, Copy, PartialEq, Eq, PartialOrd, Ord)]
+#[derive(Clone, Copy)]
 pub struct NodeName(pub u16);
 
 #[repr(C)]
-#[derive(Clone, Copy, PartialEq, Eq, PartialOrd, Ord)]
+#[derive(Clone, Copy)]
 pub struct EdgeName(pub u16);
 
 #[derive(Clone, Copy, PartialEq, Eq)]
@@ -41,7 +50,7 @@ pub struct Call {
 }
 
 // "The middle letter O, I or A chooses" which pairs of a node are meant.
-#[derive(Clone, Copy, PartialEq, Eq)]
+#[derive(Clone, Copy)]
 pub enum Direction {
     Outpointing,
     Inpointing,
@@ -236,7 +245,7 @@ pub enum Answer {
 }
 
 // "A tuple has a key (s, n, g, m)": the four key words of a record.
-#[derive(Clone, Copy, PartialEq, Eq, PartialOrd, Ord)]
+#[derive(Clone, Copy)]
 pub struct Key {
     pub s: u32,
     pub n: u32,
@@ -246,7 +255,7 @@ pub struct Key {
 
 // "The answer list is a lent list of pairs (edge, node)."
 #[repr(C)]
-#[derive(Clone, Copy, PartialEq, Eq, PartialOrd, Ord)]
+#[derive(Clone, Copy)]
 pub struct Pair {
     pub edge: EdgeName,
     pub node: NodeName,

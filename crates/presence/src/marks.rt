@@ -11,11 +11,8 @@ ghost use Rattle.presence.specs.Presence.{Walkable, Sorted, MarksHold, MarksFit,
 ghost use Rattle.presence.specs.Presence.{node_shown, edge_shown, node_mark, edge_mark, edge_record, node_slot, edge_slot, LooksFor, is_at};
 
 use super::seek::{holds_from, is_at};
-use model::Key;
+use model::{Key, NAME_COUNT};
 use words::node_key;
-
-// How many names there are: a mark is a number times this, and a name.
-const NAME_COUNT: u32 = 65536;
 
 // Places for marks.
 pub const MARK_COUNT: usize = 4096;

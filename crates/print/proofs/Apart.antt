@@ -11,7 +11,7 @@ use Rattle.model.specs.declared.Pair.{Pair}
 use Rattle.model.specs.declared.Refusal.{Refusal}
 use Rattle.model.specs.declared.Refusal.TheVariants.{NotAStore, NoOperator, ZeroName, UniverseDestroyed, SpaceAbsent, NodeAbsent, SecondAbsent, EdgeAbsent, ListTooShort, Full, Unreadable, NoSelection}
 use Rattle.model.specs.Numbered.{number_of}
-use Rattle.model.proofs.Numbered.{number_of_injective}
+use Rattle.model.proofs.Numbered.{number_of_injective, number_most}
 use Rattle.model.specs.Pairs.{pair, edge_of, node_of}
 use Rattle.model.specs.Steps.{Reply, refusal, name, added, removed, valued, yes_no, pairs}
 use Rattle.text.specs.Bytes.{Text, line_feed, blank, hyphen, plus_sign, equals_sign, colon, L, N, R, T, «V»}
@@ -137,19 +137,7 @@ named_apart x y t u r s n m h k e =
 
 -- the numbers of the conditions are small
 few : (condition : Refusal) → number_of condition ≤ 4294967295
-unfolding number_of
-few NotAStore = omega arith
-few NoOperator = omega arith
-few ZeroName = omega arith
-few UniverseDestroyed = omega arith
-few SpaceAbsent = omega arith
-few NodeAbsent = omega arith
-few SecondAbsent = omega arith
-few EdgeAbsent = omega arith
-few ListTooShort = omega arith
-few Full = omega arith
-few Unreadable = omega arith
-few NoSelection = omega arith
+few condition = omega (arith, number_most condition)
 
 -- distinct answers print distinct lines
 pub lines_apart : (r s : Reply) → NumbersFit r → NumbersFit s → answer_line r ≡ answer_line s → r ≡ s

@@ -44,7 +44,8 @@ room_after n {bs} {l} {l'} p h = omega (arith, put_length p.put (omega arith), p
 
 -- what `{}` writes for a number of 32 bits
 pub decimal_printed : (x : ℕ) → x ≤ 4294967295 → decimal x ≡ printed_number x
-decimal_printed x h = of_printed (λ (n : ℕ) (ds : Text). n < 2 ^ 64 → decimal n ≡ ds) (λ n l k. decimal_digit n l) (λ n ds l ih k. decimal_step n l k ∙ ap (λ (bs : Text). bs ++ (digit (n % 10) ∷ [])) (ih (omega arith))) x h (omega arith)
+decimal_printed x h = of_printed (λ (n : ℕ) (ds : Text). n < 2 ^ 64 → decimal n ≡ ds) (λ n l k. decimal_digit n l)
+    (λ n ds l ih k. decimal_step n l k ∙ ap (λ (bs : Text). bs ++ (digit (n % 10) ∷ [])) (ih (omega arith))) x h (omega arith)
 
 -- a number whose digits end at a place
 pub number_put : (x count : ℕ) (out : Text) (at from : ℕ) (out' : Text) → x ≤ 4294967295 → count ≡ length (printed_number x) → at + count ≤ length out → from + length (decimal x) ≡ at + count

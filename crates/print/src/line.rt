@@ -7,10 +7,7 @@ ghost use Rattle.text.specs.Numerals.{printed_number};
 ghost use Rattle.print.specs.Answers.{signed, change, yes_or_no, entry_text, entries_text, answer_text, Room, Adds, Printable};
 
 use itoa::write_digits;
-use model::{Answer, Refusal};
-
-// How many names there are: an entry is packed as its edge times this, and its node.
-const NAME_COUNT: u32 = 65536;
+use model::{Answer, NAME_COUNT, Refusal};
 
 // How many digits a number has.
 #[tactic(auto, using(text::proofs::Printing::printed_one, text::proofs::Printing::printed_length))]

@@ -6,7 +6,7 @@ ghost use Rattle.layouts.specs.Stored.{stored};
 ghost use Rattle.run.specs.Words.{words_in_call, words_in_answer, name_in, value_of_form, space_of_form, call_of, call_words_at, call_at, room_at, request_at, calls_from, answer_words, put_answer};
 ghost use Rattle.run.specs.Runs.{rooms_of, call_made, calls_made, OneRun, LeftByRun, Ran};
 
-use model::{Answer, Call, EdgeName, NodeName, Refusal, Space, SpaceName};
+use model::{Answer, Call, EdgeName, NIL, NodeName, Refusal, Space, SpaceName};
 
 // Words of a call in a list of calls, and of an answer.
 const WORDS_IN_CALL: usize = 9;
@@ -15,9 +15,6 @@ const WORDS_IN_CALL: usize = 9;
 const ROOM: usize = 8;
 
 const WORDS_IN_ANSWER: usize = 3;
-
-// The value that is none.
-const NIL: u32 = 0;
 
 // The forms of a value and of a space that do not take the number beside them.
 const NIL_FORM: u32 = 0;

@@ -129,14 +129,12 @@ pub fn span_of(sel: Selection) -> Span
     ensures { result ≡ span_of sel }
 {
     match sel {
-        Selection::Edges(e) => {
-            Span {
-                s: e.s,
-                n: from_node(e.d, e.n),
-            }
-        }
+        Selection::Edges(e) => Span {
+            s: e.s,
+            n: from_node(e.d, e.n),
+        },
         Selection::Node(x) => Span { s: x.s, n: 0 },
-        Selection::Space(s) => Span { s: s, n: 0 },
+        Selection::Space(s) => Span { s, n: 0 },
     }
 }
 

@@ -7,14 +7,11 @@ ghost use Rattle.presence.specs.Presence.{Walkable, shaped_key, good_key, MarksH
 ghost use Rattle.verify.specs.Checks.{may_meet, key_follows, starts_right, used_walk, used_run_of, UsedFound};
 
 use super::chains::{Walk, Walked, step};
-use model::Key;
+use model::{Key, MOST_NAME};
 use presence::ends::take;
 use presence::kept::KeptRecords;
 use presence::marks::Marks;
 use words::{capacity, node_key};
-
-// The greatest name.
-const MOST_NAME: u32 = 65535;
 
 // Are the words of a key names, or 0.
 #[tactic(auto, unfolding(model::specs::Rules::small_key))]
