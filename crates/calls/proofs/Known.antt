@@ -21,7 +21,7 @@ use Rattle.model.specs.Tuples.{Tuples, missing}
 use Rattle.layouts.specs.Buffer.{capacity_of, tuples_of, is_store}
 use Rattle.model.specs.Steps.{Reply, fields_of, decoded, first_argument, would_list, would_add, idle_reply}
 use Rattle.model.specs.Refusals.{first, selects_nothing, zero_name, destroys_universe, list_short, full, of_call, refusal_of}
-use Rattle.model.specs.Machine.{FieldsFit, Outcome, step, idle, outcome_of, machine}
+use Rattle.model.specs.Machine.{Outcome, step, idle, outcome_of, machine}
 use Rattle.model.specs.OneCall.{answer_of, list_after, OnStore, OneCall}
 use Rattle.layouts.specs.Stored.{stored}
 use Rattle.model.proofs.Bools.{and_left, and_right, not_yes, not_no}
@@ -31,8 +31,9 @@ use Rattle.edit.proofs.Built.{store_tuples, edited_store}
 use Rattle.listings.proofs.Stores.{names_asked}
 use Rattle.removals.specs.Collected.{NamesIn}
 use Rattle.calls.specs.Perform.{ReadyFor, Ready, Performed}
+use Rattle.refusals.specs.declared.Admitted.{Admitted}
 use Rattle.refusals.specs.Checks.{checked, of_store}
-use Rattle.refusals.proofs.Stops.{call_passes, call_stops, nothing_passes, all_pass, store_stops}
+use Rattle.refusals.proofs.Stops.{call_stops, nothing_passes, all_pass, store_stops}
 
 -- with nothing as the space no list is written
 idle_unwritten : (op : Operator) (x : ℕ) (l : List ℕ) → list_after (idle_reply op x) l ≡ l
@@ -64,21 +65,23 @@ call_refused b l c condition e R = refused b l c condition e (call_stops (capaci
 
 -- ---- with nothing as the space
 
-pub idle_known : (b l : List ℕ) (c : Call) (d : Decoded) (x : ℕ) (a : Answer) (t : Bool) → is_store b ≡ true → d ≡ decoded c
-    → Ok tt ≡ checked (first (of_call c)) → t ≡ selects_nothing c → t ≡ true → x ≡ first_argument (decoded c) → Ok a ≡ answer_of (idle_reply d.operator x)
-    → OnStore stored b l c (Ok a) b l
+pub idle_known : (b l : List ℕ) (k : Admitted) (x : ℕ) (a : Answer) (t : Bool) → is_store b ≡ true
+    → t ≡ selects_nothing k.known.call → t ≡ true → x ≡ first_argument k.known.decoded → Ok a ≡ answer_of (idle_reply k.known.decoded.operator x)
+    → OnStore stored b l k.known.call (Ok a) b l
 unfolding machine outcome_of
-idle_known b l c d x a t e D R T y X A =
+idle_known b l k x a t e T y X A =
+    let c : Call = k.known.call in
+    let D = k.known.told in
     let C : ℕ = capacity_of b in
     let ts : Tuples = tuples_of b in
     let N = sym T ∙ y in
-    let pass = nothing_passes C ts c (length l) (call_passes c R) N in
+    let pass = nothing_passes C ts c (length l) k.passed N in
     let M : machine C ts c (length l) ≡ idle c ts =
     ap (λ (r : Option Refusal). outcome_of r ts c) pass ∙ ap (λ (u : Bool). cond u (idle c ts) (step c ts)) N in
     record {
       answer =
           A
-          ∙ (λ i. answer_of (idle_reply (D i).operator (X i)))
+          ∙ (λ i. answer_of (idle_reply (D i).operator ((X ∙ ap first_argument D) i)))
           ∙ sym (ap (λ (o : Outcome). answer_of o.answer) M);
       list = sym (idle_unwritten (decoded c).operator (first_argument (decoded c)) l) ∙ sym (ap (λ (o : Outcome). list_after o.answer l) M);
       store = e;
@@ -127,12 +130,21 @@ ready_for b c room P = go (operator_of c.operator) refl
 
 -- ---- a call that is looked up
 
-module _ (b l : List ℕ) (c : Call) (d : Decoded) (D : d ≡ decoded c) (p : first (of_call c) ≡ none) (N : selects_nothing c ≡ false) where
+module _ (b l : List ℕ) (k : Admitted) (N : selects_nothing k.known.call ≡ false) where
+  abbrev c : Call
+  c = k.known.call
+
+  abbrev d : Decoded
+  d = k.known.decoded
+
+  D : d ≡ decoded c
+  D = k.known.told
+
   abbrev check : Decoded → Result (Unit {0}) Refusal
   check x = checked (first (of_store (capacity_of b) (tuples_of b) x (length l)))
 
   passes_all : Ok tt ≡ check d → refusal_of (capacity_of b) (tuples_of b) c (length l) ≡ none
-  passes_all R = all_pass (capacity_of b) (tuples_of b) c (length l) p N (R ∙ ap check D)
+  passes_all R = all_pass (capacity_of b) (tuples_of b) c (length l) k.passed N (R ∙ ap check D)
 
   pub ready : Ok tt ≡ check d → Ready d.operator d.fields b (length l)
   ready R =
@@ -140,12 +152,12 @@ module _ (b l : List ℕ) (c : Call) (d : Decoded) (D : d ≡ decoded c) (p : fi
       (record { ready = ready_for b c (length l) (passed _ _ c (length l) N (passes_all R)) })
 
   pub refused_known : (condition : Refusal) → is_store b ≡ true → Err condition ≡ check d → OnStore stored b l c (Err condition) b l
-  refused_known condition e R = refused b l c condition e (store_stops (capacity_of b) (tuples_of b) c (length l) condition p N (R ∙ ap check D))
+  refused_known condition e R = refused b l c condition e (store_stops (capacity_of b) (tuples_of b) c (length l) condition k.passed N (R ∙ ap check D))
 
-  pub performed_known : (b' l' : List ℕ) (x : ℕ) (a : Answer) → is_store b ≡ true → FieldsFit (fields_of c) → Ok tt ≡ check d → x ≡ first_argument (decoded c)
+  pub performed_known : (b' l' : List ℕ) (x : ℕ) (a : Answer) → is_store b ≡ true → Ok tt ≡ check d → x ≡ first_argument d
       → Performed d.operator x d.fields b l a b' l' → OnStore stored b l c (Ok a) b' l'
   unfolding machine outcome_of
-  performed_known b' l' x a e F R X P =
+  performed_known b' l' x a e R X P =
       let C : ℕ = capacity_of b in
       let ts : Tuples = tuples_of b in
       let pass = passes_all R in
@@ -154,11 +166,11 @@ module _ (b l : List ℕ) (c : Call) (d : Decoded) (D : d ≡ decoded c) (p : fi
       ap (λ (r : Option Refusal). outcome_of r ts c) pass ∙ ap (λ (t : Bool). cond t (idle c ts) (step c ts)) N in
       let E : Performed (decoded c).operator (first_argument (decoded c)) (decoded c).fields b l a b' l'
       = subst (λ (y : Decoded). Performed y.operator (first_argument (decoded c)) y.fields b l a b' l') D
-      (subst (λ (n : ℕ). Performed d.operator n d.fields b l a b' l') X P) in
+      (subst (λ (n : ℕ). Performed d.operator n d.fields b l a b' l') (X ∙ ap first_argument D) P) in
       record {
         answer = E.answer ∙ sym (ap (λ o. answer_of o.answer) M);
         list = E.list ∙ sym (ap (λ o. list_after o.answer l) M);
-        store = edited_store b b' _ E.edited (after_rules (operator_of c.operator) C ts c (length l) (store_tuples b e) F Q (agree c Q.operator));
+        store = edited_store b b' _ E.edited (after_rules (operator_of c.operator) C ts c (length l) (store_tuples b e) k.known.fit Q (agree c Q.operator));
         state = E.edited.tuples ∙ sym (ap (λ o. o.state) M);
         size = E.edited.size;
         past = E.edited.past;
@@ -173,6 +185,11 @@ looked_up_selects c t T e = sym T ∙ e
 
 pub decoded_fields : (c : Call) (d : Decoded) → d ≡ decoded c → d.fields ≡ fields_of c
 decoded_fields c d D = ap (λ (x : Decoded). x.fields) D
+
+-- what holds of the admitted call holds of the call
+pub as_called : (b l b' l' : List ℕ) (c : Call) (k : Admitted) (r : Result Answer Refusal) → k.known.call ≡ c
+    → OnStore stored b l k.known.call r b' l' → OnStore stored b l c r b' l'
+as_called b l b' l' c k r e O = subst (λ (x : Call). OnStore stored b l x r b' l') e O
 
 -- ---- any buffer
 

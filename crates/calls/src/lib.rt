@@ -3,17 +3,15 @@
 mod perform;
 
 ghost use Rattle.std.specs.Prelude.{true, false, ◌≡◌, length};
-ghost use Rattle.std.proofs.Math.Option.{none};
-ghost use Rattle.model.specs.Steps.{fields_of, decoded};
-ghost use Rattle.model.specs.Refusals.{selects_nothing, first, of_call};
-ghost use Rattle.model.specs.Machine.{FieldsFit};
+ghost use Rattle.model.specs.Refusals.{selects_nothing};
 ghost use Rattle.model.specs.OneCall.{OnStore, OneCall};
 ghost use Rattle.layouts.specs.Stored.{stored};
 ghost use Rattle.entries.specs.Queries.{written_pairs};
 ghost use Rattle.calls.specs.AtOnce.{listed_at_once, some_count};
 
 use located::Near;
-use model::{Answer, Call, Decoded, Direction, Fields, Listing, Refusal};
+use model::{Answer, Call, Direction, Fields, Listing, Refusal};
+use refusals::Admitted;
 
 // SIN, whose entries each show that its node is there.
 const SIN: u32 = 40;
@@ -44,18 +42,19 @@ fn list_at_once(b: &[u32], number: u32, f: Fields, list: &mut [u32]) -> Option<u
     Some(k)
 }
 
-// A call on a store that no condition on the call alone stops, and whose space is looked up.
+// A call on a store that is admitted, and whose space is looked up.
 #[tactic(auto, unfolding(model::specs::Refusals::first, model::specs::Refusals::of_call, model::specs::Refusals::selects_nothing))]
-fn look_up(store: &mut [u32], call: Call, d: Decoded, list: &mut [u32]) -> Result<Answer, Refusal>
-    requires { (stored.is_store store.old ≡ true) × (d ≡ decoded call) × (first (of_call call) ≡ none) × (selects_nothing call ≡ false) × FieldsFit (fields_of call) }
-    ensures { OnStore stored store.old list.old call result store.new list.new }
+fn look_up(store: &mut [u32], a: Admitted, list: &mut [u32]) -> Result<Answer, Refusal>
+    requires { (stored.is_store store.old ≡ true) × (selects_nothing a.known.call ≡ false) }
+    ensures { OnStore stored store.old list.old a.known.call result store.new list.new }
 {
+    let d = a.known.decoded;
     let above = located::locate_universe(store, d);
     let l = located::locate(store, above, d);
     let near = l.near;
     let universe = located::also_in_universe(near, above, d.fields.s);
-    refusals::check_store(store, d, l, universe, list.len())?;
-    let name = operators::first_argument(call, d.row);
+    refusals::check_store(store, a, l, universe, list.len())?;
+    let name = a.known.first_argument();
     Ok(perform::perform(store, near, universe, d.operator, d.fields, name, list))
 }
 
@@ -65,17 +64,15 @@ pub fn execute_known(store: &mut [u32], call: Call, list: &mut [u32]) -> Result<
     requires { stored.is_store store.old ≡ true }
     ensures { OnStore stored store.old list.old call result store.new list.new }
 {
-    let row = operators::row_of(call.operator);
-    let nothing = operators::selects_nothing(call, row);
-    refusals::check_call(call, row, nothing)?;
-    let d = operators::decode(call, row);
-    if nothing {
-        return Ok(perform::idle(d.operator, operators::first_argument(call, row)));
+    let a = Admitted::of(call)?;
+    let d = a.known.decoded;
+    if a.known.selects_nothing() {
+        return Ok(perform::idle(d.operator, a.known.first_argument()));
     }
-    if let Some(k) = list_at_once(store, call.operator, d.fields, list) {
+    if let Some(k) = list_at_once(store, a.known.call.operator, d.fields, list) {
         return Ok(Answer::List(k));
     }
-    look_up(store, call, d, list)
+    look_up(store, a, list)
 }
 
 // One call on any buffer, with any numbers as operator and names and any answer list.

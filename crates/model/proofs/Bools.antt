@@ -63,15 +63,6 @@ no_not false e = refl
 pub or_first_lem : (a b : Bool) → a ≡ true → true ≡ (a || b)
 or_first_lem a b e = ap (λ (x : Bool). x || b) (sym e)
 
-pub or_second : (a b : Bool) → a ≡ false → b ≡ (a || b)
-or_second a b e = ap (λ (x : Bool). x || b) (sym e)
-
-pub and_first : (a b : Bool) → a ≡ false → false ≡ (a && b)
-and_first a b e = ap (λ (x : Bool). x && b) (sym e)
-
-pub and_second : (a b : Bool) → a ≡ true → b ≡ (a && b)
-and_second a b e = ap (λ (x : Bool). x && b) (sym e)
-
 -- what is chosen by a test
 pub cond_yes : {A : Type 0} (t : Bool) (x y : A) → t ≡ true → x ≡ cond t x y
 cond_yes t x y e = ap (λ (u : Bool). cond u x y) (sym e)

@@ -86,8 +86,6 @@ asks_of o =
 abbrev pub row_of : ℕ → Row
 row_of o =
     record {
-      -- condition 2: "not 1 to 57"
-      known = within 1 57 o;
       reads = reads_of o;
       asks = asks_of o;
       -- "add the edge .. in s and in 0", "add n to s and to 0"

@@ -15,7 +15,7 @@ use Rattle.model.specs.Keys.{space_key, node_key}
 use Rattle.model.specs.Tuples.{Tuples, present, any_present, missing}
 use Rattle.model.specs.declared.Operator.{Operator}
 use Rattle.model.specs.declared.Operator.TheVariants.{Create, Bind, Value as Values, Exists, Destroy, List as Lists}
-use Rattle.model.specs.Operators.{row_of}
+use Rattle.model.specs.Operators.{within, row_of}
 use Rattle.model.specs.Steps.{n_of, g_of, m_of, decoded, object_keys, would_list, would_add}
 
 -- a condition, and whether it applies
@@ -55,7 +55,7 @@ selects_nothing c = (row_of c.operator).reads.s && is_nothing c.s
 
 -- 2, operator: "not 1 to 57"
 unfoldable pub no_operator : Call → Bool
-no_operator c = not (row_of c.operator).known
+no_operator c = not (within 1 57 c.operator)
 
 -- 3, names: "a name that is read is 0"
 unfoldable pub zero_name : Call → Bool

@@ -157,8 +157,6 @@ pub struct Asks {
 // What an operator's number fixes: one row of the table of operators.
 #[derive(Clone, Copy)]
 pub struct Row {
-    // Is it an operator's number.
-    pub known: bool,
     pub reads: Reads,
     pub asks: Asks,
     // Does it add in UNIVERSE too what it adds in its space.

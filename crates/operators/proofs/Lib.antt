@@ -1,4 +1,4 @@
 pub mod Ranges
-pub mod Refused
+pub mod Known
 pub mod Rows
 pub mod Decoding

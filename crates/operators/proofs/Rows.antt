@@ -1,11 +1,6 @@
 -- The rows of the table of operators.
-use mathlib.Core.Bool.{Bool, true, false}
 use mathlib.Core.Path.{◌≡◌, refl, sym, ap, ◌∙◌}
-use Prim.Native.Nat.{ℕ, suc, ◌-◌, ◌≤◌, ◌<◌}
-use native.Mathlib.Omega.{arith}
-use lib.Dec.{eqb}
-use lib.ListN.{get_or-eq_default}
-use borrow.Author.Tests.{eqb-true, eqb-false}
+use Prim.Native.Nat.{ℕ, ◌-◌, ◌≤◌, ◌<◌}
 use Rattle.model.specs.declared.Direction.{Direction}
 use Rattle.model.specs.declared.Listing.{Listing}
 use Rattle.model.specs.declared.Object.{Object}
@@ -90,35 +85,3 @@ pub row_42 : (o : ℕ) (d : Direction) → 42 ≤ o → o < 45 → d ≡ turn (o
 unfolding operator_of table turn
 row_42 o d h l e =
     ap (λ (d : Direction). Lists (Listing.NG d)) e ∙ sym (every operator_of (λ (o : ℕ). Lists (Listing.NG (turn (o - 42)))) 42 3 (refl, (refl, (refl, tt))) o h l)
-
-next : (n o : ℕ) → n ≤ o → (o ≡ n → ⊥) → suc n ≤ o
-next n o h p = omega (arith, h, p)
-
--- 56, and what stands for a number that has no operator
-rest_of_table : (o : ℕ) → 56 ≤ o → (o ≡ 57 → ⊥) → Lists Listing.US ≡ operator_of o
-unfolding operator_of table
-rest_of_table o h p = go (eqb o 56) refl
-  where
-    go : (b : Bool) → eqb o 56 ≡ b → Lists Listing.US ≡ operator_of o
-    go true e = ap operator_of (sym (eqb-true o 56 e))
-    go false e =
-        let k : 58 ≤ o = next 57 o (next 56 o h (eqb-false o 56 e)) p in
-        sym (get_or-eq_default table (Lists Listing.US) {n = o - 1} (omega (arith, k)))
-
-pub no_other : (o : ℕ) → 45 ≤ o
-    → (o ≡ 45 → ⊥)
-    → (o ≡ 46 → ⊥)
-    → (o ≡ 47 → ⊥)
-    → (o ≡ 48 → ⊥)
-    → (o ≡ 49 → ⊥)
-    → (o ≡ 50 → ⊥)
-    → (o ≡ 51 → ⊥)
-    → (o ≡ 52 → ⊥)
-    → (o ≡ 53 → ⊥)
-    → (o ≡ 54 → ⊥)
-    → (o ≡ 55 → ⊥)
-    → (o ≡ 57 → ⊥)
-    → Lists Listing.US ≡ operator_of o
-no_other o h p45 p46 p47 p48 p49 p50 p51 p52 p53 p54 p55 p57 =
-    rest_of_table o
-    (next 55 o (next 54 o (next 53 o (next 52 o (next 51 o (next 50 o (next 49 o (next 48 o (next 47 o (next 46 o (next 45 o h p45) p46) p47) p48) p49) p50) p51) p52) p53) p54) p55) p57

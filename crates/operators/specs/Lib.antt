@@ -1,1 +1,3 @@
 pub mod Directions
+pub mod Known
+pub mod KnownCalls

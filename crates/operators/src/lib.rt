@@ -1,13 +1,14 @@
 #![tactic(auto)]
 // A number's row and its operator, and the refusals that depend on the call alone.
 // An inner layer: what its functions require, their callers have shown; only the entry refuses.
-ghost use Rattle.std.specs.Prelude.{◌≡◌, not, ◌&&◌, ◌||◌, eqb, ◌-◌, ◌<◌, ◌≤◌};
+ghost use Rattle.std.specs.Prelude.{false, cond, Some, None, ◌≡◌, not, ◌&&◌, ◌||◌, eqb, ◌-◌, ◌<◌, ◌≤◌};
 ghost use Rattle.model.specs.Operators.{within, operator_of, reads_of, asks_of, row_of};
 ghost use Rattle.model.specs.Keys.{most_name};
-ghost use Rattle.model.specs.Steps.{space_number, fields_of, decoded, first_argument};
-ghost use Rattle.model.specs.Refusals.{zero_space, is_universe, is_nothing, selects_nothing, zero_name, lacks_space, destroys_universe};
+ghost use Rattle.model.specs.Steps.{space_number, fields_of, decoded as decoded_call, first_argument};
+ghost use Rattle.model.specs.Refusals.{zero_space, is_universe, is_nothing, selects_nothing, no_operator, zero_name, lacks_space, destroys_universe};
 ghost use Rattle.model.specs.Machine.{FieldsFit};
 ghost use Rattle.operators.specs.Directions.{turn};
+ghost use Rattle.operators.specs.Known.{known_operator};
 
 use model::{
     Asks, Call, Decoded, Direction, Fields, Listing, Object, Operator, Reads, Removal, Row, Space,
@@ -46,7 +47,7 @@ pub fn reads_of(o: u32) -> Reads
 fn is_within(low: u32, high: u32, o: u32) -> bool
     ensures { result ≡ within low high o }
 {
-    low <= o && o <= high
+    (low..=high).contains(&o)
 }
 
 // What an operator asks for; `reads` are the fields that it reads.
@@ -78,7 +79,6 @@ pub fn row_of(o: u32) -> Row
     let reads = reads_of(o);
     let asks = asks_of(o, reads);
     Row {
-        known: is_within(1, 57, o),
         reads,
         asks,
         both: is_within(1, 3, o) | (o == 45),
@@ -146,13 +146,13 @@ pub fn pair_listing(o: u32) -> Operator
     }
 }
 
-// From 45 on: the operators of nodes and spaces.
-#[tactic(auto, using(crate::proofs::Rows::no_other), unfolding(model::specs::Operators::operator_of, model::specs::Operators::table))]
-pub fn other_operator(o: u32) -> Operator
+// From 45 on: the operators of nodes and spaces; none above 57.
+#[tactic(auto, unfolding(crate::specs::Known::known_operator, model::specs::Operators::operator_of, model::specs::Operators::table))]
+pub fn other_operator(o: u32) -> Option<Operator>
     requires { 45 ≤ o }
-    ensures { result ≡ operator_of o }
+    ensures { result ≡ known_operator o }
 {
-    match o {
+    let operator = match o {
         45 => Operator::Create(Object::UN),
         46 => Operator::Bind(Object::UN),
         47 => Operator::Value(Object::UN),
@@ -164,20 +164,22 @@ pub fn other_operator(o: u32) -> Operator
         53 => Operator::Value(Object::US),
         54 => Operator::Exists(Object::US),
         55 => Operator::Destroy(Removal::US),
+        56 => Operator::List(Listing::US),
         57 => Operator::List(Listing::USn),
-        _ => Operator::List(Listing::US),
-    }
+        _ => return None,
+    };
+    Some(operator)
 }
 
-// The operator of a number; a call with a number that has none is stopped by condition 2.
-pub fn operator_of(o: u32) -> Operator
-    ensures { result ≡ operator_of o }
+// The operator of a number; none where it is not 1 to 57, which is condition 2.
+pub fn operator_of(o: u32) -> Option<Operator>
+    ensures { result ≡ known_operator o }
 {
     match o {
-        0 => Operator::Create(Object::P(Direction::Outpointing)),
-        1..=11 => pair_operator(o),
-        12..=29 => pair_removal(o),
-        30..=44 => pair_listing(o),
+        0 => None,
+        1..=11 => Some(pair_operator(o)),
+        12..=29 => Some(pair_removal(o)),
+        30..=44 => Some(pair_listing(o)),
         _ => other_operator(o),
     }
 }
@@ -205,44 +207,6 @@ fn is_nothing(s: Space) -> bool
 {
     s == Space::Nothing
 }
-
-// Is the space of the call read, and nothing.
-#[tactic(auto, unfolding(model::specs::Refusals::selects_nothing))]
-pub fn selects_nothing(c: Call, row: Row) -> bool
-    requires { row ≡ row_of c.operator }
-    ensures { result ≡ selects_nothing c }
-{
-    row.reads.s && is_nothing(c.s)
-}
-
-// Condition 3: a name that is read is 0.
-#[tactic(auto, unfolding(model::specs::Refusals::zero_name))]
-pub fn zero_name(c: Call, r: Reads) -> bool
-    requires { r ≡ reads_of c.operator }
-    ensures { result ≡ zero_name c }
-{
-    r.n && c.n.0 == 0 || r.g && c.g.0 == 0 || r.m && c.m.0 == 0 || r.s && zero_space(c.s)
-}
-
-// Condition 12: the operator asks for a selection, and there is none.
-#[tactic(auto, unfolding(model::specs::Refusals::lacks_space))]
-pub fn lacks_space(c: Call, asks: Asks, nothing: bool) -> bool
-    requires { (asks ≡ asks_of c.operator) × (nothing ≡ selects_nothing c) }
-    ensures { result ≡ lacks_space c }
-{
-    nothing && asks.selection
-}
-
-// Condition 4: the operator asks for a numbered space, and the space is UNIVERSE.
-#[tactic(auto, unfolding(model::specs::Refusals::destroys_universe))]
-pub fn destroys_universe(c: Call, asks: Asks) -> bool
-    requires { asks ≡ asks_of c.operator }
-    ensures { result ≡ destroys_universe c }
-{
-    asks.number && is_universe(c.s)
-}
-
-// ---- the fields of a call
 
 // A name as a word.
 fn name_word(x: u16) -> u32
@@ -277,24 +241,77 @@ pub fn fields_of(c: Call) -> Fields
     }
 }
 
-// What the store reads of a call.
-pub fn decode(c: Call, row: Row) -> Decoded
-    requires { row ≡ row_of c.operator }
-    ensures value { result ≡ decoded c }
-    ensures fit { FieldsFit (fields_of c) }
-{
-    Decoded {
-        row,
-        operator: operator_of(c.operator),
-        fields: fields_of(c),
-    }
+// A call whose number is an operator's, and what the store reads of it.
+#[derive(Clone, Copy)]
+pub struct KnownCall {
+    pub call: Call,
+    pub decoded: Decoded,
+    pub ghost known: { no_operator call ≡ false },
+    pub ghost told: { decoded ≡ decoded_call call },
+    pub ghost fit: { FieldsFit (fields_of call) },
 }
 
-// What C, B and D return.
-#[tactic(auto, unfolding(model::specs::Steps::first_argument))]
-pub fn first_argument(c: Call, row: Row) -> u16
-    requires { row ≡ row_of c.operator }
-    ensures { result ≡ first_argument (decoded c) }
-{
-    if row.first { space_name(c.s) } else { c.n.0 }
+impl KnownCall {
+    ghost use Rattle.operators.specs.KnownCalls.{call_known};
+
+    // The call, decoded; none where its number is no operator's: condition 2.
+    pub fn of(call: Call) -> Option<KnownCall>
+        ensures { call_known result ≡ cond (no_operator call) None (Some call) }
+    {
+        let operator = operator_of(call.operator)?;
+        let row = row_of(call.operator);
+        let fields = fields_of(call);
+        let decoded = Decoded {
+            row,
+            operator,
+            fields,
+        };
+        Some(KnownCall { call, decoded })
+    }
+
+    // Is the space of the call read, and nothing.
+    #[tactic(auto, unfolding(model::specs::Refusals::selects_nothing))]
+    pub fn selects_nothing(self) -> bool
+        ensures { result ≡ selects_nothing self.call }
+    {
+        self.decoded.row.reads.s && is_nothing(self.call.s)
+    }
+
+    // Condition 3: a name that is read is 0.
+    #[tactic(auto, unfolding(model::specs::Refusals::zero_name))]
+    pub fn zero_name(self) -> bool
+        ensures { result ≡ zero_name self.call }
+    {
+        let c = self.call;
+        let r = self.decoded.row.reads;
+        r.n && c.n.0 == 0 || r.g && c.g.0 == 0 || r.m && c.m.0 == 0 || r.s && zero_space(c.s)
+    }
+
+    // Condition 12: the operator asks for a selection, and there is none.
+    #[tactic(auto, unfolding(model::specs::Refusals::lacks_space))]
+    pub fn lacks_space(self) -> bool
+        ensures { result ≡ lacks_space self.call }
+    {
+        self.selects_nothing() && self.decoded.row.asks.selection
+    }
+
+    // Condition 4: the operator asks for a numbered space, and the space is UNIVERSE.
+    #[tactic(auto, unfolding(model::specs::Refusals::destroys_universe))]
+    pub fn destroys_universe(self) -> bool
+        ensures { result ≡ destroys_universe self.call }
+    {
+        self.decoded.row.asks.number && is_universe(self.call.s)
+    }
+
+    // What C, B and D return.
+    #[tactic(auto, unfolding(model::specs::Steps::first_argument))]
+    pub fn first_argument(self) -> u16
+        ensures { result ≡ first_argument self.decoded }
+    {
+        if self.decoded.row.first {
+            space_name(self.call.s)
+        } else {
+            self.call.n.0
+        }
+    }
 }

@@ -1,5 +1,5 @@
 -- The first condition that applies, as an error (specs/Checks.antt), and conditions 9 and 10 by what they count.
-use mathlib.Core.Bool.{Bool, true, false, cond, not}
+use mathlib.Core.Bool.{Bool, true, false, cond}
 use mathlib.Core.List.{List, [], ◌∷◌, ◌++◌}
 use mathlib.Core.Option.{Option, none, some}
 use mathlib.Core.Path.{◌≡◌, refl, sym, ap, ap₂, ◌∙◌, subst}
@@ -21,16 +21,13 @@ use Rattle.model.specs.declared.Fields.{Fields}
 use Rattle.model.specs.declared.Pair.{Pair}
 use Rattle.model.specs.declared.Refusal.{Refusal}
 use Rattle.model.specs.declared.Refusal.TheVariants.{Full}
-use Rattle.model.specs.declared.Row.{Row}
-use Rattle.model.specs.Operators.{row_of}
 use Rattle.model.specs.Tuples.{Tuples, present, add, missing}
 use Rattle.layouts.specs.Buffer.{word, capacity_of, tuples_of}
 use Rattle.model.specs.Steps.{decoded, object_keys, created, would_list, would_add}
-use Rattle.model.specs.Refusals.{Stop, stop, first, selects_nothing, no_operator, list_short, full, of_call, of_tuples, if_looked_up, earlier, refusal_of}
+use Rattle.model.specs.Refusals.{Stop, stop, first, selects_nothing, list_short, full, of_call, of_tuples, if_looked_up, earlier, refusal_of}
 use Rattle.model.proofs.Bools.{equal}
 use Rattle.layouts.proofs.Store.{tuples_fit}
 use Rattle.model.proofs.Refusals.{first_none, first_some, not_looked_up}
-use Rattle.model.proofs.Steps.{first_passed}
 use Rattle.chain.specs.Links.{Linked}
 use Rattle.refusals.specs.Checks.{checked, of_store, Unstopped}
 use Rattle.listings.specs.Lists.{NamesAsked}
@@ -77,13 +74,6 @@ one_applied (some other) condition e = cc
 pub call_passes : (c : Call) → Ok tt ≡ checked (first (of_call c)) → first (of_call c) ≡ none
 call_passes c e = none_applied (first (of_call c)) e
 
--- what is read of a call that passes
-pub unstopped : (c : Call) (d : Decoded) → d ≡ decoded c → first (of_call c) ≡ none → Unstopped d
-unfolding of_call
-unstopped c d e p =
-    let known = first_passed _ _ p in
-    record { call = c; same = e; known = known.0; named = (first_passed _ _ known.1).0 }
-
 -- a condition on the call stops it
 pub call_stops : (C : ℕ) (ts : Tuples) (c : Call) (room : ℕ) (condition : Refusal) → Err condition ≡ checked (first (of_call c)) → refusal_of C ts c room ≡ some condition
 unfolding refusal_of earlier of_call
@@ -110,13 +100,6 @@ all_pass C ts c room p e R = store_decides C ts c room p e ∙ none_applied (fir
 pub store_stops : (C : ℕ) (ts : Tuples) (c : Call) (room : ℕ) (condition : Refusal) → first (of_call c) ≡ none → selects_nothing c ≡ false
     → Err condition ≡ checked (first (of_store C ts (decoded c) room)) → refusal_of C ts c room ≡ some condition
 store_stops C ts c room condition p e R = store_decides C ts c room p e ∙ one_applied (first (of_store C ts (decoded c) room)) condition R
-
--- ---- the row of a call
-
-module _ (c : Call) (row : Row) (R : row ≡ row_of c.operator) where
-  pub row_known : not row.known ≡ no_operator c
-  unfolding no_operator
-  row_known = ap (λ (r : Row). not r.known) R
 
 -- ---- 9
 

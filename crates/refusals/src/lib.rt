@@ -2,18 +2,49 @@
 // Which condition stops a call: 2, 3, 12 and 4 by the call alone, 5 to 10 by what the store holds.
 // An inner layer: what its functions require, their callers have shown; only the entry refuses.
 ghost use Rattle.std.specs.Prelude.{true, false, not, ◌≡◌, ◌-◌, ltb, length};
-ghost use Rattle.model.specs.Operators.{row_of};
+ghost use Rattle.std.proofs.Math.Option.{none};
 ghost use Rattle.model.specs.Tuples.{present, any_present, missing};
 ghost use Rattle.model.specs.Steps.{listed, would_add};
-ghost use Rattle.model.specs.Refusals.{first, selects_nothing, space_absent, node_absent, second_absent, worked_on, edge_absent, list_short, full, of_call};
+ghost use Rattle.model.specs.Refusals.{first, space_absent, node_absent, second_absent, worked_on, edge_absent, list_short, full, of_call};
 ghost use Rattle.layouts.specs.Buffer.{capacity_of, tuples_of, is_store};
 ghost use Rattle.chain.specs.Links.{Linked, Hint};
 ghost use Rattle.listings.specs.Lists.{NamesAsked};
 ghost use Rattle.located.specs.Located.{NearIn, Told};
-ghost use Rattle.refusals.specs.Checks.{checked, of_store, of_step, Unstopped};
+ghost use Rattle.refusals.specs.Checks.{checked, of_store, of_step};
 
 use located::{Located, Near};
-use model::{Call, Decoded, Fields, Key, Listing, Operator, Refusal, Row};
+use model::{Call, Decoded, Fields, Key, Listing, Operator, Refusal};
+use operators::KnownCall;
+
+// A call that no condition on the call alone stops.
+#[derive(Clone, Copy)]
+pub struct Admitted {
+    pub known: KnownCall,
+    pub ghost passed: { first (of_call known.call) ≡ none },
+}
+
+impl Admitted {
+    ghost use Rattle.refusals.specs.Admissions.{call_admitted, admitted};
+
+    // Conditions 2, 3, 12 and 4, whatever the store holds: the first that stops the call is the error.
+    pub fn of(call: Call) -> Result<Admitted, Refusal>
+        ensures { call_admitted result ≡ admitted call (first (of_call call)) }
+    {
+        let Some(known) = KnownCall::of(call) else {
+            return Err(Refusal::NoOperator);
+        };
+        if known.zero_name() {
+            return Err(Refusal::ZeroName);
+        }
+        if known.lacks_space() {
+            return Err(Refusal::NoSelection);
+        }
+        if known.destroys_universe() {
+            return Err(Refusal::UniverseDestroyed);
+        }
+        Ok(Admitted { known })
+    }
+}
 
 // Is there no tuple with this key.
 fn key_absent(b: &[u32], hint: usize, k: Key) -> bool
@@ -25,19 +56,20 @@ fn key_absent(b: &[u32], hint: usize, k: Key) -> bool
 
 // Condition 5: s is absent.
 #[tactic(auto, unfolding(model::specs::Refusals::space_absent))]
-fn space_absent(b: &[u32], d: Decoded, l: Located) -> bool
-    requires { Told b.now d l × Unstopped d }
-    ensures { result ≡ space_absent d (tuples_of b.now) }
+fn space_absent(b: &[u32], a: Admitted, l: Located) -> bool
+    requires { Told b.now a.known.decoded l }
+    ensures { result ≡ space_absent a.known.decoded (tuples_of b.now) }
 {
-    d.row.asks.space && !l.space
+    a.known.decoded.row.asks.space && !l.space
 }
 
 // Condition 6: n is absent from s, or, for 57, from 0. Asked where condition 5 does not apply.
 #[tactic(auto, unfolding(model::specs::Refusals::node_absent))]
-fn node_absent(b: &[u32], d: Decoded, l: Located) -> bool
-    requires { Linked b.now × Told b.now d l × Unstopped d × (space_absent d (tuples_of b.now) ≡ false) }
-    ensures { result ≡ node_absent d (tuples_of b.now) }
+fn node_absent(b: &[u32], a: Admitted, l: Located) -> bool
+    requires { Linked b.now × Told b.now a.known.decoded l × (space_absent a.known.decoded (tuples_of b.now) ≡ false) }
+    ensures { result ≡ node_absent a.known.decoded (tuples_of b.now) }
 {
+    let d = a.known.decoded;
     if d.row.asks.universe {
         return key_absent(b, 0, words::node_key(0, d.fields.n));
     }
@@ -48,12 +80,12 @@ fn node_absent(b: &[u32], d: Decoded, l: Located) -> bool
 }
 
 // Condition 7: m, where it is read, is absent from s. Asked where condition 5 does not apply.
-#[tactic(auto, using(crate::proofs::Absent::second_read), unfolding(model::specs::Refusals::second_absent))]
-fn second_absent(b: &[u32], d: Decoded, l: Located) -> bool
-    requires { Told b.now d l × Unstopped d × (space_absent d (tuples_of b.now) ≡ false) }
-    ensures { result ≡ second_absent d (tuples_of b.now) }
+#[tactic(auto, using(crate::proofs::Absent::second_read, crate::proofs::Admissions::unstopped), unfolding(model::specs::Refusals::second_absent))]
+fn second_absent(b: &[u32], a: Admitted, l: Located) -> bool
+    requires { Told b.now a.known.decoded l × (space_absent a.known.decoded (tuples_of b.now) ≡ false) }
+    ensures { result ≡ second_absent a.known.decoded (tuples_of b.now) }
 {
-    d.row.reads.m && !l.second
+    a.known.decoded.row.reads.m && !l.second
 }
 
 // Is nothing present of what C, B, V and X work on.
@@ -92,10 +124,11 @@ fn list_short(b: &[u32], near: Near, l: Listing, f: Fields, room: usize) -> bool
 
 // Condition 9: the answer list is shorter than what the call would list; that is nothing but for S.
 #[tactic(auto, unfolding(model::specs::Refusals::list_short, model::specs::Steps::would_list))]
-fn is_short(b: &[u32], near: Near, d: Decoded, room: usize) -> bool
-    requires { (is_store b.now ≡ true) × NearIn b.now near × Unstopped d }
-    ensures { result ≡ list_short d (tuples_of b.now) room }
+fn is_short(b: &[u32], near: Near, a: Admitted, room: usize) -> bool
+    requires { (is_store b.now ≡ true) × NearIn b.now near }
+    ensures { result ≡ list_short a.known.decoded (tuples_of b.now) room }
 {
+    let d = a.known.decoded;
     match d.operator {
         Operator::List(l) => list_short(b, near, l, d.fields, room),
         _ => false,
@@ -137,40 +170,25 @@ fn is_full(b: &[u32], near: Near, universe: Near, d: Decoded) -> bool
     free < count_added(b, near, universe, d)
 }
 
-// Conditions 2, 3, 12 and 4, whatever the store holds: the first that stops the call is the error.
-// `nothing` says that the space of the call is read and nothing.
-pub fn check_call(c: Call, row: Row, nothing: bool) -> Result<(), Refusal>
-    requires { (row ≡ row_of c.operator) × (nothing ≡ selects_nothing c) }
-    ensures { result ≡ checked (first (of_call c)) }
-{
-    if !row.known {
-        return Err(Refusal::NoOperator);
-    }
-    if operators::zero_name(c, row.reads) {
-        return Err(Refusal::ZeroName);
-    }
-    if operators::lacks_space(c, row.asks, nothing) {
-        return Err(Refusal::NoSelection);
-    }
-    if operators::destroys_universe(c, row.asks) {
-        return Err(Refusal::UniverseDestroyed);
-    }
-    Ok(())
-}
-
 // Conditions 8 to 10 on a store: the first that stops the call is the error.
 #[tactic(auto, unfolding(layouts::specs::Buffer::capacity_of, crate::specs::Checks::checked, model::specs::Refusals::first, layouts::specs::Buffer::is_store))]
-fn check_step(b: &[u32], d: Decoded, near: Near, universe: Near, room: usize) -> Result<(), Refusal>
-    requires { (is_store b.now ≡ true) × NearIn b.now near × NearIn b.now universe × Unstopped d }
-    ensures { result ≡ checked (first (of_step (capacity_of b.now) (tuples_of b.now) d room)) }
+fn check_step(
+    b: &[u32],
+    a: Admitted,
+    near: Near,
+    universe: Near,
+    room: usize,
+) -> Result<(), Refusal>
+    requires { (is_store b.now ≡ true) × NearIn b.now near × NearIn b.now universe }
+    ensures { result ≡ checked (first (of_step (capacity_of b.now) (tuples_of b.now) a.known.decoded room)) }
 {
-    if edge_absent(b, d, near) {
+    if edge_absent(b, a.known.decoded, near) {
         return Err(Refusal::EdgeAbsent);
     }
-    if is_short(b, near, d, room) {
+    if is_short(b, near, a, room) {
         return Err(Refusal::ListTooShort);
     }
-    if is_full(b, near, universe, d) {
+    if is_full(b, near, universe, a.known.decoded) {
         return Err(Refusal::Full);
     }
     Ok(())
@@ -181,22 +199,22 @@ fn check_step(b: &[u32], d: Decoded, near: Near, universe: Near, room: usize) ->
 #[tactic(auto, unfolding(layouts::specs::Buffer::capacity_of, crate::specs::Checks::checked, model::specs::Refusals::first, layouts::specs::Buffer::is_store))]
 pub fn check_store(
     b: &[u32],
-    d: Decoded,
+    a: Admitted,
     l: Located,
     universe: Near,
     room: usize,
 ) -> Result<(), Refusal>
-    requires { (is_store b.now ≡ true) × Told b.now d l × NearIn b.now universe × Unstopped d }
-    ensures { result ≡ checked (first (of_store (capacity_of b.now) (tuples_of b.now) d room)) }
+    requires { (is_store b.now ≡ true) × Told b.now a.known.decoded l × NearIn b.now universe }
+    ensures { result ≡ checked (first (of_store (capacity_of b.now) (tuples_of b.now) a.known.decoded room)) }
 {
-    if space_absent(b, d, l) {
+    if space_absent(b, a, l) {
         return Err(Refusal::SpaceAbsent);
     }
-    if node_absent(b, d, l) {
+    if node_absent(b, a, l) {
         return Err(Refusal::NodeAbsent);
     }
-    if second_absent(b, d, l) {
+    if second_absent(b, a, l) {
         return Err(Refusal::SecondAbsent);
     }
-    check_step(b, d, l.near, universe, room)
+    check_step(b, a, l.near, universe, room)
 }

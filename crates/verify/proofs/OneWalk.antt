@@ -250,7 +250,7 @@ module _ (b : List ℕ) (w : Walkable b) where
 
   pub using_start : (r : Bool) → r ≡ starts_right b → r ≡ true → (h : ℕ) → h ≡ word b 1
       → (C n : ℕ) → C ≡ capacity_of b → n ≡ next b h → (ms : List ℕ) → MarksHold b ms → (kept : KeptRecords) → KeptHold b kept
-      → kept.count ≡ 0 → (v : Walk) → v ≡ record { at = word b 2; left = C; last = 0 } → Using b ms kept true (C - 1) h n v
+      → kept.count ≡ 0 → (v : Walk) → v ≡ record { at = word b 2; left = capacity_of b; last = 0 } → Using b ms kept true (C - 1) h n v
   unfolding walked_from
   using_start r s y h e C n d f ms M kept L none v x =
       let high : word b 1 ≤ capacity_of b = w.used_head in

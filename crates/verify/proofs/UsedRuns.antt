@@ -32,13 +32,12 @@ module _ (b marks : List ℕ) (kept : KeptRecords) (t : Bool) (T : t ≡ starts_
   run_unstarted e u s = ap (λ (x : Option Used). left_of x marks kept) s ∙ sym (ap begun (sym T ∙ e))
 
   pub run_started : t ≡ true → (C at last : ℕ) (free : Walk) → C ≡ capacity_of b → last ≡ word b 1 → at ≡ next b last
-      → free ≡ record { at = word b 2; left = C; last = 0 }
+      → free ≡ record { at = word b 2; left = capacity_of b; last = 0 }
       → used_run b (C - 1) at last true free marks kept ≡ used_run_of b marks kept
   unfolding used_run_of begun
   run_started e C at last free c l a w =
       let first : at ≡ next b (word b 1) = a ∙ ap (next b) l in
-      let beside : free ≡ record { at = word b 2; left = capacity_of b; last = 0 } = w ∙ ap (λ (n : ℕ). record { at = word b 2; left = n; last = 0 }) c in
-      (λ i. used_run b (c i - 1) (first i) (l i) true (beside i) marks kept) ∙ sym (ap begun (sym T ∙ e))
+      (λ i. used_run b (c i - 1) (first i) (l i) true (w i) marks kept) ∙ sym (ap begun (sym T ∙ e))
 
 module _ (b : List ℕ) (left at last : ℕ) (sure : Bool) (free : Walk) (marks : List ℕ) (kept : KeptRecords) where
   pub run_end : at ≡ 0 → (C : ℕ) → C ≡ capacity_of b → (u : Option Used)

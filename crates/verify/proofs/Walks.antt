@@ -175,14 +175,14 @@ module _ (b : List ℕ) (w : Walk) where
                 (ltb-false (capacity_of b) w.at g) refl ∙ F.same;
           }
 
-pub free_first : (b : List ℕ) (w : Walk) (C : ℕ) → C ≡ capacity_of b → w ≡ record { at = word b 2; left = C; last = 0 } → FreeWalk b w (C - 1)
+pub free_first : (b : List ℕ) (w : Walk) (C : ℕ) → C ≡ capacity_of b → w ≡ record { at = word b 2; left = capacity_of b; last = 0 } → FreeWalk b w (C - 1)
 unfolding walked_from
 free_first b w C e f =
     subst (λ (x : Walk). FreeWalk b x (C - 1)) (sym f)
     (record {
       few = omega arith;
       enough = omega arith;
-      same = ap (λ (k : ℕ). walked_on b (record { at = word b 2; left = k; last = 0 })) e;
+      same = refl;
     })
 
 -- ---- a walk that ends

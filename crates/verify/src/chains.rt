@@ -41,11 +41,11 @@ pub fn heads_fit(b: &[u32]) -> bool
 
 // One record on; a walk that has ended stays, and so does one that leaves the records.
 #[tactic(auto, unfolding(layouts::specs::Buffer::capacity_of, crate::specs::Checks::stepped))]
-pub fn step(b: &[u32], c: usize, w: Walk) -> Walk
-    requires { Walkable b.now × (c ≡ capacity_of b.now) × (w.left ≢ 0) }
+pub fn step(b: &[u32], w: Walk) -> Walk
+    requires { Walkable b.now × (w.left ≢ 0) }
     ensures { result ≡ stepped b.now w }
 {
-    if w.at == 0 || w.at > c {
+    if w.at == 0 || w.at > capacity(b) {
         return w;
     }
     Walk {
@@ -57,15 +57,15 @@ pub fn step(b: &[u32], c: usize, w: Walk) -> Walk
 
 // Is the next of a record the one after it in the buffer.
 #[tactic(auto, unfolding(layouts::specs::Buffer::capacity_of, crate::specs::Checks::in_run))]
-fn in_run(b: &[u32], c: usize, at: usize) -> bool
-    requires { Walkable b.now × (c ≡ capacity_of b.now) }
+fn in_run(b: &[u32], at: usize) -> bool
+    requires { Walkable b.now }
     ensures { result ≡ in_run b.now at }
 {
     // By hand: as one expression it takes the walk of a free chain twice the time.
     if at == 0 {
         return false;
     }
-    if at > c {
+    if at > capacity(b) {
         return false;
     }
     let after = at + 1;
@@ -74,14 +74,14 @@ fn in_run(b: &[u32], c: usize, at: usize) -> bool
 
 // Walks on as far as each next is the record after, as in a fresh store: there no read waits for the one before it.
 #[tactic(auto, unfolding(crate::specs::Checks::along_run, layouts::specs::Buffer::capacity_of))]
-fn along_run(b: &[u32], c: usize, w: Walk) -> Walk
-    requires { Walkable b.now × (c ≡ capacity_of b.now) }
+fn along_run(b: &[u32], w: Walk) -> Walk
+    requires { Walkable b.now }
     ensures { result ≡ along_run b.now w.left w.at w.last }
 {
     let mut at = w.at;
     let mut last = w.last;
     for passed in 0..w.left {
-        if !in_run(b, c, at) {
+        if !in_run(b, at) {
             return Walk {
                 at,
                 left: w.left - passed,
@@ -114,7 +114,6 @@ fn finish(b: &[u32], w: Walk) -> Option<Walked>
         }
         let on = along_run(
             b,
-            c,
             Walk {
                 at: chain::next_of(b, at),
                 left: left - 1,

@@ -1,7 +1,7 @@
 // The keys of the used chain: do they ascend, and is each one that a store may hold.
 // An inner layer: what its functions require, their callers have shown; only the entry refuses.
 ghost use Rattle.std.specs.Prelude.{◌≡◌, option_map, IfSome};
-ghost use Rattle.layouts.specs.Buffer.{word};
+ghost use Rattle.layouts.specs.Buffer.{word, capacity_of};
 ghost use Rattle.model.specs.Rules.{small_key};
 ghost use Rattle.presence.specs.Presence.{Walkable, shaped_key, good_key, MarksHold, KeptHold};
 ghost use Rattle.verify.specs.Checks.{may_meet, key_follows, starts_right, used_walk, used_run_of, UsedFound};
@@ -67,13 +67,13 @@ fn starts_right(b: &[u32]) -> bool
 }
 
 // The walk of the free chain, at its head.
-fn free_start(b: &[u32], c: usize) -> Walk
+fn free_start(b: &[u32]) -> Walk
     requires { Walkable b.now }
-    ensures { result ≡ record { at = word b.now 2; left = c; last = 0 } }
+    ensures { result ≡ record { at = word b.now 2; left = capacity_of b.now; last = 0 } }
 {
     Walk {
         at: words::head_word(b, 2),
-        left: c,
+        left: capacity(b),
         last: 0,
     }
 }
@@ -98,7 +98,7 @@ pub fn walk_used(b: &[u32], marks: &mut Marks, kept: &mut KeptRecords) -> Option
         return None;
     }
     let c = capacity(b);
-    let mut free = free_start(b, c);
+    let mut free = free_start(b);
     let mut sure = true;
     let mut left = c - 1;
     let mut last = words::head_word(b, 1);
@@ -115,7 +115,7 @@ pub fn walk_used(b: &[u32], marks: &mut Marks, kept: &mut KeptRecords) -> Option
             return None;
         }
         sure = take(b, marks, kept, sure, key, k, at);
-        free = step(b, c, free);
+        free = step(b, free);
         last = at;
         at = after;
         left -= 1;

@@ -1,23 +1,23 @@
 use Rattle.std.proofs.lemmas.Result.{err_from_is_err_and}
 use Rattle.calls.proofs.AtOnce.{at_once_known, none_listed, as_it_was}
-use Rattle.refusals.proofs.Stops.{call_passes}
-use Rattle.calls.proofs.Known.{call_refused, idle_known, looked_up_selects, decoded_fields}
+use Rattle.refusals.proofs.Admissions.{refused_by, admitted_is}
+use Rattle.calls.proofs.Known.{call_refused, idle_known, looked_up_selects, decoded_fields, as_called}
 use Rattle.calls.proofs.execute_known.Goals as goal
 
-pub returns-in_err-check_call : goal.returns-in_err-check_call
-returns-in_err-check_call c =
+pub returns-in_err-a : goal.returns-in_err-a
+returns-in_err-a c =
     let p = err_from_is_err_and c.from_residual.result c.from_residual.ensures.1 in
-    rw (p.1, p.2) (call_refused _ _ _ _ c.requires c.in_err-check_call.ensures)
+    rw (p.1, p.2) (call_refused _ _ _ _ c.requires (refused_by _ _ _ c.of.ensures c.in_err-a.was))
 
-pub returns-then-nothing : goal.returns-then-nothing
-returns-then-nothing c = search (idle_known, c.in_ok-check_call.ensures)
+pub returns-then-selects_nothing : goal.returns-then-selects_nothing
+returns-then-selects_nothing c = as_called _ _ _ _ _ c.in_ok-a.a _ (admitted_is _ _ _ c.of.ensures c.in_ok-a.was) (search idle_known)
 
 pub returns-in-Some : goal.returns-in-Some
-returns-in-Some c = search (at_once_known, call_passes, decoded_fields, c.in_ok-check_call.ensures)
+returns-in-Some c =
+    as_called _ _ _ _ _ c.in_ok-a.a _ (admitted_is _ _ _ c.of.ensures c.in_ok-a.was) (search (at_once_known, decoded_fields))
 
 pub look_up-requires : goal.look_up-requires
-look_up-requires c =
-    (c.requires, c.decode-d.ensures.value, call_passes _ c.in_ok-check_call.ensures, search looked_up_selects, c.decode-d.ensures.fit)
+look_up-requires c = (search, search looked_up_selects)
 
 pub returns : goal.returns
-returns c = search (as_it_was, none_listed)
+returns c = as_called _ _ _ _ _ c.in_ok-a.a _ (admitted_is _ _ _ c.of.ensures c.in_ok-a.was) (search (as_it_was, none_listed))

@@ -7,7 +7,7 @@ use Rattle.verify.proofs.chains.along_run.Goals as goal
 pub overflow_add-at : goal.overflow_add-at
 unfolding capacity_of
 overflow_add-at c =
-    omega (arith, run_low c.args.b.now c.loop-passed.at (sym c.in_run.ensures ∙ c.if-not-in_run.false), c.requires.0.most)
+    omega (arith, run_low c.args.b.now c.loop-passed.at (sym c.in_run.ensures ∙ c.if-not-in_run.false), c.requires.most)
 
 pub loop-passed-preserved : goal.loop-passed-preserved
 loop-passed-preserved c =

@@ -91,7 +91,7 @@ take-sure-requires c =
 pub step-free-requires : goal.step-free-requires
 step-free-requires c =
     let I = c.loop-at.invariant in
-    (c.requires.0, I.0, using_enough _ c.requires.0 _ _ _ _ _ _ _ I.1 c.loop-at-test.true _ I.0 _ c.may_meet.ensures c.if-not-may_meet.false)
+    (c.requires.0, using_enough _ c.requires.0 _ _ _ _ _ _ _ I.1 c.loop-at-test.true _ I.0 _ c.may_meet.ensures c.if-not-may_meet.false)
 
 pub overflow_sub-left-in-loop-at : goal.overflow_sub-left-in-loop-at
 overflow_sub-left-in-loop-at c =
