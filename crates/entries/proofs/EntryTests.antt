@@ -18,9 +18,8 @@ use Rattle.entries.specs.declared.Part.{Part}
 use Rattle.entries.specs.declared.Part.TheVariants.{Both, Edge, Node}
 use Rattle.entries.specs.declared.PairQuery.{PairQuery}
 use Rattle.entries.specs.declared.Query.TheVariants.{Pairs}
-use Rattle.entries.specs.declared.NamesQuery.{NamesQuery}
 use Rattle.entries.specs.Cursors.{MaybeEntry, list_of}
-use Rattle.entries.specs.Queries.{part_of, chosen, end_pair, first_pairs, first_at, name_at, ends_at}
+use Rattle.entries.specs.Queries.{part_of, chosen, end_pair, first_pairs, first_at, ends_at}
 
 -- ---- a pair that is asked for or not
 
@@ -98,14 +97,6 @@ module _ (q : PairQuery) (k : Key) where
     pub first_in : q.d ≡ Inpointing → list_of r ≡ chosen q (end_pair q.n k.g k.m k.n) → list_of r ≡ first_at (Pairs q) k
     unfolding first_pairs in_pair end_pair
     first_in d er = by_direction Inpointing d er
-
--- ---- nodes and spaces
-
--- ---- the cases of a query
-
-module _ (w : NamesQuery) (k : Key) (r : MaybeEntry) where
-  pub name_case : (x : NamesQuery) → w ≡ x → list_of r ≡ name_at x k → list_of r ≡ name_at w k
-  name_case x e er = er ∙ ap (λ (y : NamesQuery). name_at y k) (sym e)
 
 -- ---- an edge that the node is no end of gives no pair
 

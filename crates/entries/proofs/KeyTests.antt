@@ -14,8 +14,6 @@ use Rattle.entries.specs.declared.NamesQuery.{NamesQuery}
 use Rattle.entries.specs.declared.NamesQuery.TheVariants.{Nodes, Spaces, SpacesOf}
 use Rattle.entries.specs.Queries.{names_outside, pairs_outside, outside}
 
--- ---- the ends of an edge
-
 -- ---- where the entries of a query can be
 
 module _ (q : PairQuery) (k : Key) where

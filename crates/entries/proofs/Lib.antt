@@ -4,7 +4,6 @@ pub mod SmallEntries
 pub mod Counted
 pub mod KeyOrder
 pub mod Bounds
-pub mod Most
 pub mod EntryTests
 pub mod EntryOrder
 pub mod Behind
@@ -12,7 +11,6 @@ pub mod Streams
 pub mod EdgeParts
 pub mod WalkLaws
 pub mod StreamLaws
-pub mod CursorTests
 pub mod CursorLaws
 pub mod Listed
 pub mod InOrder

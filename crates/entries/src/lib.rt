@@ -7,7 +7,7 @@ mod walks;
 
 ghost use Rattle.std.specs.Prelude.{[], ◌∷◌, true, ◌≡◌, length, ◌≤◌, leb};
 ghost use Rattle.model.specs.Keys.{is_node};
-ghost use Rattle.model.specs.Pairs.{pair};
+ghost use Rattle.model.specs.Pairs.{pair, only_if};
 ghost use Rattle.layouts.specs.Buffer.{tuples_of};
 ghost use Rattle.chain.specs.Links.{Linked, Hint};
 ghost use Rattle.entries.specs.Cursors.{list_of};
@@ -183,43 +183,12 @@ impl Source for PairQuery {
     }
 }
 
-// The entry of a node of space s.
-#[tactic(auto, unfolding(crate::specs::Cursors::list_of, crate::specs::Queries::name_at))]
-fn node_entry(s: u32, k: Key) -> Option<Entry>
-    ensures { list_of result ≡ name_at (NamesQuery.Nodes s) k }
+// The entry of a name, where it is shown.
+#[tactic(auto, unfolding(crate::specs::Cursors::list_of))]
+fn named(shown: bool, node: u32) -> Option<Entry>
+    ensures { list_of result ≡ only_if shown (pair 0 node) }
 {
-    if !is_node(k) {
-        return None;
-    }
-    if k.s != s {
-        return None;
-    }
-    Some(Entry { edge: 0, node: k.n })
-}
-
-// The entry of a space.
-#[tactic(auto, unfolding(crate::specs::Cursors::list_of, crate::specs::Queries::name_at))]
-fn space_entry(k: Key) -> Option<Entry>
-    ensures { list_of result ≡ name_at NamesQuery.Spaces k }
-{
-    if k.n != 0 {
-        return None;
-    }
-    Some(Entry { edge: 0, node: k.s })
-}
-
-// The entry of a space that holds node n.
-#[tactic(auto, unfolding(crate::specs::Cursors::list_of, crate::specs::Queries::name_at))]
-fn holder_entry(n: u32, k: Key) -> Option<Entry>
-    ensures { list_of result ≡ name_at (NamesQuery.SpacesOf n) k }
-{
-    if !is_node(k) {
-        return None;
-    }
-    if k.n != n {
-        return None;
-    }
-    Some(Entry { edge: 0, node: k.s })
+    shown.then_some(Entry { edge: 0, node })
 }
 
 impl Source for NamesQuery {
@@ -234,11 +203,12 @@ impl Source for NamesQuery {
         k.s != s
     }
 
+    #[tactic(auto, unfolding(crate::specs::Queries::first_at, crate::specs::Queries::name_at))]
     fn entry(self, k: Key) -> Option<Entry> {
         match self {
-            NamesQuery::Nodes(s) => node_entry(s, k),
-            NamesQuery::Spaces => space_entry(k),
-            NamesQuery::SpacesOf(n) => holder_entry(n, k),
+            NamesQuery::Nodes(s) => named(is_node(k) && k.s == s, k.n),
+            NamesQuery::Spaces => named(k.n == 0, k.s),
+            NamesQuery::SpacesOf(n) => named(is_node(k) && k.n == n, k.s),
         }
     }
 }

@@ -1,2 +1,0 @@
--- How many tuples there are, by word 3.
-use mathlib.Core.Path.{◌≡◌, ◌∙◌}
