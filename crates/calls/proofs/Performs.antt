@@ -22,7 +22,6 @@ use Rattle.edit.proofs.Built.{unedited, store_linked}
 use Rattle.model.proofs.Tuples.{length_add_all}
 use Rattle.model.proofs.Steps.{length_destroyed}
 use Rattle.entries.specs.Queries.{written_pairs}
-use Rattle.listings.specs.Lists.{NamesAsked}
 use Rattle.steps.specs.Objects.{Room, Bound}
 use Rattle.removals.specs.Collected.{NamesRead}
 use Rattle.calls.specs.Perform.{ReadyFor, Ready, Performed}
@@ -39,11 +38,8 @@ module _ (op : Operator) (f : Fields) (b : List ℕ) (room : ℕ) (h : Ready op 
   pub ready_destroy : (r : Removal) → op ≡ Destroy r → NamesRead r f
   ready_destroy r e = ready_of e
 
-  pub ready_names : (l : Listing) → op ≡ Lists l → NamesAsked l f
-  ready_names l e = (ready_of e).0
-
   pub ready_room : (l : Listing) → op ≡ Lists l → length (listed l f (tuples_of b)) ≤ room
-  ready_room l e = (ready_of e).1
+  ready_room l e = ready_of e
 
 -- ---- an operator's step
 

@@ -1,5 +1,6 @@
 #![tactic(auto)]
 // The entry: one call of the operators 1 to 57 on a buffer.
+// By hand: that the words are a store stands in no struct; chain says why.
 mod perform;
 
 ghost use Rattle.std.specs.Prelude.{true, false, ◌≡◌, length};

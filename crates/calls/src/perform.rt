@@ -12,7 +12,7 @@ use located::Near;
 use model::{Answer, Fields, Operator};
 
 // What an operator answers with nothing as its space, where `name` is the call's first argument: no store is read or written.
-// Condition 12 stops V before.
+// Condition 12 stops V before. By hand: its value here is that of the definition, and no Option, which would be a case that no call reaches.
 #[tactic(auto, unfolding(model::specs::OneCall::answer_of, model::specs::Steps::idle_reply))]
 pub fn idle(op: Operator, name: u16) -> Answer
     ensures { Ok result ≡ answer_of (idle_reply op name) }

@@ -485,12 +485,3 @@ module _ (b b' : List ℕ) (before gone : ℕ) (pre post free : List ℕ)
         once = λ i h m. left_once i h (omega (arith, kept_size));
         counted = omega (arith, N.used, R.counted, length-append pre (before ∷ post), length-append pre (before ∷ gone ∷ post));
       }
-
-  -- the tuples are those of before, without that of the record that is gone
-  pub removed_tuples : map (tuple_at b') (pre ++ before ∷ post) ≡ map (tuple_at b) pre ++ tuple_at b before ∷ map (tuple_at b) post
-  removed_tuples =
-      let P = J in
-      map-append (tuple_at b') pre (before ∷ post)
-      ∙ ap₂ ◌++◌ (map_agree (tuple_at b') (tuple_at b) pre (on_pre (capacity_of b) before gone pre post free P (tuple_at b') (tuple_at b) kept_tuples))
-      (ap₂ ◌∷◌ (N.tuple before P.low)
-      (map_agree (tuple_at b') (tuple_at b) post (on_post (capacity_of b) before gone pre post free P (tuple_at b') (tuple_at b) kept_tuples)))

@@ -2,6 +2,7 @@
 // Tuples counted, added, set and removed.
 // A hint is a used record, or 0: the walk for a key starts behind it where its key is below.
 // An inner layer: what its functions require, their callers have shown; only the entry refuses.
+// By hand: facts about the lent words stand in no struct; chain says why.
 ghost use Rattle.std.specs.Prelude.{◌≡◌, false, length};
 ghost use Rattle.model.specs.Keys.{space_key};
 ghost use Rattle.model.specs.Tuples.{present, add, remove};

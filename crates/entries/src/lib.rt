@@ -1,6 +1,7 @@
 #![tactic(auto)]
 // The entries that an S operator lists, counted and written.
 // An inner layer: what its functions require, their callers have shown; only the entry refuses.
+// By hand: facts about the lent words stand in no struct; chain says why.
 mod cursors;
 pub mod lists;
 mod walks;
@@ -24,15 +25,14 @@ pub enum Part {
     Node,
 }
 
-// The pairs of node n in space s, with edge g and node m (0: any).
-// By hand: 0 is no name, so that it needs no Option to mean any; the words of keys have it in the same way.
+// The pairs of node n in space s, with edge g and node m, where they are asked for.
 #[derive(Clone, Copy)]
 pub struct PairQuery {
     pub d: Direction,
     pub s: u32,
     pub n: u32,
-    pub g: u32,
-    pub m: u32,
+    pub g: Option<u32>,
+    pub m: Option<u32>,
     pub part: Part,
 }
 

@@ -1,6 +1,7 @@
 #![tactic(auto)]
 // What a call names, located once: where it is to be sought, and what of it is there.
 // An inner layer: what its functions require, their callers have shown; only the entry refuses.
+// By hand: facts about the lent words stand in no struct; chain says why.
 ghost use Rattle.std.specs.Prelude.{◌≡◌};
 ghost use Rattle.chain.specs.Links.{Linked, Hint};
 ghost use Rattle.model.specs.Keys.{node_key};

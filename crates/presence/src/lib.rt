@@ -2,6 +2,7 @@
 // Is all there that the tuples of the used chain name.
 // The check of a store has each tuple looked at as it walks the chain (`ends::take`), and asks after the walk.
 // An inner layer: what its functions require, their callers have shown; only the entry refuses.
+// By hand: facts about the lent words stand in no struct; chain says why.
 mod edge_ends;
 pub mod ends;
 pub mod kept;

@@ -1,6 +1,7 @@
 #![tactic(auto)]
 // What V, X, B and C do to a store.
 // An inner layer: what its functions require, their callers have shown; only the entry refuses.
+// By hand: facts about the lent words stand in no struct; chain says why.
 ghost use Rattle.std.specs.Prelude.{◌≡◌, length, [], ◌∷◌};
 ghost use Rattle.model.specs.Keys.{edge_key};
 ghost use Rattle.model.specs.Tuples.{any_present, add_all, missing};

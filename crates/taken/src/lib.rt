@@ -146,7 +146,7 @@ pub fn span_of(sel: Selection) -> Span
     }
 }
 
-// Does neither this key nor any above it lie in the span.
+// Does neither this key nor any above it lie in the span. By hand: no derived order, since either part may be 0 for all.
 #[tactic(auto, unfolding(crate::specs::Selections::beyond))]
 pub fn is_beyond(span: Span, k: Key) -> bool
     ensures { result ≡ beyond span k }

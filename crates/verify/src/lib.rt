@@ -1,5 +1,6 @@
 #![tactic(auto)]
 // The exact check of a store.
+// By hand: facts about the lent words stand in no struct; chain says why.
 mod chains;
 mod keys;
 

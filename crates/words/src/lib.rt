@@ -1,6 +1,7 @@
 #![tactic(auto)]
 // One word or one record of the buffer: read and written.
 // An inner layer: what its functions require, their callers have shown; only the entry refuses.
+// By hand: that a record is within the buffer (`Inside`) is about a number and lent words, and stands in no struct; chain says why.
 ghost use Rattle.std.specs.Prelude.{◌≡◌, ◌+◌, ◌≤◌, ◌<◌, length, set};
 ghost use Rattle.layouts.specs.Buffer.{word, head_words, record_words, fits_length, capacity_of, record_start, word_of, next, key_at, tuple_at};
 ghost use Rattle.model.specs.Ordered.{is_less};
