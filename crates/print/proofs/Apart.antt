@@ -9,7 +9,6 @@ use lib.ListN.{drop, get_or}
 use borrow.Author.Tests.{eqb-false}
 use Rattle.model.specs.declared.Pair.{Pair}
 use Rattle.model.specs.declared.Refusal.{Refusal}
-use Rattle.model.specs.declared.Refusal.TheVariants.{NotAStore, NoOperator, ZeroName, UniverseDestroyed, SpaceAbsent, NodeAbsent, SecondAbsent, EdgeAbsent, ListTooShort, Full, Unreadable, NoSelection}
 use Rattle.model.specs.Numbered.{number_of}
 use Rattle.model.proofs.Numbered.{number_of_injective, number_most}
 use Rattle.model.specs.Pairs.{pair, edge_of, node_of}

@@ -2,7 +2,7 @@
 use mathlib.Core.Bool.{Bool, true, false}
 use mathlib.Core.List.{List, [], ◌∷◌, map}
 use Rattle.std.specs.Prelude.{Result, Ok, Err}
-use Prim.Native.Nat.{ℕ, zero, suc, ◌+◌, ◌*◌, ◌/◌, ◌%◌, ◌≤◌}
+use Prim.Native.Nat.{ℕ, zero, suc, ◌*◌, ◌/◌, ◌%◌, ◌≤◌}
 use native.Mathlib.Omega.{arith}
 use lib.ListN.{length, take, get_or, length-append}
 use Rattle.model.specs.declared.Answer.{Answer}
@@ -66,6 +66,6 @@ unfolding answer_line
 line_length a list h f = omega (arith, text_length a list h f, length-append (answer_text (observed a list)) (line_feed ∷ []))
 
 -- lent bytes with so much room have room for any line
-pub line_printable : (a : Result Answer Refusal) (list : List ℕ) (out : Text) (at : ℕ) → list_count a ≤ length list → length list ≤ 2048 → ((i : ℕ) → get_or list i 0 ≤ 4294967295) → at + most_line ≤ length out
-    → Printable (answer_line (observed a list)) a list out at
-line_printable a list out at h k f l = record { room = omega (arith, line_length a list (omega arith) f); held = h; counted = omega arith }
+pub line_printable : (a : Result Answer Refusal) (list : List ℕ) (out : Text) → list_count a ≤ length list → length list ≤ 2048 → ((i : ℕ) → get_or list i 0 ≤ 4294967295) → most_line ≤ length out
+    → Printable (answer_line (observed a list)) a list out 0
+line_printable a list out h k f l = record { room = omega (arith, line_length a list (omega arith) f); held = h; counted = omega arith }

@@ -5,15 +5,15 @@ use mathlib.Core.Path.{◌≡◌, sym, ap, ◌∙◌, subst}
 use Rattle.std.specs.Prelude.{Result, Ok}
 use Prim.Native.Nat.{ℕ, ◌+◌, ◌/◌, ◌%◌, ◌≤◌}
 use native.Mathlib.Omega.{arith}
-use lib.ListN.{length, take, length-append}
+use lib.ListN.{length, take, drop, length-append}
 use Rattle.model.specs.declared.Answer.{Answer}
 use Rattle.model.specs.declared.Refusal.{Refusal}
 use Rattle.model.specs.OneCall.{name_count, unpack, observed}
 use Rattle.model.specs.Steps.{Reply, pairs}
-use Rattle.text.specs.Bytes.{Text, line_feed, blank, equals_sign, colon, I, L, N}
+use Rattle.text.specs.Bytes.{Text, line_feed, blank, equals_sign, colon, written, I, L, N}
 use Rattle.text.specs.Numerals.{printed_number}
 use Rattle.print.specs.declared.line.Line.{Line}
-use Rattle.print.specs.Answers.{signed, change, yes_or_no, entry_text, entries_text, answer_text, answer_line, Put, Room, Adds, Printable}
+use Rattle.print.specs.Answers.{signed, change, yes_or_no, entry_text, entries_text, answer_text, answer_line, Put, AtFront, Room, Adds, Printable}
 use Rattle.print.proofs.Puts.{adds_then, adds_same}
 
 -- a sign, a blank and a number
@@ -71,9 +71,12 @@ pub line_adds : (r : Reply) {l l₁ l₂ : Line} → Room (answer_line r) l → 
 unfolding answer_line
 line_adds r h p q = adds_then (omega (arith, line_size r)) p q
 
--- the lent bytes hold what the line has
-pub line_done : (bs out : Text) (at end : ℕ) (held final : Text) → Put bs out at end held → final ≡ held → Put bs out at end final
-line_done bs out at end held final p e = subst (λ (o : Text). Put bs out at end o) (sym e) p
+-- the lent bytes hold what a line has that begins with the first of them
+pub line_done : (bs out : Text) (end : ℕ) (held final : Text) → Put bs out 0 end held → final ≡ held → AtFront bs out end final
+unfolding written
+line_done bs out end held final p e =
+    let size : 0 + length bs ≡ length bs = omega arith in
+    record { size = p.place ∙ size; bytes = e ∙ p.bytes ∙ ap (λ (n : ℕ). bs ++ drop n out) size }
 
 -- a call that is answered
 pub answered : {a b : Answer} → a ≡ b → ◌≡◌ {A = Result Answer Refusal} (Ok a) (Ok b)

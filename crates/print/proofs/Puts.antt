@@ -1,11 +1,11 @@
 -- Laws of texts put into lent bytes, one behind the other.
-use mathlib.Core.List.{[], ◌∷◌, ◌++◌}
+use mathlib.Core.List.{[], ◌∷◌, ◌++◌, append_assoc}
 use mathlib.Core.Path.{◌≡◌, refl, sym, ap, ap₂, ◌∙◌, subst}
 use Prim.Native.Nat.{ℕ, ◌+◌, ◌-◌, ◌%◌, ◌^◌, ◌≤◌, ◌<◌}
 use native.Mathlib.Nat.{add-zero, add_assoc}
 use native.Mathlib.Omega.{arith}
-use lib.ListN.{length, take, drop, length-append, take-append-drop}
-use lib.Seq.{drop-drop}
+use lib.ListN.{length, take, drop, length-append, length-drop, take-append-drop}
+use lib.Seq.{take_at, drop_at, drop-drop}
 use Rattle.text.specs.Bytes.{Text, written}
 use Rattle.text.proofs.Written.{written_nil, written_twice, length_written}
 use Rattle.text.specs.Numerals.{digit, printed_number}
@@ -14,7 +14,7 @@ use borrow.Rule.Slice.PartMut.{put_mid}
 use Rattle.std.specs.Fmt.{decimal}
 use Rattle.std.proofs.lemmas.Fmt.{decimal_digit, decimal_step}
 use Rattle.print.specs.declared.line.Line.{Line}
-use Rattle.print.specs.Answers.{Fits, Put, Room, Adds}
+use Rattle.print.specs.Answers.{Fits, Put, AtFront, Room, Adds}
 
 -- as many bytes as before
 pub put_length : {bs out : Text} {at end : ℕ} {out' : Text} → Put bs out at end out' → Fits bs out at → length out' ≡ length out
@@ -41,6 +41,37 @@ adds_same {xs} {ys} {l} {l'} e p = subst (λ (bs : Text). Adds bs l l') e p
 -- room behind a text that is put
 pub room_after : (n : ℕ) {bs : Text} {l l' : Line} → Adds bs l l' → l.at + (length bs + n) ≤ length l.out.now → l'.at + n ≤ length l'.out.now
 room_after n {bs} {l} {l'} p h = omega (arith, put_length p.put (omega arith), p.put.place)
+
+-- ---- a text at the front of lent bytes
+
+pub front_none : (out : Text) → AtFront [] out 0 out
+front_none out = record { size = refl; bytes = refl }
+
+module _ {bs out : Text} {n : ℕ} {out' : Text} (p : AtFront bs out n out') where
+  -- it is what the first bytes hold ..
+  pub front_text : take n out' ≡ bs
+  front_text = ap (take n) p.bytes ∙ take_at bs (drop (length bs) out) n (sym p.size)
+
+  -- .. and the bytes behind it are as they were
+  pub behind_front : drop n out' ≡ drop (length bs) out
+  behind_front = ap (drop n) p.bytes ∙ drop_at bs (drop (length bs) out) n (sym p.size)
+
+  -- as many bytes as before
+  pub front_length : n ≤ length out → length out' ≡ length out
+  front_length h = omega (arith, p.size, ap length p.bytes, length-append bs (drop (length bs) out), length-drop (length bs) out)
+
+  -- a text at the front, and one at the front of what is behind it
+  pub front_then : {cs : Text} {m : ℕ} {rest : Text} → AtFront cs (drop n out') m rest → AtFront (bs ++ cs) out (n + m) (take n out' ++ rest)
+  front_then {cs} {m} {rest} q =
+      record {
+        size = omega (arith, p.size, q.size, length-append bs cs);
+        bytes =
+            ap₂ (λ (xs ys : Text). xs ++ ys) front_text (q.bytes ∙ ap (λ (xs : Text). cs ++ drop (length cs) xs) behind_front ∙ ap (λ (xs : Text). cs ++ xs) (drop-drop (length cs) (length bs) out))
+            ∙ sym (append_assoc bs cs (drop (length bs + length cs) out))
+            ∙ ap (λ (k : ℕ). (bs ++ cs) ++ drop k out) (sym (length-append bs cs));
+      }
+
+-- ---- numbers
 
 -- what `{}` writes for a number of 32 bits
 pub decimal_printed : (x : ℕ) → x ≤ 4294967295 → decimal x ≡ printed_number x

@@ -1,6 +1,6 @@
 -- Document 01: "Output, a line each: `= name`, `V value`, `T` or `NIL`, `L k` then ` edge:node` for each, `R number`."
 -- Document 02, request 2: the name that C or D returns has the number of tuples added or removed behind it.
-use Rattle.std.specs.Prelude.{Bool, true, false, Result, List, [], ◌∷◌, ◌++◌, ◌≡◌, ℕ, ◌+◌, ◌≤◌, length}
+use Rattle.std.specs.Prelude.{Bool, true, false, Result, List, [], ◌∷◌, ◌++◌, ◌≡◌, ℕ, ◌+◌, ◌≤◌, length, drop}
 use Rattle.model.specs.declared.Answer.{Answer}
 use Rattle.model.specs.declared.Pair.{Pair}
 use Rattle.model.specs.declared.Refusal.{Refusal}
@@ -60,6 +60,11 @@ Fits bs out at = at + length bs ≤ length out
 pub record Put (bs : Text) (out : Text) (at : ℕ) (end : ℕ) (out' : Text) : Type 0 where
   pub place : end ≡ at + length bs
   pub bytes : out' ≡ written out at bs
+
+-- a text put at the front of lent bytes: how many bytes it has, and what the lent bytes hold
+pub record AtFront (bs : Text) (out : Text) (count : ℕ) (out' : Text) : Type 0 where
+  pub size : count ≡ length bs
+  pub bytes : out' ≡ bs ++ drop (length bs) out
 
 -- what printing an answer asks: its text fits, its entries stand in the list, and their count is a number of 32 bits
 pub record Printable (text : Text) (a : Result Answer Refusal) (list : List ℕ) (out : Text) (at : ℕ) : Type 0 where

@@ -1,8 +1,8 @@
 #![tactic(auto)]
 // A script from a reader, its answers to a writer; the program gives it standard input and standard output.
 // A read that fails counts as the end of the input. Where a write fails, the rest of that block is lost, and the script is run to its end all the same.
-ghost use Rattle.std.specs.Prelude.{◌≡◌, ◌≤◌, ◌<◌, ◌+◌, length, take, drop, IfOk, OnOk, OnErr, IfSome};
-ghost use Rattle.std.specs.Io.KnownBytes.{Appends, Consumes, IsAtEnd, Keeps};
+ghost use Rattle.std.specs.Prelude.{◌≤◌, ◌<◌, length, take, OnOk, IfSome};
+ghost use Rattle.std.specs.Io.KnownBytes.{Appends, Consumes, IsAtEnd};
 ghost use Rattle.model.specs.declared.Refusal.TheVariants.{Unreadable};
 ghost use Rattle.model.specs.Steps.{refusal};
 ghost use Rattle.layouts.specs.Stored.{stored};
@@ -31,18 +31,6 @@ pub struct Ended {
     pub write: io::Result<()>,
 }
 
-// One read, into the bytes from place `at` on.
-fn read_at<R: Read>(input: &mut R, bytes: &mut [u8], at: usize) -> io::Result<usize>
-    requires { at < length bytes.old }
-    ensures front { take at bytes.new ≡ take at bytes.old }
-    ensures fits { IfOk result (λ n. at + n ≤ length bytes.new) }
-    ensures read { IfOk result (λ n. Consumes (R.remaining input.old) (R.remaining input.new) (take n (drop at bytes.new))) }
-    ensures end { IfOk result (λ n. n ≡ 0 → IsAtEnd (R.remaining input.new)) }
-    ensures err { OnErr result (Keeps (R.remaining input.old) (R.remaining input.new)) }
-{
-    input.read(&mut bytes[at..])
-}
-
 // Reads until the bytes are full, the input ends or a read fails: how many bytes were read, which stand at the front, and whether no read failed.
 // By hand: `read_exact` leaves open how many bytes were read where the input is shorter.
 fn read_full<R: Read>(input: &mut R, bytes: &mut [u8]) -> (usize, io::Result<()>)
@@ -52,7 +40,7 @@ fn read_full<R: Read>(input: &mut R, bytes: &mut [u8]) -> (usize, io::Result<()>
 {
     let mut done = 0;
     while done < bytes.len() {
-        match read_at(input, bytes, done) {
+        match input.read(&mut bytes[done..]) {
             Ok(0) => return (done, Ok(())),
             Ok(count) => done += count,
             Err(error) => return (done, Err(error)),
@@ -74,13 +62,12 @@ fn run_lines<W: Write>(
     ensures written { OnOk result (Appends (W.contents output.old) (W.contents output.new) (lines_output (stored.state_of store.old) (lines_of script.now))) }
 {
     let mut out: [u8; OUTPUT_BYTES] = [0; OUTPUT_BYTES];
-    let mut at = 0;
+    let mut rest = script;
     let mut written = Ok(());
-    while at < script.len() {
-        let block = script::run_block(store, list, script, at, &mut out);
-        let length = block.length;
-        written = written.and(output.write_all(&out[..length]));
-        at = block.next;
+    while !rest.is_empty() {
+        let block = script::run_block(store, list, rest, &mut out);
+        written = written.and(output.write_all(&out[..block.length]));
+        rest = &rest[block.consumed..];
     }
     written
 }
@@ -96,7 +83,7 @@ fn run_script<W: Write>(script: &[u8], output: &mut W) -> io::Result<()>
 }
 
 // Refuses an input that is too long.
-#[tactic(auto, using(text::proofs::Written::take_first, script::proofs::LineRuns::refusal_length))]
+#[tactic(auto, using(print::proofs::Puts::front_text, script::proofs::LineRuns::refusal_length))]
 fn refuse<W: Write>(output: &mut W) -> io::Result<()>
     ensures { OnOk result (Appends (W.contents output.old) (W.contents output.new) (answer_line (refusal Unreadable))) }
 {

@@ -9,7 +9,7 @@ use Rattle.model.specs.CallLists.{CallMade}
 use Rattle.model.specs.OneCall.{answer_of, pack, list_after}
 use Rattle.model.proofs.Cases.{computed}
 use Rattle.model.specs.Numbered.{number_of}
-use Rattle.run.specs.Words.{name_in, value_of_form, space_of_form, call_of, call_words_at, calls_from, calls_in, kind_of, first_of, second_of}
+use Rattle.run.specs.Words.{name_in, value_of_form, space_of_form, call_of, call_words, calls_from, calls_in, kind_of, first_of, second_of}
 use Rattle.run.specs.Runs.{call_made, calls_made, answers_after, lists_after}
 
 abbrev example_calls : List ℕ
@@ -56,9 +56,9 @@ pub example_answers : answers_after example_made
     ∷ 0 ∷ 3 ∷ 0
     ∷ 62
     ∷ []
-unfolding computed answer_of number_of pack list_after name_in value_of_form space_of_form call_of call_words_at calls_from calls_in kind_of first_of second_of call_made calls_made answers_after
+unfolding computed answer_of number_of pack list_after name_in value_of_form space_of_form call_of call_words calls_from calls_in kind_of first_of second_of call_made calls_made answers_after
 example_answers = refl
 
 pub example_lists_lem : lists_after example_made example_lists ≡ 0 ∷ 9 ∷ 73 ∷ 74 ∷ []
-unfolding computed answer_of pack list_after name_in value_of_form space_of_form call_of call_words_at calls_from calls_in call_made calls_made lists_after
+unfolding computed answer_of pack list_after name_in value_of_form space_of_form call_of call_words calls_from calls_in call_made calls_made lists_after
 example_lists_lem = refl

@@ -14,9 +14,9 @@ use Rattle.model.specs.Machine.{State, CallRequest, Request, calling, machine}
 use Rattle.layouts.specs.Buffer.{capacity_of, tuples_of, is_store}
 use Rattle.model.specs.CallLists.{exchange_of, requests}
 use Rattle.model.proofs.Bools.{and_both, and_left, and_right, clash, failed, not_yes, not_no}
-use Rattle.run.specs.Words.{words_in_answer, call_count, calls_from, calls_in}
+use Rattle.run.specs.Words.{words_in_answer, call_count, calls_in}
 use Rattle.run.specs.Runs.{call_made, calls_made, rooms_of, has_room, LeftByRun, Ran}
-use Rattle.run.proofs.WordLaws.{calls_length}
+use Rattle.run.proofs.WordLaws.{calls_counted}
 
 -- the calls that are made are those that were asked
 pub requests_made : (C : ℕ) (ts : State) (rs : List CallRequest) (l : List ℕ) → rooms_of rs ≤ length l → requests (map exchange_of (calls_made C ts rs l)) ≡ map calling rs
@@ -29,29 +29,29 @@ requests_made C ts (r ∷ rs) l h =
     ap₂ (λ (n : ℕ) (qs : List Request). calling (record { call = r.call; room = n }) ∷ qs) size rest
 
 -- the lists fit, as the code tests it
-pub lists_wide : (ws l : List ℕ) (f : Bool) → f ≡ leb (rooms_of (calls_from ws (call_count ws) 0)) (length l) → not f ≡ false
-    → rooms_of (calls_from ws (call_count ws) 0) ≤ length l
-lists_wide ws l f ef nf = leb-true (rooms_of (calls_from ws (call_count ws) 0)) (length l) (sym ef ∙ not_no f nf)
+pub lists_wide : (ws l : List ℕ) (f : Bool) → f ≡ leb (rooms_of (calls_in ws)) (length l) → not f ≡ false
+    → rooms_of (calls_in ws) ≤ length l
+lists_wide ws l f ef nf = leb-true (rooms_of (calls_in ws)) (length l) (sym ef ∙ not_no f nf)
 
 module _ (ws a l : List ℕ) where
   -- room for the answers and the lists, as the code tests it
-  has_room_lem : words_in_answer * call_count ws ≤ length a → leb (rooms_of (calls_from ws (call_count ws) 0)) (length l) ≡ true → has_room (calls_in ws) a l ≡ true
-  unfolding has_room calls_in
+  has_room_lem : words_in_answer * call_count ws ≤ length a → leb (rooms_of (calls_in ws)) (length l) ≡ true → has_room (calls_in ws) a l ≡ true
+  unfolding has_room
   has_room_lem wide fit =
-      and_both (leb (words_in_answer * length (calls_from ws (call_count ws) 0)) (length a)) (leb (rooms_of (calls_from ws (call_count ws) 0)) (length l))
-      (le-leb (words_in_answer * length (calls_from ws (call_count ws) 0)) (length a) (omega (arith, calls_length ws (call_count ws) 0))) fit
+      and_both (leb (words_in_answer * length (calls_in ws)) (length a)) (leb (rooms_of (calls_in ws)) (length l))
+      (le-leb (words_in_answer * length (calls_in ws)) (length a) (omega (arith, calls_counted ws))) fit
 
   has_room_answers : has_room (calls_in ws) a l ≡ true → words_in_answer * call_count ws ≤ length a
-  unfolding has_room calls_in
+  unfolding has_room
   has_room_answers e =
-      let h : words_in_answer * length (calls_from ws (call_count ws) 0) ≤ length a
-      = leb-true (words_in_answer * length (calls_from ws (call_count ws) 0)) (length a)
-      (and_left (leb (words_in_answer * length (calls_from ws (call_count ws) 0)) (length a)) (leb (rooms_of (calls_from ws (call_count ws) 0)) (length l)) e) in
-      omega (arith, h, calls_length ws (call_count ws) 0)
+      let h : words_in_answer * length (calls_in ws) ≤ length a
+      = leb-true (words_in_answer * length (calls_in ws)) (length a)
+      (and_left (leb (words_in_answer * length (calls_in ws)) (length a)) (leb (rooms_of (calls_in ws)) (length l)) e) in
+      omega (arith, h, calls_counted ws)
 
-  has_room_lists : has_room (calls_in ws) a l ≡ true → leb (rooms_of (calls_from ws (call_count ws) 0)) (length l) ≡ true
-  unfolding has_room calls_in
-  has_room_lists e = and_right (leb (words_in_answer * length (calls_from ws (call_count ws) 0)) (length a)) (leb (rooms_of (calls_from ws (call_count ws) 0)) (length l)) e
+  has_room_lists : has_room (calls_in ws) a l ≡ true → leb (rooms_of (calls_in ws)) (length l) ≡ true
+  unfolding has_room
+  has_room_lists e = and_right (leb (words_in_answer * length (calls_in ws)) (length a)) (leb (rooms_of (calls_in ws)) (length l)) e
 
 module _ (b ws a l : List ℕ) where
   -- 1: the buffer is no store
@@ -77,16 +77,15 @@ module _ (b ws a l : List ℕ) where
   answers_short s e n h =
       no_room_lem (sym e ∙ not_no s n) (failed (has_room (calls_in ws) a l) (λ f. omega (arith, h, has_room_answers ws a l f)))
 
-  pub lists_short : (s f : Bool) → s ≡ is_store b → not s ≡ false → f ≡ leb (rooms_of (calls_from ws (call_count ws) 0)) (length l) → not f ≡ true
+  pub lists_short : (s f : Bool) → s ≡ is_store b → not s ≡ false → f ≡ leb (rooms_of (calls_in ws)) (length l) → not f ≡ true
       → Ran b ws a l (Err ListTooShort) b a l
   lists_short s f e n ef nf =
       no_room_lem (sym e ∙ not_no s n) (failed (has_room (calls_in ws) a l) (λ g. clash (has_room_lists ws a l g) (sym ef ∙ not_yes f nf)))
 
   -- all calls were made
   pub all_run : (s f : Bool) (b' a' l' : List ℕ) → s ≡ is_store b → not s ≡ false → words_in_answer * call_count ws ≤ length a
-      → f ≡ leb (rooms_of (calls_from ws (call_count ws) 0)) (length l) → not f ≡ false
-      → LeftByRun (calls_made (capacity_of b) (tuples_of b) (calls_from ws (call_count ws) 0) l) b a l b' a' l' → Ran b ws a l (Ok tt) b' a' l'
-  unfolding calls_in
+      → f ≡ leb (rooms_of (calls_in ws)) (length l) → not f ≡ false
+      → LeftByRun (calls_made (capacity_of b) (tuples_of b) (calls_in ws) l) b a l b' a' l' → Ran b ws a l (Ok tt) b' a' l'
   all_run s f b' a' l' e n wide ef nf L =
       let store : is_store b ≡ true = sym e ∙ not_no s n in
       let room : has_room (calls_in ws) a l ≡ true = has_room_lem ws a l wide (sym ef ∙ not_no f nf) in
@@ -95,7 +94,7 @@ module _ (b ws a l : List ℕ) where
         no_room = λ g h. absurd (clash room h);
         run = λ g h. record {
           result = refl;
-          asked = requests_made (capacity_of b) (tuples_of b) (calls_from ws (call_count ws) 0) l (lists_wide ws l f ef nf);
+          asked = requests_made (capacity_of b) (tuples_of b) (calls_in ws) l (lists_wide ws l f ef nf);
           left = L;
         };
       }

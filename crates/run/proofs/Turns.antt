@@ -7,7 +7,9 @@ use native.Mathlib.Omega.{arith}
 use mir.Val.{Fits}
 use mir.Syntax.{w32}
 use lib.ListN.{length, get_or, take, drop, length-append, length-drop, take-append-drop}
-use lib.Seq.{length-take-le, take_at, drop_at}
+use lib.Seq.{length-take-le, drop-drop}
+use borrow.Rule.Slice.PartMut.{put_mid}
+use Rattle.std.proofs.lemmas.Slice.{take-put_mid, drop-put_mid}
 use Rattle.model.specs.declared.Call.{Call}
 use Rattle.std.specs.Prelude.{Result}
 use Rattle.model.specs.declared.Answer.{Answer}
@@ -21,9 +23,9 @@ use Rattle.layouts.specs.Stored.{stored}
 use Rattle.model.proofs.Bools.{clash}
 use Rattle.model.proofs.CallLists.{answer_within}
 use Rattle.layouts.proofs.Sizes.{capacity_length}
-use Rattle.run.specs.Words.{words_in_answer, words_in_call, call_at, room_at, request_at, calls_from, answer_list, put_answer}
+use Rattle.run.specs.Words.{words_in_answer, words_in_call, call_in, room_in, request_in, words_of_call, calls_from, answer_list}
 use Rattle.run.specs.Runs.{call_made, calls_made, answers_after, lists_after, rooms_of, LeftByRun, OneRun}
-use Rattle.run.proofs.WordLaws.{calls_start, calls_next, calls_end, answer_length, answer_first, answer_rest}
+use Rattle.run.proofs.WordLaws.{call_at, room_at, request_at, calls_start, calls_next, calls_end}
 use Rattle.run.proofs.Fits.{rooms_next}
 
 -- ---- one call
@@ -32,30 +34,60 @@ use Rattle.run.proofs.Fits.{rooms_next}
 count_fits : (b l b' l' : List ℕ) (c : Call) (a : Result Answer Refusal) → OnStore stored b l c a b' l' → length l' ≡ length l → length l ≤ 4294967295 → list_count a ≤ 4294967295
 count_fits b l b' l' c a O e h = let k : list_count a ≤ length l = answer_within stored b l b' l' c a O e in omega arith
 
--- .. which is the room that the call gives, a word of the list of calls
-pub count_small : (b ws : List ℕ) (i : ℕ) (l b' l' : List ℕ) (c : Call) (a : Result Answer Refusal)
-    → ((k : ℕ) → Fits w32 (get_or ws k 0)) → length l ≡ room_at ws i → OnStore stored b l c a b' l' → length l' ≡ length l → list_count a ≤ 4294967295
-count_small b ws i l b' l' c a f e O k = count_fits b l b' l' c a O k (omega (arith, e, f (words_in_call * i + 8)))
+-- .. which is the room that the call gives, a word of its nine
+pub count_small : (b ws l b' l' : List ℕ) (c : Call) (a : Result Answer Refusal)
+    → ((k : ℕ) → Fits w32 (get_or ws k 0)) → length l ≡ room_in ws → OnStore stored b l c a b' l' → length l' ≡ length l → list_count a ≤ 4294967295
+count_small b ws l b' l' c a f e O k = count_fits b l b' l' c a O k (omega (arith, e, f 8))
 
 -- a call and its answer written are what the machine makes of it
-pub one_run : (b ws : List ℕ) (i : ℕ) (answers l b' answers' l' : List ℕ) (c : Call) (a : Result Answer Refusal)
-    → c ≡ call_at ws i → length l ≡ room_at ws i → OnStore stored b l c a b' l' → answers' ≡ put_answer answers i a
-    → OneRun (call_made (capacity_of b) (tuples_of b) (request_at ws i) l) i b answers b' answers' l'
+pub one_run : (b ws l b' answer' l' : List ℕ) (c : Call) (a : Result Answer Refusal)
+    → c ≡ call_in ws → length l ≡ room_in ws → OnStore stored b l c a b' l' → answer' ≡ answer_list a
+    → OneRun (call_made (capacity_of b) (tuples_of b) (request_in ws) l) b b' answer' l'
 unfolding call_made
-one_run b ws i answers l b' answers' l' c a ec er O ea =
-    let asked : OnStore stored b l (call_at ws i) a b' l' = subst (λ (d : Call). OnStore stored b l d a b' l') ec O in
-    let x : CallMade = call_made (capacity_of b) (tuples_of b) (request_at ws i) l in
+one_run b ws l b' answer' l' c a ec er O ea =
+    let asked : OnStore stored b l (call_in ws) a b' l' = subst (λ (d : Call). OnStore stored b l d a b' l') ec O in
+    let x : CallMade = call_made (capacity_of b) (tuples_of b) (request_in ws) l in
     let answer : a ≡ x.answer
-    = asked.answer ∙ ap (λ (n : ℕ). answer_of (machine (capacity_of b) (tuples_of b) (call_at ws i) n).answer) er in
+    = asked.answer ∙ ap (λ (n : ℕ). answer_of (machine (capacity_of b) (tuples_of b) (call_in ws) n).answer) er in
     let left : l' ≡ x.left
-    = asked.list ∙ ap (λ (n : ℕ). list_after (machine (capacity_of b) (tuples_of b) (call_at ws i) n).answer l) er in
+    = asked.list ∙ ap (λ (n : ℕ). list_after (machine (capacity_of b) (tuples_of b) (call_in ws) n).answer l) er in
     record {
-      call = subst (λ (k : List ℕ). OnStore stored b l (call_at ws i) x.answer b' k) left (subst (λ (y : Result Answer Refusal). OnStore stored b l (call_at ws i) y b' l') answer asked);
-      answered = ea ∙ ap (put_answer answers i) answer;
+      call = subst (λ (k : List ℕ). OnStore stored b l (call_in ws) x.answer b' k) left (subst (λ (y : Result Answer Refusal). OnStore stored b l (call_in ws) y b' l') answer asked);
+      answered = ea ∙ ap answer_list answer;
       listed = left;
     }
 
+-- ---- a part of a list that is lent, and what comes back put in its place
+
+module _ (xs part : List ℕ) (at n : ℕ) (inside : at + n ≤ length xs) (sized : length part ≡ n) where
+  part_length : length (put_mid at n xs part) ≡ length xs
+  part_length =
+      omega (
+        arith,
+        length-append (take at xs) (part ++ drop n (drop at xs)),
+        length-append part (drop n (drop at xs)),
+        length-take-le at xs (omega arith),
+        length-drop n (drop at xs),
+        length-drop at xs,
+        sized,
+      )
+
+  part_first : take (at + n) (put_mid at n xs part) ≡ take at xs ++ part
+  part_first = take-put_mid at n xs part (at + n) (omega (arith, sized)) (omega arith)
+
+  part_rest : drop (at + n) (put_mid at n xs part) ≡ drop n (drop at xs)
+  part_rest = drop-put_mid at n xs part (at + n) (omega arith) (omega arith) sized ∙ sym (drop-drop n at xs)
+
 -- ---- the calls so far
+
+-- the words of call i as they are lent
+abbrev pub call_lent : List ℕ → ℕ → List ℕ
+call_lent ws i = take (words_in_call * (i + 1) - words_in_call * i) (drop (words_in_call * i) ws)
+
+call_whole : (ws : List ℕ) (i : ℕ) → call_lent ws i ≡ words_of_call ws i
+call_whole ws i =
+    let nine : words_in_call * (i + 1) - words_in_call * i ≡ words_in_call = omega arith in
+    ap (λ (k : ℕ). take k (drop (words_in_call * i) ws)) nine
 
 -- what the machine makes of the calls that are left, with the lists from a place on
 abbrev pub rest_made : List ℕ → ℕ → List ℕ → List ℕ → ℕ → ℕ → List CallMade
@@ -75,9 +107,12 @@ made_at ws b l at i = call_made (capacity_of b) (tuples_of b) (request_at ws i) 
 abbrev pub behind : List ℕ → List ℕ → ℕ → ℕ → List ℕ
 behind ws l at i = drop (room_at ws i) (drop at l)
 
--- the lists with another such part
+-- the lists with another such part, and the answers with another answer i
 abbrev pub lists_with : List ℕ → List ℕ → ℕ → ℕ → List ℕ → List ℕ
-lists_with ws l at i part = take at l ++ (part ++ behind ws l at i)
+lists_with ws l at i part = put_mid at (room_at ws i) l part
+
+abbrev pub answers_with : List ℕ → ℕ → List ℕ → List ℕ
+answers_with a i answer = put_mid (words_in_answer * i) words_in_answer a answer
 
 -- after i calls, whose lists end at place `at`: from b₀, a₀, l₀ to the buffer b, the answers a, the lists l
 pub record Running (ws : List ℕ) (count : ℕ) (b₀ a₀ l₀ b a l : List ℕ) (at i : ℕ) : Type 0 where
@@ -125,38 +160,46 @@ module _ (ws : List ℕ) (count : ℕ) (b₀ a₀ l₀ : List ℕ) where
         listed = sym (R.listed ∙ ap (λ (xs : List CallMade). take at l ++ lists_after xs (drop at l)) none_left ∙ take-append-drop at l);
       }
 
-  -- one more call, which leaves b', a' and, of its own part of the lists, `part`
-  module _ (b a l b' a' part : List ℕ) (at i : ℕ) (R : Running ws count b₀ a₀ l₀ b a l at i) (more : i < count) (wide : words_in_answer * count ≤ length a₀)
-      (sized : length part ≡ room_at ws i) (O : OneRun (made_at ws b l at i) i b a b' a' part) where
+  -- one more call, which leaves b', of the answers' part for it `answer` and of the lists' part for it `part`
+  module _ (b a l b' answer part : List ℕ) (at i : ℕ) (R : Running ws count b₀ a₀ l₀ b a l at i) (more : i < count) (wide : words_in_answer * count ≤ length a₀)
+      (sized : length part ≡ room_at ws i) (O : OneRun (made_at ws b l at i) b b' answer part) where
     room_next : at + (room_at ws i + rooms_of (calls_from ws (count - (i + 1)) (i + 1))) ≤ length l
     room_next = omega (arith, R.room, rooms_next ws count i more)
 
-    head_length : length (take at l ++ part) ≡ at + room_at ws i
-    head_length = omega (arith, length-append (take at l) part, length-take-le at l (omega (arith, room_next)), sized)
+    lent_inside : at + room_at ws i ≤ length l
+    lent_inside = omega (arith, room_next)
 
     lent_length : length (lent_at ws l at i) ≡ room_at ws i
-    lent_length = length-take-le (room_at ws i) (drop at l) (omega (arith, length-drop at l, room_next))
-
-    joined : (take at l ++ part) ++ behind ws l at i ≡ lists_with ws l at i part
-    joined = append_assoc (take at l) part (behind ws l at i)
+    lent_length = length-take-le (room_at ws i) (drop at l) (omega (arith, length-drop at l, lent_inside))
 
     lists_length : length (lists_with ws l at i part) ≡ length l
-    lists_length =
-        omega (
-          arith,
-          ap length (sym joined),
-          length-append (take at l ++ part) (behind ws l at i),
-          head_length,
-          length-drop (room_at ws i) (drop at l),
-          length-drop at l,
-          room_next,
-        )
+    lists_length = part_length l part at (room_at ws i) lent_inside sized
 
     lists_first : take (at + room_at ws i) (lists_with ws l at i part) ≡ take at l ++ part
-    lists_first = ap (take (at + room_at ws i)) (sym joined) ∙ take_at (take at l ++ part) (behind ws l at i) (at + room_at ws i) head_length
+    lists_first = part_first l part at (room_at ws i) lent_inside sized
 
     lists_rest : drop (at + room_at ws i) (lists_with ws l at i part) ≡ behind ws l at i
-    lists_rest = ap (drop (at + room_at ws i)) (sym joined) ∙ drop_at (take at l ++ part) (behind ws l at i) (at + room_at ws i) head_length
+    lists_rest = part_rest l part at (room_at ws i) lent_inside sized
+
+    answer_inside : words_in_answer * i + words_in_answer ≤ length a
+    answer_inside = omega (arith, R.answers_size)
+
+    next_answer : words_in_answer * (i + 1) ≡ words_in_answer * i + words_in_answer
+    next_answer = omega arith
+
+    answers_length : length (answers_with a i answer) ≡ length a
+    answers_length = part_length a answer (words_in_answer * i) words_in_answer answer_inside (ap length O.answered)
+
+    answers_first : take (words_in_answer * (i + 1)) (answers_with a i answer) ≡ take (words_in_answer * i) a ++ answer_list (made_at ws b l at i).answer
+    answers_first =
+        ap (λ (k : ℕ). take k (answers_with a i answer)) next_answer
+        ∙ part_first a answer (words_in_answer * i) words_in_answer answer_inside (ap length O.answered)
+        ∙ ap (λ (ys : List ℕ). take (words_in_answer * i) a ++ ys) O.answered
+
+    answers_rest : drop (words_in_answer * (i + 1)) (answers_with a i answer) ≡ drop words_in_answer (drop (words_in_answer * i) a)
+    answers_rest =
+        ap (λ (k : ℕ). drop k (answers_with a i answer)) next_answer
+        ∙ part_rest a answer (words_in_answer * i) words_in_answer answer_inside (ap length O.answered)
 
     capacity_same : capacity_of b' ≡ capacity_of b
     capacity_same = capacity_length b b' O.call.size
@@ -183,18 +226,12 @@ module _ (ws : List ℕ) (count : ℕ) (b₀ a₀ l₀ : List ℕ) where
 
     answered_next : (xs : List CallMade)
         → take (words_in_answer * i) a ++ answers_after (made_at ws b l at i ∷ xs) (drop (words_in_answer * i) a)
-        ≡ take (words_in_answer * (i + 1)) a' ++ answers_after xs (drop (words_in_answer * (i + 1)) a')
+        ≡ take (words_in_answer * (i + 1)) (answers_with a i answer) ++ answers_after xs (drop (words_in_answer * (i + 1)) (answers_with a i answer))
     unfolding answers_after
     answered_next xs =
-        let given : Result Answer Refusal = (made_at ws b l at i).answer in
-        let inside : words_in_answer * i + words_in_answer ≤ length a = omega (arith, R.answers_size) in
-        let first : take (words_in_answer * (i + 1)) a' ≡ take (words_in_answer * i) a ++ answer_list given
-        = ap (take (words_in_answer * (i + 1))) O.answered ∙ answer_first a i given inside in
-        let rest : drop (words_in_answer * (i + 1)) a' ≡ drop words_in_answer (drop (words_in_answer * i) a)
-        = ap (drop (words_in_answer * (i + 1))) O.answered ∙ answer_rest a i given inside in
         sym
-        (ap₂ (λ (ys zs : List ℕ). ys ++ answers_after xs zs) first rest
-        ∙ append_assoc (take (words_in_answer * i) a) (answer_list given) (answers_after xs (drop words_in_answer (drop (words_in_answer * i) a))))
+        (ap₂ (λ (ys zs : List ℕ). ys ++ answers_after xs zs) answers_first answers_rest
+        ∙ append_assoc (take (words_in_answer * i) a) (answer_list (made_at ws b l at i).answer) (answers_after xs (drop words_in_answer (drop (words_in_answer * i) a))))
 
     listed_next : (xs : List CallMade)
         → take at l ++ lists_after (made_at ws b l at i ∷ xs) (drop at l)
@@ -206,14 +243,14 @@ module _ (ws : List ℕ) (count : ℕ) (b₀ a₀ l₀ : List ℕ) where
         ∙ append_assoc (take at l) part (lists_after xs (behind ws l at i))
         ∙ ap₂ (λ (ys : List ℕ) (n : ℕ). take at l ++ (ys ++ lists_after xs (drop n (drop at l)))) O.listed (sym lent_length))
 
-    pub run_next : Running ws count b₀ a₀ l₀ b' a' (lists_with ws l at i part) (at + room_at ws i) (i + 1)
+    pub run_next : Running ws count b₀ a₀ l₀ b' (answers_with a i answer) (lists_with ws l at i part) (at + room_at ws i) (i + 1)
     run_next =
         let xs : List CallMade = rest_made ws count b' (lists_with ws l at i part) (at + room_at ws i) (i + 1) in
         record {
           within = omega arith;
           store = O.call.store;
           size = O.call.size ∙ R.size;
-          answers_size = ap length O.answered ∙ answer_length a i (made_at ws b l at i).answer (omega (arith, R.answers_size)) ∙ R.answers_size;
+          answers_size = answers_length ∙ R.answers_size;
           lists_size = lists_length ∙ R.lists_size;
           room = omega (arith, room_next, lists_length);
           answered = R.answered ∙ ap (λ (ys : List CallMade). take (words_in_answer * i) a ++ answers_after ys (drop (words_in_answer * i) a)) step_made ∙ answered_next xs;
@@ -221,26 +258,26 @@ module _ (ws : List ℕ) (count : ℕ) (b₀ a₀ l₀ : List ℕ) where
           trace = λ b'' T. R.trace b'' (subst (λ (ys : List CallMade). Trace (OneMade stored) b ys b'') (sym step_made) (then as_one_call T));
         }
 
-  -- the part for the next call lies within the lists ..
-  pub room_fits : (b a l : List ℕ) (at i one : ℕ) → Running ws count b₀ a₀ l₀ b a l at i → i < count → one ≡ room_at ws i → at + one ≤ length l
-  room_fits b a l at i one R h e = omega (arith, R.room, rooms_next ws count i h)
-
-  -- .. and has as many places as the call says
+  -- the part for the next call lies within the lists, and has as many places as the call says
   pub part_sized : (b a l : List ℕ) (at i one : ℕ) → Running ws count b₀ a₀ l₀ b a l at i → i < count → one ≡ room_at ws i
       → length (take ((at + one) - at) (drop at l)) ≡ room_at ws i
   part_sized b a l at i one R h e =
-      length-take-le ((at + one) - at) (drop at l) (omega (arith, length-drop at l, room_fits b a l at i one R h e)) ∙ omega (arith, e)
+      length-take-le ((at + one) - at) (drop at l) (omega (arith, length-drop at l, R.room, rooms_next ws count i h, e)) ∙ omega (arith, e)
 
-  -- one call of the loop, with the part from `at` to `at + one`
-  pub run_turn : (b a l b' a' part : List ℕ) (at i one : ℕ) → Running ws count b₀ a₀ l₀ b a l at i → i < count → words_in_answer * count ≤ length a₀
-      → one ≡ room_at ws i → length part ≡ length (take ((at + one) - at) (drop at l))
-      → OneRun (call_made (capacity_of b) (tuples_of b) (request_at ws i) (take ((at + one) - at) (drop at l))) i b a b' a' part
-      → Running ws count b₀ a₀ l₀ b' a' (take at l ++ (part ++ drop ((at + one) - at) (drop at l))) (at + one) (i + 1)
-  run_turn b a l b' a' part at i one R h wide e sized O =
-      let span : (at + one) - at ≡ room_at ws i = omega (arith, e) in
-      let stop : at + one ≡ at + room_at ws i = omega (arith, e) in
-      let made : OneRun (made_at ws b l at i) i b a b' a' part
-      = subst (λ (k : ℕ). OneRun (call_made (capacity_of b) (tuples_of b) (request_at ws i) (take k (drop at l))) i b a b' a' part) span O in
-      subst (λ (k : ℕ). Running ws count b₀ a₀ l₀ b' a' (take at l ++ (part ++ drop k (drop at l))) (at + one) (i + 1)) (sym span)
-      (subst (λ (k : ℕ). Running ws count b₀ a₀ l₀ b' a' (lists_with ws l at i part) k (i + 1)) (sym stop)
-      (run_next b a l b' a' part at i R h wide (sized ∙ part_sized b a l at i one R h e) made))
+  -- one call of the loop, with the words that are lent for it
+  pub run_turn : (b a l b' answer part : List ℕ) (at i one : ℕ) → Running ws count b₀ a₀ l₀ b a l at i → i < count → words_in_answer * count ≤ length a₀
+      → one ≡ room_in (call_lent ws i) → length part ≡ length (take ((at + one) - at) (drop at l))
+      → OneRun (call_made (capacity_of b) (tuples_of b) (request_in (call_lent ws i)) (take ((at + one) - at) (drop at l))) b b' answer part
+      → Running ws count b₀ a₀ l₀ b' (put_mid (words_in_answer * i) (words_in_answer * (i + 1) - words_in_answer * i) a answer) (put_mid at ((at + one) - at) l part) (at + one) (i + 1)
+  run_turn b a l b' answer part at i one R h wide e sized O =
+      let three : words_in_answer * (i + 1) - words_in_answer * i ≡ words_in_answer = omega arith in
+      let room : one ≡ room_at ws i = e ∙ ap room_in (call_whole ws i) in
+      let span : (at + one) - at ≡ room_at ws i = omega (arith, room) in
+      let stop : at + one ≡ at + room_at ws i = omega (arith, room) in
+      let made : OneRun (made_at ws b l at i) b b' answer part
+      = subst (λ (us : List ℕ). OneRun (call_made (capacity_of b) (tuples_of b) (request_in us) (lent_at ws l at i)) b b' answer part) (call_whole ws i)
+      (subst (λ (k : ℕ). OneRun (call_made (capacity_of b) (tuples_of b) (request_in (call_lent ws i)) (take k (drop at l))) b b' answer part) span O) in
+      subst (λ (k : ℕ). Running ws count b₀ a₀ l₀ b' (put_mid (words_in_answer * i) k a answer) (put_mid at ((at + one) - at) l part) (at + one) (i + 1)) (sym three)
+      (subst (λ (k : ℕ). Running ws count b₀ a₀ l₀ b' (answers_with a i answer) (put_mid at k l part) (at + one) (i + 1)) (sym span)
+      (subst (λ (k : ℕ). Running ws count b₀ a₀ l₀ b' (answers_with a i answer) (lists_with ws l at i part) k (i + 1)) (sym stop)
+      (run_next b a l b' answer part at i R h wide (sized ∙ part_sized b a l at i one R h room) made)))

@@ -1,12 +1,12 @@
 -- Calls and answers as words: what the functions on the words of a call and of an answer give.
 use mathlib.Core.Bool.{Bool, true, false, cond}
-use mathlib.Core.List.{List, [], ◌∷◌, ◌++◌, append_assoc}
+use mathlib.Core.List.{List, [], ◌∷◌, ◌++◌}
 use mathlib.Core.Path.{◌≡◌, refl, sym, ap, ap₂, ◌∙◌}
 use Prim.Native.Nat.{ℕ, zero, suc, ◌+◌, ◌-◌, ◌*◌, ◌≤◌, ◌<◌}
 use native.Mathlib.Omega.{arith}
 use borrow.Author.Tests.{ne_eqb}
-use lib.ListN.{length, take, drop, set, length-set}
-use lib.Seq.{drop-drop, drop-set-lt, take-suc-set}
+use lib.ListN.{length, take, drop, length-append}
+use lib.Seq.{take_at, drop_at, drop-drop}
 use mir.Val.{bool_byte}
 use Rattle.std.specs.Prelude.{Result, Ok, Err}
 use Rattle.model.specs.declared.Call.{Call}
@@ -16,9 +16,10 @@ use Rattle.model.specs.declared.Answer.TheVariants.{Name, Added, Removed, Value 
 use Rattle.model.specs.declared.Refusal.{Refusal}
 use Rattle.model.proofs.Numbered.{number_back}
 use Rattle.model.specs.Keys.{NIL}
+use Rattle.model.specs.Machine.{CallRequest}
 use Rattle.run.specs.declared.CallWords.{CallWords}
 use Rattle.run.specs.declared.AnswerWords.{AnswerWords}
-use Rattle.run.specs.Words.{words_in_answer, name_in, value_of_form, space_of_form, call_of, request_at, calls_from, kind_of, bit_of, first_of, second_of, answer_words, answer_in, answer_list, put_answer}
+use Rattle.run.specs.Words.{words_in_call, name_in, value_of_form, space_of_form, call_of, call_in, room_in, request_in, words_of_call, calls_from, call_count, calls_in, kind_of, bit_of, first_of, second_of, answer_words, answer_in, answer_list}
 
 -- ---- a call
 
@@ -42,6 +43,16 @@ call_joined w n g m v s en eg em ev es =
 
 -- ---- the calls that are left
 
+-- call i of a list of calls, and the length of its answer list
+abbrev pub call_at : List ℕ → ℕ → Call
+call_at ws i = call_in (words_of_call ws i)
+
+abbrev pub room_at : List ℕ → ℕ → ℕ
+room_at ws i = room_in (words_of_call ws i)
+
+abbrev pub request_at : List ℕ → ℕ → CallRequest
+request_at ws i = request_in (words_of_call ws i)
+
 -- at the start all are left
 pub calls_start : (ws : List ℕ) (count : ℕ) → calls_from ws (count - 0) 0 ≡ calls_from ws count 0
 calls_start ws count =
@@ -63,11 +74,43 @@ module _ (ws : List ℕ) (count i : ℕ) where
       let e : count - i ≡ 0 = omega arith in
       ap (λ (k : ℕ). calls_from ws k i) e
 
+-- behind the words of one call the next calls are those of the words behind it
+module _ (x rest : List ℕ) (e : length x ≡ words_in_call) where
+  words_behind : (i : ℕ) → words_of_call (x ++ rest) (i + 1) ≡ words_of_call rest i
+  words_behind i =
+      let split : words_in_call * (i + 1) ≡ words_in_call + words_in_call * i = omega arith in
+      ap (λ (k : ℕ). take words_in_call (drop k (x ++ rest))) split
+      ∙ ap (take words_in_call) (sym (drop-drop (words_in_call * i) words_in_call (x ++ rest)))
+      ∙ ap (λ (ws : List ℕ). take words_in_call (drop (words_in_call * i) ws)) (drop_at x rest words_in_call e)
+
+  calls_behind : (k i : ℕ) → calls_from (x ++ rest) k (i + 1) ≡ calls_from rest k i
+  unfolding calls_from
+  calls_behind zero i = refl
+  calls_behind (suc k) i = ap₂ (λ (ws : List ℕ) (rs : List CallRequest). request_in ws ∷ rs) (words_behind i) (calls_behind k (i + 1))
+
+  pub calls_front : calls_in (x ++ rest) ≡ request_in x ∷ calls_in rest
+  unfolding calls_in calls_from
+  calls_front =
+      let count : call_count (x ++ rest) ≡ suc (call_count rest) = omega (arith, length-append x rest, e) in
+      ap (λ (k : ℕ). calls_from (x ++ rest) k 0) count
+      ∙ ap₂ (λ (ws : List ℕ) (rs : List CallRequest). request_in ws ∷ rs) (take_at x rest words_in_call e) (calls_behind (call_count rest) 0)
+
+-- fewer words than a call has are no call
+pub calls_none : (ws : List ℕ) → length ws < words_in_call → calls_in ws ≡ []
+unfolding calls_in calls_from
+calls_none ws h =
+    let count : call_count ws ≡ 0 = omega arith in
+    ap (λ (k : ℕ). calls_from ws k 0) count
+
 -- how many calls there are
-pub calls_length : (ws : List ℕ) (k i : ℕ) → length (calls_from ws k i) ≡ k
+calls_length : (ws : List ℕ) (k i : ℕ) → length (calls_from ws k i) ≡ k
 unfolding calls_from
 calls_length ws zero i = refl
 calls_length ws (suc k) i = ap suc (calls_length ws k (i + 1))
+
+pub calls_counted : (ws : List ℕ) → length (calls_in ws) ≡ call_count ws
+unfolding calls_in
+calls_counted ws = calls_length ws (call_count ws) 0
 
 -- ---- an answer
 
@@ -87,50 +130,5 @@ answer_back (Ok (YesNo true)) = refl
 answer_back (Ok (YesNo false)) = refl
 answer_back (Ok (Listed k)) = refl
 
-pub answer_written : (ws : List ℕ) (i : ℕ) (w : AnswerWords) (a : Result Answer Refusal) → w ≡ answer_words a
-    → set (set (set ws (words_in_answer * i) w.kind) (words_in_answer * i + 1) w.first) (words_in_answer * i + 2) w.second ≡ put_answer ws i a
-unfolding put_answer
-answer_written ws i w a e =
-    ap (λ (x : AnswerWords). set (set (set ws (words_in_answer * i) x.kind) (words_in_answer * i + 1) x.first) (words_in_answer * i + 2) x.second) e
-
--- what the slice of answers holds up to answer i, and from the next on, after answer i is written
-module _ (ws : List ℕ) (i : ℕ) (a : Result Answer Refusal) (h : words_in_answer * i + words_in_answer ≤ length ws) where
-  pub answer_length : length (put_answer ws i a) ≡ length ws
-  unfolding put_answer
-  answer_length = simp length-set
-
-  -- the first so many words, after one of them more is set
-  one_more : (us : List ℕ) (at w : ℕ) (xs : List ℕ) → at < length us → take at us ≡ xs → take (suc at) (set us at w) ≡ xs ++ (w ∷ [])
-  one_more us at w xs b e = take-suc-set us at w b ∙ ap (λ (ys : List ℕ). ys ++ (w ∷ [])) e
-
-  pub answer_first : take (words_in_answer * (i + 1)) (put_answer ws i a) ≡ take (words_in_answer * i) ws ++ answer_list a
-  unfolding put_answer
-  answer_first =
-      let at : ℕ = words_in_answer * i in
-      let us : List ℕ = set ws at (kind_of a) in
-      let vs : List ℕ = set us (suc at) (first_of a) in
-      let e : words_in_answer * (i + 1) ≡ suc (suc (suc at)) = omega arith in
-      let one : at + 1 ≡ suc at = omega arith in
-      let two : at + 2 ≡ suc (suc at) = omega arith in
-      let size : length us ≡ length ws = length-set ws at (kind_of a) in
-      let size' : length vs ≡ length us = length-set us (suc at) (first_of a) in
-      let kinds : take (suc at) us ≡ take at ws ++ (kind_of a ∷ []) = take-suc-set ws at (kind_of a) (omega arith) in
-      let firsts : take (suc (suc at)) vs ≡ (take at ws ++ (kind_of a ∷ [])) ++ (first_of a ∷ [])
-      = one_more us (suc at) (first_of a) (take at ws ++ (kind_of a ∷ [])) (omega (arith, size)) kinds in
-      ap (λ (k : ℕ). take k (set (set us (at + 1) (first_of a)) (at + 2) (second_of a))) e
-      ∙ ap₂ (λ (k n : ℕ). take (suc (suc (suc at))) (set (set us k (first_of a)) n (second_of a))) one two
-      ∙ one_more vs (suc (suc at)) (second_of a) ((take at ws ++ (kind_of a ∷ [])) ++ (first_of a ∷ [])) (omega (arith, size, size')) firsts
-      ∙ ap (λ (xs : List ℕ). xs ++ (second_of a ∷ [])) (append_assoc (take at ws) (kind_of a ∷ []) (first_of a ∷ []))
-      ∙ append_assoc (take at ws) (kind_of a ∷ first_of a ∷ []) (second_of a ∷ [])
-
-  pub answer_rest : drop (words_in_answer * (i + 1)) (put_answer ws i a) ≡ drop words_in_answer (drop (words_in_answer * i) ws)
-  unfolding put_answer
-  answer_rest =
-      let at : ℕ = words_in_answer * i in
-      let us : List ℕ = set ws at (kind_of a) in
-      let e : words_in_answer * (i + 1) ≡ at + words_in_answer = omega arith in
-      drop-set-lt (words_in_answer * (i + 1)) (set us (at + 1) (first_of a)) (at + 2) (second_of a) (omega arith)
-      ∙ drop-set-lt (words_in_answer * (i + 1)) us (at + 1) (first_of a) (omega arith)
-      ∙ drop-set-lt (words_in_answer * (i + 1)) ws at (kind_of a) (omega arith)
-      ∙ ap (λ (k : ℕ). drop k ws) e
-      ∙ sym (drop-drop words_in_answer at ws)
+pub answer_written : (w : AnswerWords) (a : Result Answer Refusal) → w ≡ answer_words a → w.kind ∷ w.first ∷ w.second ∷ [] ≡ answer_list a
+answer_written w a e = ap (λ (x : AnswerWords). x.kind ∷ x.first ∷ x.second ∷ []) e

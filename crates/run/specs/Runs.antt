@@ -7,7 +7,7 @@ use Rattle.model.specs.Traces.{Trace}
 use Rattle.model.specs.OneCall.{answer_of, list_after, OnStore}
 use Rattle.model.specs.CallLists.{CallMade, OneMade, MeetsDemand1, exchange_of, requests, WholeList}
 use Rattle.layouts.specs.Stored.{stored}
-use Rattle.run.specs.Words.{words_in_answer, calls_in, answer_list, put_answer}
+use Rattle.run.specs.Words.{words_in_answer, calls_in, answer_list}
 
 -- ---- what the machine makes of a list of calls
 
@@ -96,8 +96,8 @@ pub record WholeRun (C : ℕ) (ts : State) (calls answers lists b' answers' list
 
 -- ---- one call of a run
 
--- what call number i leaves of a store, given what the machine makes of it
-pub record OneRun (x : CallMade) (i : ℕ) (b answers b' answers' l' : List ℕ) : Type 0 where
+-- what one call leaves of a store, of the words of its answer and of its list, given what the machine makes of it
+pub record OneRun (x : CallMade) (b b' answer' l' : List ℕ) : Type 0 where
   pub call : OnStore stored b x.lent x.call x.answer b' x.left
-  pub answered : answers' ≡ put_answer answers i x.answer
+  pub answered : answer' ≡ answer_list x.answer
   pub listed : l' ≡ x.left

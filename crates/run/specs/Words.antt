@@ -2,7 +2,7 @@
 -- A call has a word for each field: the operator; n; g; m; the form of the value and v; the form of the space and s. In a list of calls the length of the answer
 -- list lent to it is a ninth word. So any nine words are a call; words past the last whole call are not read.
 -- An answer has three words: its kind, and what it carries first and second.
-use Rattle.std.specs.Prelude.{Bool, true, false, cond, not, List, [], ◌∷◌, ℕ, zero, suc, ◌+◌, ◌*◌, ◌/◌, eqb, leb, length, set, Result, Ok, Err}
+use Rattle.std.specs.Prelude.{Bool, true, false, cond, not, List, [], ◌∷◌, ℕ, zero, suc, ◌+◌, ◌*◌, ◌/◌, eqb, leb, length, take, drop, Result, Ok, Err}
 use Rattle.model.specs.declared.Call.{Call}
 use Rattle.model.specs.declared.Space.{Space}
 use Rattle.model.specs.declared.Space.TheVariants.{Universe, Numbered, Nothing}
@@ -49,34 +49,39 @@ call_of w =
       s = space_of_form w.space_form w.s;
     }
 
--- the words of call i, in their order
-unfoldable pub call_words_at : List ℕ → ℕ → CallWords
-call_words_at ws i =
+-- the first eight of the nine words of a call, in their order
+unfoldable pub call_words : List ℕ → CallWords
+call_words ws =
     record {
-      operator = word ws (words_in_call * i);
-      n = word ws (words_in_call * i + 1);
-      g = word ws (words_in_call * i + 2);
-      m = word ws (words_in_call * i + 3);
-      value_form = word ws (words_in_call * i + 4);
-      v = word ws (words_in_call * i + 5);
-      space_form = word ws (words_in_call * i + 6);
-      s = word ws (words_in_call * i + 7);
+      operator = word ws 0;
+      n = word ws 1;
+      g = word ws 2;
+      m = word ws 3;
+      value_form = word ws 4;
+      v = word ws 5;
+      space_form = word ws 6;
+      s = word ws 7;
     }
 
-abbrev pub call_at : List ℕ → ℕ → Call
-call_at ws i = call_of (call_words_at ws i)
+-- the call that nine words are
+abbrev pub call_in : List ℕ → Call
+call_in ws = call_of (call_words ws)
 
--- its ninth word: the length of the answer list that is lent to it
-abbrev pub room_at : List ℕ → ℕ → ℕ
-room_at ws i = word ws (words_in_call * i + 8)
+-- the ninth: the length of the answer list that is lent to it
+abbrev pub room_in : List ℕ → ℕ
+room_in ws = word ws 8
 
-abbrev pub request_at : List ℕ → ℕ → CallRequest
-request_at ws i = record { call = call_at ws i; room = room_at ws i }
+abbrev pub request_in : List ℕ → CallRequest
+request_in ws = record { call = call_in ws; room = room_in ws }
+
+-- the nine words of call i of a list of calls
+abbrev pub words_of_call : List ℕ → ℕ → List ℕ
+words_of_call ws i = take words_in_call (drop (words_in_call * i) ws)
 
 -- the calls from number i on, so many of them
 unfoldable pub calls_from : List ℕ → ℕ → ℕ → List CallRequest
 calls_from ws zero i = []
-calls_from ws (suc k) i = request_at ws i ∷ calls_from ws k (i + 1)
+calls_from ws (suc k) i = request_in (words_of_call ws i) ∷ calls_from ws k (i + 1)
 
 -- how many calls there are: words past the last whole call are not read
 abbrev pub call_count : List ℕ → ℕ
@@ -143,8 +148,3 @@ answer_in w =
 -- .. one after the other
 abbrev pub answer_list : Result Answer Refusal → List ℕ
 answer_list a = kind_of a ∷ first_of a ∷ second_of a ∷ []
-
--- answer i written
-unfoldable pub put_answer : List ℕ → ℕ → Result Answer Refusal → List ℕ
-put_answer ws i a =
-    set (set (set ws (words_in_answer * i) (kind_of a)) (words_in_answer * i + 1) (first_of a)) (words_in_answer * i + 2) (second_of a)

@@ -1,9 +1,9 @@
 #![tactic(auto)]
 // A whole list of calls, from words to words: the store is checked once and then known by proof.
-ghost use Rattle.std.specs.Prelude.{true, ◌≡◌, ◌+◌, ◌*◌, ◌≤◌, leb, length};
+ghost use Rattle.std.specs.Prelude.{true, ◌≡◌, ◌*◌, ◌≤◌, leb, length};
 ghost use Rattle.model.specs.OneCall.{list_count};
 ghost use Rattle.layouts.specs.Stored.{stored};
-ghost use Rattle.run.specs.Words.{words_in_call, words_in_answer, name_in, value_of_form, space_of_form, call_of, call_words_at, call_at, room_at, request_at, calls_from, answer_words, put_answer};
+ghost use Rattle.run.specs.Words.{words_in_call, words_in_answer, name_in, value_of_form, space_of_form, call_of, call_words, call_in, room_in, request_in, call_count, calls_in, answer_words, answer_list};
 ghost use Rattle.run.specs.Runs.{rooms_of, call_made, calls_made, OneRun, LeftByRun, Ran};
 
 use model::{Answer, Call, EdgeName, NIL, NodeName, Refusal, Space, SpaceName};
@@ -112,51 +112,47 @@ impl From<CallWords> for Call {
     }
 }
 
-// The words of call i of a list of calls.
-#[tactic(auto, unfolding(crate::specs::Words::call_words_at))]
-fn call_words_at(calls: &[u32], i: usize) -> CallWords
-    requires { words_in_call * i + words_in_call ≤ length calls.now }
-    ensures { result ≡ call_words_at calls.now i }
+// The first eight of the nine words of a call.
+#[tactic(auto, unfolding(crate::specs::Words::call_words))]
+fn call_words(words: &[u32]) -> CallWords
+    requires { length words.now ≡ words_in_call }
+    ensures { result ≡ call_words words.now }
 {
-    let at = WORDS_IN_CALL * i;
     CallWords {
-        operator: calls[at],
-        n: calls[at + 1],
-        g: calls[at + 2],
-        m: calls[at + 3],
-        value_form: calls[at + 4],
-        v: calls[at + 5],
-        space_form: calls[at + 6],
-        s: calls[at + 7],
+        operator: words[0],
+        n: words[1],
+        g: words[2],
+        m: words[3],
+        value_form: words[4],
+        v: words[5],
+        space_form: words[6],
+        s: words[7],
     }
 }
 
-// Call i of a list of calls.
-fn call_at(calls: &[u32], i: usize) -> Call
-    requires { words_in_call * i + words_in_call ≤ length calls.now }
-    ensures { result ≡ call_at calls.now i }
+// The call that nine words are.
+fn call_in(words: &[u32]) -> Call
+    requires { length words.now ≡ words_in_call }
+    ensures { result ≡ call_in words.now }
 {
-    Call::from(call_words_at(calls, i))
+    Call::from(call_words(words))
 }
 
-// The length of the answer list of call i.
-fn room_at(calls: &[u32], i: usize) -> usize
-    requires { words_in_call * i + words_in_call ≤ length calls.now }
-    ensures { result ≡ room_at calls.now i }
+// The length of the answer list that nine words give a call.
+fn room_in(words: &[u32]) -> usize
+    requires { length words.now ≡ words_in_call }
+    ensures { result ≡ room_in words.now }
 {
-    let at = WORDS_IN_CALL * i + ROOM;
-    calls[at] as usize
+    words[ROOM] as usize
 }
 
-// Do the answer lists of the first calls fit in so much room.
-#[tactic(auto, unfolding(crate::specs::Words::calls_from, crate::specs::Runs::rooms_of))]
-fn lists_fit(calls: &[u32], count: usize, room: usize) -> bool
-    requires { words_in_call * count ≤ length calls.now }
-    ensures { result ≡ leb (rooms_of (calls_from calls.now count 0)) room }
+// Do the answer lists of all calls fit in so much room.
+fn lists_fit(calls: &[u32], room: usize) -> bool
+    ensures { result ≡ leb (rooms_of (calls_in calls.now)) room }
 {
     let mut left = room;
-    for i in 0..count {
-        let one = room_at(calls, i);
+    for words in calls.chunks_exact(WORDS_IN_CALL) {
+        let one = room_in(words);
         if left < one {
             return false;
         }
@@ -187,41 +183,40 @@ pub fn answer_words(a: Result<Answer, Refusal>) -> AnswerWords
     }
 }
 
-// Writes answer i.
-#[tactic(auto, using(crate::proofs::WordLaws::answer_written), unfolding(model::specs::OneCall::list_count, crate::specs::Words::put_answer))]
-fn put_answer(answers: &mut [u32], i: usize, a: Result<Answer, Refusal>)
-    requires { (words_in_answer * i + words_in_answer ≤ length answers.old) × (list_count a ≤ 4294967295) }
-    ensures { answers.new ≡ put_answer answers.old i a }
+// Writes the three words of an answer.
+#[tactic(auto, using(crate::proofs::WordLaws::answer_written), unfolding(model::specs::OneCall::list_count))]
+fn put_answer(words: &mut [u32], a: Result<Answer, Refusal>)
+    requires { (length words.old ≡ words_in_answer) × (list_count a ≤ 4294967295) }
+    ensures { words.new ≡ answer_list a }
 {
-    let at = WORDS_IN_ANSWER * i;
     let w = answer_words(a);
-    answers[at] = w.kind;
-    answers[at + 1] = w.first;
-    answers[at + 2] = w.second;
+    words.copy_from_slice(&[w.kind, w.first, w.second]);
 }
 
-// Makes call i with its own answer list, and writes its answer.
+// Makes the call that nine words are with its own answer list, and writes the three words of its answer.
 #[tactic(auto, using(crate::proofs::Turns::count_small, crate::proofs::Turns::one_run), unfolding(crate::specs::Runs::call_made))]
-fn run_one(store: &mut [u32], calls: &[u32], i: usize, answers: &mut [u32], list: &mut [u32])
-    requires { (stored.is_store store.old ≡ true) × (words_in_call * i + words_in_call ≤ length calls.now) × (words_in_answer * i + words_in_answer ≤ length answers.old) × (length list.old ≡ room_at calls.now i) }
-    ensures { OneRun (call_made (stored.capacity_of store.old) (stored.state_of store.old) (request_at calls.now i) list.old) i store.old answers.old store.new answers.new list.new }
+fn run_one(store: &mut [u32], call: &[u32], answer: &mut [u32], list: &mut [u32])
+    requires { (stored.is_store store.old ≡ true) × (length call.now ≡ words_in_call) × (length answer.old ≡ words_in_answer) × (length list.old ≡ room_in call.now) }
+    ensures { OneRun (call_made (stored.capacity_of store.old) (stored.state_of store.old) (request_in call.now) list.old) store.old store.new answer.new list.new }
 {
-    let call = call_at(calls, i);
-    let answer = calls::execute_known(store, call, list);
-    put_answer(answers, i, answer);
+    let answered = calls::execute_known(store, call_in(call), list);
+    put_answer(answer, answered);
 }
 
-// Makes the first calls of a list, one after the other.
-#[tactic(auto, unfolding(crate::specs::Words::calls_from, crate::specs::Runs::calls_made, crate::specs::Runs::rooms_of))]
-fn run_all(store: &mut [u32], calls: &[u32], count: usize, answers: &mut [u32], lists: &mut [u32])
-    requires { (stored.is_store store.old ≡ true) × (words_in_call * count ≤ length calls.now) × (words_in_answer * count ≤ length answers.old) × (rooms_of (calls_from calls.now count 0) ≤ length lists.old) }
-    ensures { LeftByRun (calls_made (stored.capacity_of store.old) (stored.state_of store.old) (calls_from calls.now count 0) lists.old) store.old answers.old lists.old store.new answers.new lists.new }
+// Makes all calls of a list, one after the other.
+#[tactic(auto, unfolding(crate::specs::Words::calls_in, crate::specs::Words::calls_from, crate::specs::Runs::calls_made, crate::specs::Runs::rooms_of))]
+fn run_all(store: &mut [u32], calls: &[u32], answers: &mut [u32], lists: &mut [u32])
+    requires { (stored.is_store store.old ≡ true) × (words_in_answer * call_count calls.now ≤ length answers.old) × (rooms_of (calls_in calls.now) ≤ length lists.old) }
+    ensures { LeftByRun (calls_made (stored.capacity_of store.old) (stored.state_of store.old) (calls_in calls.now) lists.old) store.old answers.old lists.old store.new answers.new lists.new }
 {
+    let count = calls.len() / WORDS_IN_CALL;
     let mut at = 0;
     // By hand: places and not chunks, since of what `chunks_exact_mut` gives no proof knows the elements afterwards.
     for i in 0..count {
-        let end = at + room_at(calls, i);
-        run_one(store, calls, i, answers, &mut lists[at..end]);
+        let call = &calls[WORDS_IN_CALL * i..WORDS_IN_CALL * (i + 1)];
+        let answer = &mut answers[WORDS_IN_ANSWER * i..WORDS_IN_ANSWER * (i + 1)];
+        let end = at + room_in(call);
+        run_one(store, call, answer, &mut lists[at..end]);
         at = end;
     }
 }
@@ -238,13 +233,12 @@ pub fn run_calls(
     if !verify::is_store(store) {
         return Err(Refusal::NotAStore);
     }
-    let count = calls.len() / WORDS_IN_CALL;
-    if answers.len() < WORDS_IN_ANSWER * count {
+    if answers.len() < WORDS_IN_ANSWER * (calls.len() / WORDS_IN_CALL) {
         return Err(Refusal::ListTooShort);
     }
-    if !lists_fit(calls, count, lists.len()) {
+    if !lists_fit(calls, lists.len()) {
         return Err(Refusal::ListTooShort);
     }
-    run_all(store, calls, count, answers, lists);
+    run_all(store, calls, answers, lists);
     Ok(())
 }

@@ -2,10 +2,9 @@
 use mathlib.Core.Bool.{Bool, true, false, cond}
 use mathlib.Core.List.{List, [], ◌∷◌, ◌++◌, append_assoc, append-nil}
 use mathlib.Core.Path.{◌≡◌, refl, sym, ◌∙◌, ap, ap₂, subst}
-use Prim.Native.Nat.{ℕ, ◌-◌, ◌≤◌}
-use native.Mathlib.Omega.{arith}
+use Prim.Native.Nat.{ℕ, ◌-◌}
 use lib.Dec.{leb}
-use lib.ListN.{length, drop}
+use lib.ListN.{length, take, drop}
 use Rattle.layouts.specs.Buffer.{tuples_of}
 use Rattle.model.specs.Traces.{Trace, end}
 use Rattle.model.proofs.Traces.{trace_append, trace_keeps}
@@ -13,12 +12,12 @@ use Rattle.model.specs.Machine.{State}
 use Rattle.text.specs.Bytes.{Text}
 use Rattle.lines.specs.Lines.{lines_of}
 use Rattle.lines.specs.Calls.{read_line}
-use Rattle.lines.proofs.LineLaws.{no_lines}
 use Rattle.print.specs.Answers.{answer_line, most_line}
+use Rattle.print.proofs.Puts.{front_text}
 use Rattle.script.specs.declared.Block.{Block}
 use Rattle.script.specs.Scripts.{line_outcome, lines_output, lines_final}
-use Rattle.script.specs.Runs.{RunReady, LineStep, Run, unrun, line_list, lines_list, run_before, run_lines, BlockRun, ScriptRun}
 use Rattle.script.proofs.LineRuns.{line_size}
+use Rattle.script.specs.Runs.{RunReady, LineStep, Run, unrun, line_list, lines_list, run_before, run_lines, BlockRun, ScriptRun}
 
 -- a run of the first of some lines, and then the lines that are left
 pub record AsAll (ts : State) (l : List ℕ) (xs : List Text) (r : Run) : Type 0 where
@@ -57,55 +56,63 @@ run_as_all room ts l (x ∷ xs) =
 
 -- ---- block after block
 
--- the lines of a script before place `at`, run on a store
-pub record Going (b₀ l₀ : List ℕ) (script : Text) (b l : List ℕ) (at : ℕ) : Type 0 where
+-- what one block puts out, and then what the lines behind it print
+pub block_text : (b l : List ℕ) (script : Text) (out : Text) (r : Block) (b' l' : List ℕ) (out' : Text)
+    → BlockRun (run_lines (length out) (tuples_of b) l (lines_of script)) b l script out r b' l' out'
+    → take r.length out' ++ lines_output (tuples_of b') (lines_of (drop r.consumed script)) ≡ lines_output (tuples_of b) (lines_of script)
+block_text b l script out r b' l' out' B =
+    let xs : List Text = lines_of script in
+    let u : Run = run_lines (length out) (tuples_of b) l xs in
+    let A : AsAll (tuples_of b) l xs u = run_as_all (length out) (tuples_of b) l xs in
+    ap₂ (λ (bs cs : Text). bs ++ cs) (front_text B.put) (ap₂ lines_output B.state_left B.rest) ∙ A.output
+
+-- all lines of a script but those of the part `rest`, which is left, run on a store
+pub record Going (b₀ l₀ : List ℕ) (script : Text) (b l : List ℕ) (rest : Text) : Type 0 where
   pub ready : RunReady b l
-  pub within : at ≤ length script
   pub lines : List Text
   pub called : Trace LineStep (b₀, l₀) lines (b, l)
-  pub split : lines_of script ≡ lines ++ lines_of (drop at script)
-  pub final : lines_final (tuples_of b) (lines_of (drop at script)) ≡ lines_final (tuples_of b₀) (lines_of script)
-  pub list : lines_list (tuples_of b) l (lines_of (drop at script)) ≡ lines_list (tuples_of b₀) l₀ (lines_of script)
+  pub split : lines_of script ≡ lines ++ lines_of rest
+  pub final : lines_final (tuples_of b) (lines_of rest) ≡ lines_final (tuples_of b₀) (lines_of script)
+  pub list : lines_list (tuples_of b) l (lines_of rest) ≡ lines_list (tuples_of b₀) l₀ (lines_of script)
 
 module _ (b₀ l₀ : List ℕ) (script : Text) where
-  pub blocks_start : RunReady b₀ l₀ → Going b₀ l₀ script b₀ l₀ 0
-  blocks_start R = record { ready = R; within = omega arith; lines = []; called = end; split = refl; final = refl; list = refl }
+  pub blocks_start : RunReady b₀ l₀ → Going b₀ l₀ script b₀ l₀ script
+  blocks_start R = record { ready = R; lines = []; called = end; split = refl; final = refl; list = refl }
 
-  pub next_block : (b l b' l' : List ℕ) (at : ℕ) (out : Text) (r : Block) (out' : Text) → Going b₀ l₀ script b l at
-      → BlockRun (run_lines (length out) (tuples_of b) l (lines_of (drop at script))) b l script at out r b' l' out' → Going b₀ l₀ script b' l' r.next
-  next_block b l b' l' at out r out' G B =
-      let xs : List Text = lines_of (drop at script) in
+  pub next_block : (b l b' l' : List ℕ) (rest : Text) (out : Text) (r : Block) (out' rest' : Text) → Going b₀ l₀ script b l rest
+      → BlockRun (run_lines (length out) (tuples_of b) l (lines_of rest)) b l rest out r b' l' out' → rest' ≡ drop r.consumed rest → Going b₀ l₀ script b' l' rest'
+  next_block b l b' l' rest out r out' rest' G B e =
+      let xs : List Text = lines_of rest in
       let u : Run = run_lines (length out) (tuples_of b) l xs in
       let A : AsAll (tuples_of b) l xs u = run_as_all (length out) (tuples_of b) l xs in
+      let left : lines_of rest' ≡ u.rest = ap lines_of e ∙ B.rest in
       record {
         ready = B.ready;
-        within = omega (arith, B.next);
         lines = G.lines ++ u.lines;
         called = trace_append G.called B.called;
         split =
             G.split
-            ∙ ap (λ (ys : List Text). G.lines ++ ys) (A.split ∙ ap (λ (ys : List Text). u.lines ++ ys) (sym B.rest))
-            ∙ sym (append_assoc G.lines u.lines (lines_of (drop r.next script)));
-        final = ap₂ lines_final B.state_left B.rest ∙ A.final ∙ G.final;
+            ∙ ap (λ (ys : List Text). G.lines ++ ys) (A.split ∙ ap (λ (ys : List Text). u.lines ++ ys) (sym left))
+            ∙ sym (append_assoc G.lines u.lines (lines_of rest'));
+        final = ap₂ lines_final B.state_left left ∙ A.final ∙ G.final;
         list =
-            ap (λ (ts : State). lines_list ts l' (lines_of (drop r.next script))) B.state_left
-            ∙ ap₂ (lines_list u.state) B.list_left B.rest
+            ap (λ (ts : State). lines_list ts l' (lines_of rest')) B.state_left
+            ∙ ap₂ (lines_list u.state) B.list_left left
             ∙ A.list
             ∙ G.list;
       }
 
   -- the store keeps its length
-  pub blocks_sized : (b l : List ℕ) (at : ℕ) → Going b₀ l₀ script b l at → length b ≡ length b₀
-  blocks_sized b l at G = trace_keeps (λ (s : List ℕ × List ℕ). length s.0) line_size G.called
+  pub blocks_sized : (b l : List ℕ) (rest : Text) → Going b₀ l₀ script b l rest → length b ≡ length b₀
+  blocks_sized b l rest G = trace_keeps (λ (s : List ℕ × List ℕ). length s.0) line_size G.called
 
-  pub blocks_end : (b l : List ℕ) (at : ℕ) → Going b₀ l₀ script b l at → length script ≤ at → ScriptRun b₀ l₀ script b l
-  unfolding lines_final lines_list
-  blocks_end b l at G h =
-      let none : lines_of (drop at script) ≡ [] = no_lines script at h in
-      let all : G.lines ≡ lines_of script = sym (G.split ∙ ap (λ (ys : List Text). G.lines ++ ys) none ∙ append-nil G.lines) in
+  pub blocks_end : (b l : List ℕ) (rest : Text) → Going b₀ l₀ script b l rest → rest ≡ [] → ScriptRun b₀ l₀ script b l
+  unfolding lines_of lines_final lines_list
+  blocks_end b l rest G none =
+      let all : G.lines ≡ lines_of script = sym (G.split ∙ ap (λ (bs : Text). G.lines ++ lines_of bs) none ∙ append-nil G.lines) in
       record {
         ready = G.ready;
         called = subst (λ (xs : List Text). Trace LineStep (b₀, l₀) xs (b, l)) all G.called;
-        state_left = ap (lines_final (tuples_of b)) (sym none) ∙ G.final;
-        list_left = ap (lines_list (tuples_of b) l) (sym none) ∙ G.list;
+        state_left = ap (λ (bs : Text). lines_final (tuples_of b) (lines_of bs)) (sym none) ∙ G.final;
+        list_left = ap (λ (bs : Text). lines_list (tuples_of b) l (lines_of bs)) (sym none) ∙ G.list;
       }

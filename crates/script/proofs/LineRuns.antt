@@ -2,7 +2,7 @@
 use mathlib.Core.List.{List, []}
 use mathlib.Core.Path.{◌≡◌, refl, sym, ◌∙◌, ap, ap₂, subst}
 use Rattle.std.specs.Prelude.{Result, Ok, Err}
-use Prim.Native.Nat.{ℕ, ◌+◌, ◌≤◌}
+use Prim.Native.Nat.{ℕ, ◌≤◌}
 use native.Mathlib.Omega.{arith}
 use mir.Val.{Fits}
 use mir.Syntax.{w32}
@@ -26,7 +26,7 @@ use Rattle.model.proofs.CallLists.{observed_machine, answer_within}
 use Rattle.text.specs.Bytes.{Text}
 use Rattle.text.specs.Numerals.{printed_number, printed_in}
 use Rattle.lines.specs.Calls.{Reading, read_line}
-use Rattle.print.specs.Answers.{answer_text, answer_line, most_line, Put, Printable}
+use Rattle.print.specs.Answers.{answer_text, answer_line, most_line, AtFront, Printable}
 use Rattle.print.proofs.Lengths.{line_printable}
 use Rattle.script.specs.Scripts.{script_records, script_places, reading_outcome, line_outcome}
 use Rattle.layouts.proofs.Sizes.{capacity_length}
@@ -38,7 +38,7 @@ use Rattle.script.specs.Runs.{RunReady, LineCalled, call, no_call, LineStep, Lin
 words_fit : (l : List ℕ) → ((i : ℕ) → Fits w32 (get_or l i 0)) → (i : ℕ) → get_or l i 0 ≤ 4294967295
 words_fit l f i = omega (arith, f i)
 
-module _ (b l : List ℕ) (line : Text) (out : Text) (at : ℕ) where
+module _ (b l : List ℕ) (line : Text) (out : Text) where
   -- the machine of a script is that of the store and its list
   as_machine : (c : Call) → RunReady b l → machine (capacity_of b) (tuples_of b) c (length l) ≡ machine script_records (tuples_of b) c script_places
   as_machine c R = ap₂ (λ (C room : ℕ). machine C (tuples_of b) c room) R.records R.places
@@ -53,22 +53,22 @@ module _ (b l : List ℕ) (line : Text) (out : Text) (at : ℕ) where
       ∙ ap (λ (r : Reading). (reading_outcome (tuples_of b) r).answer) (sym e)
 
   -- there is room for the answer of a call
-  pub call_printable : (c : Call) (a : Result Answer Refusal) (b' l' : List ℕ) → RunReady b l → OnStore stored b l c a b' l' → length l' ≡ length l → ((i : ℕ) → Fits w32 (get_or l' i 0)) → at + most_line ≤ length out
-      → Printable (answer_line (observed a l')) a l' out at
+  pub call_printable : (c : Call) (a : Result Answer Refusal) (b' l' : List ℕ) → RunReady b l → OnStore stored b l c a b' l' → length l' ≡ length l → ((i : ℕ) → Fits w32 (get_or l' i 0)) → most_line ≤ length out
+      → Printable (answer_line (observed a l')) a l' out 0
   call_printable c a b' l' R O k f room =
-      line_printable a l' out at (omega (arith, answer_within stored b l b' l' c a O k)) (omega (arith, R.places)) (words_fit l' f) room
+      line_printable a l' out (omega (arith, answer_within stored b l b' l' c a O k)) (omega (arith, R.places)) (words_fit l' f) room
 
-  pub call_run : (x : Reading) (c : Call) (a : Result Answer Refusal) (b' l' : List ℕ) (end : ℕ) (out' : Text) → RunReady b l → x ≡ read_line line → x ≡ Ok c → OnStore stored b l c a b' l' → length l' ≡ length l
-      → ((i : ℕ) → Fits w32 (get_or l' i 0)) → at + most_line ≤ length out → Put (answer_line (observed a l')) out at end out' → LineRun b l line out at b' l' end out'
-  call_run x c a b' l' end out' R d r O k f room P =
+  pub call_run : (x : Reading) (c : Call) (a : Result Answer Refusal) (b' l' : List ℕ) (count : ℕ) (out' : Text) → RunReady b l → x ≡ read_line line → x ≡ Ok c → OnStore stored b l c a b' l' → length l' ≡ length l
+      → ((i : ℕ) → Fits w32 (get_or l' i 0)) → most_line ≤ length out → AtFront (answer_line (observed a l')) out count out' → LineRun b l line out b' l' count out'
+  call_run x c a b' l' count out' R d r O k f room P =
       let e : read_line line ≡ Ok c = sym d ∙ r in
       record {
         called =
             subst (LineCalled b l b' l') (sym e)
             (call R.store (subst (λ (x : Result Answer Refusal). OnStore stored b l c x b' l') O.answer O));
         places = k;
-        put = subst (λ (r : Reply). Put (answer_line r) out at end out') (call_reply c a b' l' R e O) P;
-        within = omega (arith, P.place, (call_printable c a b' l' R O k f room).room);
+        put = subst (λ (r : Reply). AtFront (answer_line r) out count out') (call_reply c a b' l' R e O) P;
+        within = omega (arith, P.size, (call_printable c a b' l' R O k f room).room);
       }
 
   -- a line that does not read as a call
@@ -77,21 +77,21 @@ module _ (b l : List ℕ) (line : Text) (out : Text) (at : ℕ) where
   refused_reply condition e = ap (λ (r : Reading). (reading_outcome (tuples_of b) r).answer) (sym e)
 
   -- there is room for a refusal, whatever the list holds: its line is that with no list
-  pub refused_printable : (condition : Refusal) → at + most_line ≤ length out → Printable (answer_line (observed (Err condition) l)) (Err condition) l out at
+  pub refused_printable : (condition : Refusal) → most_line ≤ length out → Printable (answer_line (observed (Err condition) l)) (Err condition) l out 0
   unfolding observed list_count
   refused_printable condition room =
-      let P = line_printable (Err condition) [] out at (omega arith) (omega arith) (λ i. omega arith) room in
+      let P = line_printable (Err condition) [] out (omega arith) (omega arith) (λ i. omega arith) room in
       record { room = P.room; held = omega arith; counted = P.counted }
 
-  pub refused_run : (x : Reading) (condition : Refusal) (end : ℕ) (out' : Text) → x ≡ read_line line → x ≡ Err condition → at + most_line ≤ length out → Put (answer_line (observed (Err condition) l)) out at end out'
-      → LineRun b l line out at b l end out'
-  refused_run x condition end out' d r room P =
+  pub refused_run : (x : Reading) (condition : Refusal) (count : ℕ) (out' : Text) → x ≡ read_line line → x ≡ Err condition → most_line ≤ length out → AtFront (answer_line (observed (Err condition) l)) out count out'
+      → LineRun b l line out b l count out'
+  refused_run x condition count out' d r room P =
       let e : read_line line ≡ Err condition = sym d ∙ r in
       record {
         called = subst (LineCalled b l b l) (sym e) (no_call refl refl);
         places = refl;
-        put = subst (λ (r : Reply). Put (answer_line r) out at end out') (refused_reply condition e) P;
-        within = omega (arith, P.place, (refused_printable condition room).room);
+        put = subst (λ (r : Reply). AtFront (answer_line r) out count out') (refused_reply condition e) P;
+        within = omega (arith, P.size, (refused_printable condition room).room);
       }
 
 -- ---- what is left
@@ -100,7 +100,6 @@ module _ (b l : List ℕ) (line : Text) (out : Text) (at : ℕ) where
 pub record LineLeft (b l : List ℕ) (line : Text) (b' l' : List ℕ) : Type 0 where
   pub ready : RunReady b' l'
   pub state : tuples_of b' ≡ (line_outcome (tuples_of b) line).state
-  pub size : length b' ≡ length b
   pub list : l' ≡ line_list (tuples_of b) (read_line line) l
 
 module _ (b l : List ℕ) (R : RunReady b l) where
@@ -111,24 +110,22 @@ module _ (b l : List ℕ) (R : RunReady b l) where
         ready = record { store = O.store; records = capacity_length b b' O.size ∙ R.records; places = k ∙ R.places };
         state =
             O.state
-            ∙ ap (λ (o : Outcome). o.state) (as_machine b l line line 0 c R)
+            ∙ ap (λ (o : Outcome). o.state) (as_machine b l line line c R)
             ∙ ap (λ (r : Reading). (reading_outcome (tuples_of b) r).state) (sym e);
-        size = O.size;
         list =
             O.list
-            ∙ ap (λ (o : Outcome). list_after o.answer l) (as_machine b l line line 0 c R)
+            ∙ ap (λ (o : Outcome). list_after o.answer l) (as_machine b l line line c R)
             ∙ ap (λ (r : Reading). line_list (tuples_of b) r l) (sym e);
       }
   left_of (Err condition) line b' l' e k (no_call sb sl) =
       record {
         ready = subst (λ (x : List ℕ). RunReady x l') (sym sb) (subst (RunReady b) (sym sl) R);
         state = ap tuples_of sb ∙ ap (λ (r : Reading). (reading_outcome (tuples_of b) r).state) (sym e);
-        size = ap length sb;
         list = sl ∙ ap (λ (r : Reading). line_list (tuples_of b) r l) (sym e);
       }
 
-  pub line_left : (line out : Text) (at : ℕ) (b' l' : List ℕ) (end : ℕ) (out' : Text) → LineRun b l line out at b' l' end out' → LineLeft b l line b' l'
-  line_left line out at b' l' end out' L = left_of (read_line line) line b' l' refl L.places L.called
+  pub line_left : (line out : Text) (b' l' : List ℕ) (count : ℕ) (out' : Text) → LineRun b l line out b' l' count out' → LineLeft b l line b' l'
+  line_left line out b' l' count out' L = left_of (read_line line) line b' l' refl L.places L.called
 
 -- the line `R 11`
 pub refusal_length : length (answer_line (refusal Unreadable)) ≡ 5

@@ -1,5 +1,5 @@
 -- The lines of a script run on a store: one line, and as many lines as a block of output has room for.
-use Rattle.std.specs.Prelude.{true, cond, Ok, Err, List, [], ◌∷◌, ◌++◌, ◌≡◌, ℕ, ◌+◌, ◌-◌, ◌≤◌, ◌<◌, min, leb, ltb, length, drop}
+use Rattle.std.specs.Prelude.{true, cond, Ok, Err, List, [], ◌∷◌, ◌++◌, ◌≡◌, ℕ, ◌+◌, ◌-◌, ◌≤◌, ◌<◌, min, leb, length, drop}
 use Rattle.model.specs.declared.Call.{Call}
 use Rattle.model.specs.declared.Refusal.{Refusal}
 use Rattle.model.specs.Machine.{State, machine}
@@ -10,7 +10,7 @@ use Rattle.layouts.specs.Stored.{stored}
 use Rattle.text.specs.Bytes.{Text}
 use Rattle.lines.specs.Lines.{lines_of}
 use Rattle.lines.specs.Calls.{Reading, read_line}
-use Rattle.print.specs.Answers.{answer_line, Put, most_line}
+use Rattle.print.specs.Answers.{answer_line, AtFront, most_line}
 use Rattle.script.specs.declared.Block.{Block}
 use Rattle.script.specs.Scripts.{script_records, script_places, line_outcome, lines_final}
 
@@ -31,12 +31,12 @@ pub data LineCalled (b l : List ℕ) (b' l' : List ℕ) : Reading → Type 0 whe
 abbrev pub LineStep : List ℕ × List ℕ → Text → List ℕ × List ℕ → Type 0
 LineStep s line s' = LineCalled s.0 s.1 s'.0 s'.1 (read_line line)
 
--- a line that is run on a store: what it leaves of the store and the list, and its answer in the output
-pub record LineRun (b l : List ℕ) (line : Text) (out : Text) (at : ℕ) (b' l' : List ℕ) (end : ℕ) (out' : Text) : Type 0 where
+-- a line that is run on a store: what it leaves of the store and the list, and its answer of `count` bytes at the front of the output
+pub record LineRun (b l : List ℕ) (line : Text) (out : Text) (b' l' : List ℕ) (count : ℕ) (out' : Text) : Type 0 where
   pub called : LineCalled b l b' l' (read_line line)
   pub places : length l' ≡ length l
-  pub put : Put (answer_line (line_outcome (stored.state_of b) line).answer) out at end out'
-  pub within : end ≤ length out
+  pub put : AtFront (answer_line (line_outcome (stored.state_of b) line).answer) out count out'
+  pub within : count ≤ length out
 
 -- ---- as many lines as there is room for
 
@@ -80,24 +80,20 @@ run_lines room ts l (x ∷ xs) =
     (run_lines (room - length (answer_line (line_outcome ts x).answer)) (line_outcome ts x).state (line_list ts (read_line x) l) xs))
     (unrun ts l (x ∷ xs))
 
--- where the line behind one that ends at a place starts: behind its line feed, or at the script's end
-abbrev pub next_line : ℕ → ℕ → ℕ
-next_line size end = cond (ltb end size) (end + 1) end
-
--- the lines of a script from place `from` on, run on a store until the output has no room for a line; `r` names where the next line starts and how many bytes were put
-pub record BlockRun (u : Run) (b l : List ℕ) (script : Text) (from : ℕ) (out : Text) (r : Block) (b' l' : List ℕ) (out' : Text) : Type 0 where
+-- the lines of a script, run on a store until the output has no room for a line; `r` says how many bytes of the script were run and how many bytes were put out
+pub record BlockRun (u : Run) (b l : List ℕ) (script : Text) (out : Text) (r : Block) (b' l' : List ℕ) (out' : Text) : Type 0 where
   pub ready : RunReady b' l'
   -- the lines were run one after the other, so that all that holds of one call holds of each line that reads as one
   pub called : Trace LineStep (b, l) u.lines (b', l')
   pub state_left : stored.state_of b' ≡ u.state
   pub list_left : l' ≡ u.list
-  pub put : Put u.text out 0 r.length out'
+  pub put : AtFront u.text out r.length out'
   pub fits : r.length ≤ length out
-  -- behind the lines that were run; the last line of the script may lack its line feed
-  pub next : r.next ≡ min (from + lines_length u.lines) (length script)
-  pub rest : lines_of (drop r.next script) ≡ u.rest
+  -- the lines that were run; the last line of the script may lack its line feed
+  pub consumed : r.consumed ≡ min (lines_length u.lines) (length script)
+  pub rest : lines_of (drop r.consumed script) ≡ u.rest
   -- at least one line is run, where there is one and the output is long enough
-  pub forward : from < length script → most_line ≤ length out → from < r.next
+  pub forward : 0 < length script → most_line ≤ length out → 0 < r.consumed
 
 -- ---- a whole script
 

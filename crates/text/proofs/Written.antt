@@ -6,7 +6,7 @@ use native.Mathlib.Nat.{add-zero, add_assoc}
 use native.Mathlib.Omega.{arith}
 use native.Mathlib.Numerals.{add-one}
 use lib.ListN.{length, take, drop, set, length-append, length-drop, take-append-drop}
-use lib.Seq.{length-take-le, take-append_seam, take_at, drop-append-add, drop-drop, set-append_left, take-set-lt, take-suc-set}
+use lib.Seq.{length-take-le, take_at, drop-append-add, drop-drop, set-append_left, take-set-lt, take-suc-set}
 use Rattle.text.specs.Bytes.{Text, written}
 
 -- no text changes nothing
@@ -27,11 +27,6 @@ unfolding written
 take_written out at bs h =
     ap (take (at + length bs)) (sym (append_assoc (take at out) bs (drop (at + length bs) out)))
     ∙ take_at (take at out ++ bs) (drop (at + length bs) out) (at + length bs) (length-append (take at out) bs ∙ ap (λ (n : ℕ). n + length bs) (length-take-le at out h))
-
--- a text written from the first byte on
-pub take_first : (out bs : Text) → take (length bs) (written out 0 bs) ≡ bs
-unfolding written
-take_first out bs = take-append_seam bs (drop (0 + length bs) out)
 
 -- what stands behind the text
 pub drop_written : (out : Text) (at : ℕ) (bs : Text) (n : ℕ) → at ≤ length out → drop (at + length bs + n) (written out at bs) ≡ drop (at + length bs + n) out

@@ -11,5 +11,4 @@ pub returns : goal.returns
 returns c =
     let all = line_adds (observed c.args.a c.args.list.now) c.requires.room c.put_result.ensures c.put_byte.ensures in
     let lent = sym all.lent in
-    let put = all.put in
-    search (rules, line_done)
+    line_done _ _ _ _ _ all.put (search rules)

@@ -1,8 +1,8 @@
 use Rattle.run.proofs.Outcomes.{answers_short, lists_short, all_run}
 use Rattle.run.proofs.run_calls.Goals as goal
 
-pub returns-then-answers-count : goal.returns-then-answers-count
-returns-then-answers-count c = search answers_short
+pub returns-then-answers-calls : goal.returns-then-answers-calls
+returns-then-answers-calls c = search answers_short
 
 pub returns-then-not-lists_fit : goal.returns-then-not-lists_fit
 returns-then-not-lists_fit c = search lists_short

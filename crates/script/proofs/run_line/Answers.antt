@@ -1,12 +1,11 @@
-use native.Mathlib.Omega.{arith}
 use Rattle.script.proofs.LineRuns.{call_printable, call_run, refused_printable, refused_run}
 use borrow.Author.Rules.{rules}
 use Rattle.script.proofs.run_line.Goals as goal
 
 pub put_answer-requires : goal.put_answer-requires
 put_answer-requires c =
-    call_printable _ _ c.args.line.now _ _ _ _ _ _ c.requires.0 c.execute_known-answer.ensures c.execute_known-answer.auto.list
-    (search) (omega (arith, c.requires.1))
+    call_printable _ _ c.args.line.now _ _ _ _ _ c.requires.0 c.execute_known-answer.ensures c.execute_known-answer.auto.list
+    (search) c.requires.1
 
 pub put_answer-requires-in-Err : goal.put_answer-requires-in-Err
 put_answer-requires-in-Err c = search (rules, refused_printable)
