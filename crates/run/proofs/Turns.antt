@@ -25,7 +25,7 @@ use Rattle.model.proofs.CallLists.{answer_within}
 use Rattle.layouts.proofs.Sizes.{capacity_length}
 use Rattle.run.specs.Words.{words_in_answer, words_in_call, call_in, room_in, request_in, words_of_call, calls_from, answer_list}
 use Rattle.run.specs.Runs.{call_made, calls_made, answers_after, lists_after, rooms_of, LeftByRun, OneRun}
-use Rattle.run.proofs.WordLaws.{call_at, room_at, request_at, calls_start, calls_next, calls_end}
+use Rattle.run.proofs.WordLaws.{room_at, request_at, calls_start, calls_next, calls_end}
 use Rattle.run.proofs.Fits.{rooms_next}
 
 -- ---- one call
@@ -80,7 +80,11 @@ module _ (xs part : List ℕ) (at n : ℕ) (inside : at + n ≤ length xs) (size
 
 -- ---- the calls so far
 
--- the words of call i as they are lent
+-- call i of a list of calls
+abbrev call_at : List ℕ → ℕ → Call
+call_at ws i = call_in (words_of_call ws i)
+
+-- its words as they are lent
 abbrev pub call_lent : List ℕ → ℕ → List ℕ
 call_lent ws i = take (words_in_call * (i + 1) - words_in_call * i) (drop (words_in_call * i) ws)
 

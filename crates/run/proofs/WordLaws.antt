@@ -19,7 +19,7 @@ use Rattle.model.specs.Keys.{NIL}
 use Rattle.model.specs.Machine.{CallRequest}
 use Rattle.run.specs.declared.CallWords.{CallWords}
 use Rattle.run.specs.declared.AnswerWords.{AnswerWords}
-use Rattle.run.specs.Words.{words_in_call, name_in, value_of_form, space_of_form, call_of, call_in, room_in, request_in, words_of_call, calls_from, call_count, calls_in, kind_of, bit_of, first_of, second_of, answer_words, answer_in, answer_list}
+use Rattle.run.specs.Words.{words_in_call, name_in, value_of_form, space_of_form, call_of, room_in, request_in, words_of_call, calls_from, call_count, calls_in, kind_of, bit_of, first_of, second_of, answer_words, answer_in, answer_list}
 
 -- ---- a call
 
@@ -43,10 +43,7 @@ call_joined w n g m v s en eg em ev es =
 
 -- ---- the calls that are left
 
--- call i of a list of calls, and the length of its answer list
-abbrev pub call_at : List ℕ → ℕ → Call
-call_at ws i = call_in (words_of_call ws i)
-
+-- the length of the answer list of call i of a list of calls, and the call with it
 abbrev pub room_at : List ℕ → ℕ → ℕ
 room_at ws i = room_in (words_of_call ws i)
 

@@ -152,7 +152,7 @@ module _ (b₀ l₀ : List ℕ) (script : Text) (out₀ : Text) where
         run = S.run ∙ ap (run_before S.lines S.done) first ∙ before_twice S.lines (line ∷ []) S.done a later;
       }
 
-  -- the same, where the line was lent the output from place `size` on
+  -- the same, in the form in which `&mut out[size..]` is lent and put back
   pub run_turn : (b l : List ℕ) (at size : ℕ) (out line : Text) (b' l' : List ℕ) (count : ℕ) (part : Text) (next : ℕ)
       → Running b₀ l₀ script out₀ b l at size out → most_line ≤ length out - size
       → NextLine script at line next → LineRun b l line (take (length out - size) (drop size out)) b' l' count part
