@@ -1,4 +1,4 @@
-use Rattle.std.proofs.Common.{◌∙◌, ◌≤◌, arith}
+use Rattle.std.proofs.Common.{◌≤◌, arith}
 use Rattle.model.specs.Keys.{most_name}
 use Rattle.lines.proofs.ArgumentLaws.{argument_fits}
 use Rattle.lines.proofs.arguments.space_in.Goals as goal
