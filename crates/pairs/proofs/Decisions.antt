@@ -3,14 +3,14 @@ use mathlib.Core.Bool.{Bool, true, false, cond, not, false≢true}
 use mathlib.Core.List.{List, [], ◌∷◌, ◌++◌, map, map-append, cons-ne-nil}
 use mathlib.Core.Logic.{◌≢◌}
 use mathlib.Core.Option.{Option, none, some}
-use mathlib.Core.Path.{◌≡◌, refl, sym, ap, ap₂, ◌∙◌, subst₂}
+use mathlib.Core.Path.{◌≡◌, refl, sym, ap, ap₂, ◌∙◌, subst}
 use Prim.Native.Nat.{ℕ, zero, suc, ◌+◌, ◌≤◌, ◌<◌}
 use native.Mathlib.Omega.{arith}
 use lib.Dec.{eqb, leb, ltb}
 use lib.ListN.{length, drop, length-map}
 use borrow.Author.Tests.{eqb-true, eqb-false, ltb-true, ltb-false, lt-ltb, le-ltb, leb-true, leb-false}
 use denote.Enum.Bare.{same_true}
-use Rattle.std.specs.Prelude.{Result, Ok, Err, Some, Option as Maybe}
+use Rattle.std.specs.Prelude.{Result, Ok, Err, Some, None, Option as Maybe}
 use Rattle.std.specs.Option.{option_eq}
 use Rattle.std.specs.Result.{result_err}
 use Rattle.std.proofs.Common.{rules}
@@ -41,10 +41,9 @@ use Rattle.layouts.specs.Buffer.{capacity_of, tuples_of, is_store}
 use Rattle.layouts.specs.Stored.{stored}
 use Rattle.layouts.proofs.Stored.{stored_lawful}
 use Rattle.entries.specs.declared.Query.{Query}
-use Rattle.entries.specs.declared.Query.TheVariants.{Names}
-use Rattle.entries.specs.declared.NamesQuery.TheVariants.{Spaces}
 use Rattle.entries.specs.Queries.{queried, Readable}
 use Rattle.model.proofs.Counts.{listed_within}
+use Rattle.listings.specs.Lists.{query_of}
 use Rattle.listings.proofs.Asked.{asked_listed}
 use Rattle.listings.proofs.Stores.{store_readable, names_asked}
 use Rattle.pairs.specs.declared.Decision.{Decision}
@@ -146,10 +145,10 @@ module _ (C : ℕ) (ts : Tuples) (c : Call) where
 -- ---- a call that would list something
 
 -- it has an S operator, and its query lists what that does
-record Queried (ts : Tuples) (c : Call) : Type 0 where
+record Queried (ts : Tuples) (c : Call) (q : Query) : Type 0 where
   listing : Listing
   operator : operator_of c.operator ≡ Lists listing
-  same : queried (query_for c) ts ≡ listed listing (fields_of c) ts
+  same : queried q ts ≡ listed listing (fields_of c) ts
 
 lists : (op : Operator) (f : Fields) (ts : Tuples) (room : ℕ) → ltb room (length (would_list op f ts)) ≡ true → (l : Listing) × (op ≡ Lists l)
 unfolding would_list
@@ -160,20 +159,31 @@ lists (Exists o) f ts room e = absurd (omega (arith, ltb-true room 0 e))
 lists (Destroy r) f ts room e = absurd (omega (arith, ltb-true room 0 e))
 lists (Lists l) f ts room e = (l, refl)
 
-has_query : (ts : Tuples) (c : Call) (room : ℕ) → OnlyShort ts c room → Queried ts c
-unfolding list_short query_for operator_query
-has_query ts c room S =
-    let o = lists (operator_of c.operator) (fields_of c) ts room S.short in
-    let known = first_passed _ _ S.passes in
-    let names = names_asked o.0 c known.0 (first_passed _ _ known.1).0 o.1 in
-    record {
-      listing = o.0;
-      operator = o.1;
-      same = ap (λ (op : Operator). queried (operator_query op (fields_of c)) ts) o.1 ∙ asked_listed o.0 (fields_of c) ts names;
-    }
+module _ (ts : Tuples) (c : Call) (room : ℕ) (S : OnlyShort ts c room) where
+  its_listing : (l : Listing) × (operator_of c.operator ≡ Lists l)
+  unfolding list_short
+  its_listing = lists (operator_of c.operator) (fields_of c) ts room S.short
 
-module _ (ts : Tuples) (c : Call) (Q : Queried ts c) where
-  short_queried : (room : ℕ) → list_short (decoded c) ts room ≡ ltb room (length (queried (query_for c) ts))
+  its_query : query_for c ≡ Some (query_of its_listing.0 (fields_of c))
+  unfolding query_for operator_query
+  its_query = ap (λ (op : Operator). operator_query op (fields_of c)) its_listing.1
+
+  has_query : (q : Query) → query_for c ≡ Some q → Queried ts c q
+  has_query q K =
+      let known = first_passed _ _ S.passes in
+      let names = names_asked its_listing.0 c known.0 (first_passed _ _ known.1).0 its_listing.1 in
+      let own : q ≡ query_of its_listing.0 (fields_of c) = let e = sym K ∙ its_query in cc in
+      record {
+        listing = its_listing.0;
+        operator = its_listing.1;
+        same = ap (λ (x : Query). queried x ts) own ∙ asked_listed its_listing.0 (fields_of c) ts names;
+      }
+
+  no_query : query_for c ≡ None → ⊥
+  no_query K = let e : ◌≡◌ {A = Maybe Query} None (Some _) = sym K ∙ its_query in cc
+
+module _ (ts : Tuples) (c : Call) (q : Query) (Q : Queried ts c q) where
+  short_queried : (room : ℕ) → list_short (decoded c) ts room ≡ ltb room (length (queried q ts))
   unfolding list_short would_list
   short_queried room =
       ap (λ (op : Operator). ltb room (length (would_list op (fields_of c) ts))) Q.operator ∙ ap (λ (ps : List Pair). ltb room (length ps)) (sym Q.same)
@@ -186,7 +196,7 @@ module _ (ts : Tuples) (c : Call) (Q : Queried ts c) where
 
   -- and where nothing stops it, it lists the entries of its query
   lists_queried : (C room : ℕ) → selects_nothing c ≡ false → refusal_of C ts c room ≡ none
-      → (machine C ts c room).answer ≡ pairs (length (queried (query_for c) ts)) (queried (query_for c) ts)
+      → (machine C ts c room).answer ≡ pairs (length (queried q ts)) (queried q ts)
   unfolding machine outcome_of reply
   lists_queried C room N pass =
       ap (λ (r : Option Refusal). (outcome_of r ts c).answer) pass
@@ -196,33 +206,31 @@ module _ (ts : Tuples) (c : Call) (Q : Queried ts c) where
 
 -- ---- the query of a call
 
-pub query_told : (c : Call) (op : Operator) (f : Fields) (q : Query) → op ≡ operator_of c.operator → f ≡ fields_of c → q ≡ operator_query op f → q ≡ query_for c
+pub query_told : (c : Call) (op : Operator) (f : Fields) (q : Maybe Query) → op ≡ operator_of c.operator → f ≡ fields_of c → q ≡ operator_query op f → q ≡ query_for c
 unfolding query_for
 query_told c op f q O F K = K ∙ ap₂ operator_query O F
 
--- the queries of the operators below k, and as many queries of all spaces
-abbrev queries_below : Fields → ℕ → List Query
+-- the queries of the operators below k, and as often none
+abbrev queries_below : Fields → ℕ → List (Maybe Query)
 queries_below f zero = []
 queries_below f (suc k) = operator_query (operator_of k) f ∷ queries_below f k
 
-abbrev spaces_below : ℕ → List Query
-spaces_below zero = []
-spaces_below (suc k) = Names Spaces ∷ spaces_below k
+abbrev none_below : ℕ → List (Maybe Query)
+none_below zero = []
+none_below (suc k) = None ∷ none_below k
 
-below_same : (f : Fields) (k : ℕ) → queries_below f k ≡ spaces_below k → (i : ℕ) → i < k → operator_query (operator_of i) f ≡ Names Spaces
+below_same : (f : Fields) (k : ℕ) → queries_below f k ≡ none_below k → (i : ℕ) → i < k → operator_query (operator_of i) f ≡ None
 below_same f zero e i h = absurd (omega (arith, h))
 below_same f (suc k) e i h = go (eqb i k) refl (below_same f k (cc) i)
   where
-    go : (t : Bool) → eqb i k ≡ t → (i < k → operator_query (operator_of i) f ≡ Names Spaces) → operator_query (operator_of i) f ≡ Names Spaces
+    go : (t : Bool) → eqb i k ≡ t → (i < k → operator_query (operator_of i) f ≡ None) → operator_query (operator_of i) f ≡ None
     go true y rest = let z : i ≡ k = eqb-true i k y in cc
     go false y rest = let d : i ≡ k → ⊥ = eqb-false i k y in rest (omega (arith, h))
 
 -- no operator below 30 lists anything
-pub few_told : (c : Call) → c.operator < 30 → Names Spaces ≡ query_for c
+pub few_told : (c : Call) → c.operator < 30 → None ≡ query_for c
 unfolding query_for operator_query operator_of table
 few_told c h = sym (below_same (fields_of c) 30 refl c.operator h)
-
--- ---- has a list room for the entries of a query
 
 -- ---- what a call with no place for a list answers
 
@@ -265,12 +273,12 @@ unlisted C ts c room ws l =
 
 -- ---- a call that a shorter list alone would stop, with room for its entries
 
-module _ (b : List ℕ) (c : Call) (store : is_store b ≡ true) (less : ℕ) (S : OnlyShort (tuples_of b) c less) where
-  abbrev listing_call : Queried (tuples_of b) c
-  listing_call = has_query (tuples_of b) c less S
+module _ (b : List ℕ) (c : Call) (store : is_store b ≡ true) (less : ℕ) (S : OnlyShort (tuples_of b) c less) (q : Query) (K : query_for c ≡ Some q) where
+  abbrev listing_call : Queried (tuples_of b) c q
+  listing_call = has_query (tuples_of b) c less S q K
 
   abbrev entries : List Pair
-  entries = queried (query_for c) (tuples_of b)
+  entries = queried q (tuples_of b)
 
   -- nothing stops it
   none_stops : (room : ℕ) → length entries ≤ room → refusal_of (capacity_of b) (tuples_of b) c room ≡ none
@@ -278,11 +286,11 @@ module _ (b : List ℕ) (c : Call) (store : is_store b ≡ true) (less : ℕ) (S
   none_stops room h =
       let fits : length (tuples_of b) ≤ capacity_of b = omega (arith, stored_lawful.counted b store) in
       last_decide (capacity_of b) (tuples_of b) c room S.selects S.passes
-      ∙ ap₂ (λ (short fills : Bool). first (last short fills)) (short_queried (tuples_of b) c listing_call room ∙ le-ltb room (length entries) h)
-      (not_full (tuples_of b) c listing_call (capacity_of b) fits)
+      ∙ ap₂ (λ (short fills : Bool). first (last short fills)) (short_queried (tuples_of b) c q listing_call room ∙ le-ltb room (length entries) h)
+      (not_full (tuples_of b) c q listing_call (capacity_of b) fits)
 
   lists_entries : (room : ℕ) → length entries ≤ room → (machine (capacity_of b) (tuples_of b) c room).answer ≡ pairs (length entries) entries
-  lists_entries room h = lists_queried (tuples_of b) c listing_call (capacity_of b) room S.selects (none_stops room h)
+  lists_entries room h = lists_queried (tuples_of b) c q listing_call (capacity_of b) room S.selects (none_stops room h)
 
   listed_on_store : (l : List Pair) → length entries ≤ length l
       → OnStore stored b (map pack l) c (Ok (Counted (length entries))) b (map pack (entries ++ drop (length entries) l))
@@ -313,11 +321,11 @@ module _ (b : List ℕ) (c : Call) (store : is_store b ≡ true) (less : ℕ) (S
         listed = λ e. sym (ap (λ (r : Reply). pairs_after r l) (lists_entries (length l) h));
       }
 
-  with_room_lem : (room : ℕ) → length entries ≤ room → Decided b c room (Listed (query_for c)) b
+  with_room_lem : (room : ℕ) → length entries ≤ room → Decided b c room (Listed q) b
   unfolding decided_list decided_answer
   with_room_lem room h =
       record {
-        readable = λ q e. store_readable b store;
+        readable = λ x e. store_readable b store;
         fits = h;
         call = λ l size. listed_in_pairs l (omega (arith, h, size));
       }
@@ -403,25 +411,33 @@ module _ (b b' : List ℕ) (c : Call) (a : Result Answer Refusal) (one : OneCall
     pub refused_readable : Readable b'
     refused_readable = store_readable b' (one.on_store (refused_store R)).store
 
-    -- no S operator lists more entries than there are tuples
-    pub refused_few : (q : Query) → q ≡ query_for c → length (queried q (tuples_of b')) ≤ length (tuples_of b')
-    refused_few q K =
-        let Q = has_query ts c 0 (short_stops R) in
-        subst₂ (λ (x : Query) (w : List ℕ). length (queried x (tuples_of w)) ≤ length (tuples_of w)) (sym K) (sym (refused_unchanged R))
-        (omega (arith, ap length Q.same, listed_within ts Q.listing (fields_of c)))
+    -- it has a query
+    pub refused_asks : (r : Maybe Query) → r ≡ query_for c → r ≡ None → ⊥
+    refused_asks r e none_is = no_query ts c 0 (short_stops R) (sym e ∙ none_is)
 
-    module _ (room : ℕ) (q : Query) (K : q ≡ query_for c) (u : Bool) (U : u ≡ leb (length (queried q (tuples_of b'))) room) where
-      room_told : leb (length (queried (query_for c) ts)) room ≡ u
-      room_told = sym (U ∙ ap₂ (λ (x : Query) (w : List ℕ). leb (length (queried x (tuples_of w))) room) K (refused_unchanged R))
+    module _ (r : Maybe Query) (told : r ≡ query_for c) (q : Query) (is : r ≡ Some q) where
+      abbrev its : query_for c ≡ Some q
+      its = sym told ∙ is
 
-      pub refused_at_length : u ≡ false → Decided b c room (Answered a) b'
-      refused_at_length f =
-          let S = short_stops R in
-          let more = leb-false (length (queried (query_for c) ts)) room (room_told ∙ f) in
-          let short = short_queried ts c (has_query ts c 0 S) room ∙ lt-ltb room (length (queried (query_for c) ts)) more in
-          answered room (λ s. still_short C ts c room (record { selects = S.selects; passes = S.passes; short = short }) ∙ sym (still_short C ts c 0 S))
+      -- no S operator lists more entries than there are tuples
+      pub refused_few : length (queried q (tuples_of b')) ≤ length (tuples_of b')
+      refused_few =
+          let Q = has_query ts c 0 (short_stops R) q its in
+          subst (λ (w : List ℕ). length (queried q (tuples_of w)) ≤ length (tuples_of w)) (sym (refused_unchanged R))
+          (omega (arith, ap length Q.same, listed_within ts Q.listing (fields_of c)))
 
-      pub listed_at_length : u ≡ true → Decided b c room (Listed q) b'
-      listed_at_length f =
-          let fits = leb-true (length (queried (query_for c) ts)) room (room_told ∙ f) in
-          subst₂ (λ (x : Query) (w : List ℕ). Decided b c room (Listed x) w) (sym K) (sym (refused_unchanged R)) (with_room_lem b c (refused_store R) 0 (short_stops R) room fits)
+      module _ (room : ℕ) (u : Bool) (U : u ≡ leb (length (queried q (tuples_of b'))) room) where
+        room_told : leb (length (queried q ts)) room ≡ u
+        room_told = sym (U ∙ ap (λ (w : List ℕ). leb (length (queried q (tuples_of w))) room) (refused_unchanged R))
+
+        pub refused_at_length : u ≡ false → Decided b c room (Answered a) b'
+        refused_at_length f =
+            let S = short_stops R in
+            let more = leb-false (length (queried q ts)) room (room_told ∙ f) in
+            let short = short_queried ts c q (has_query ts c 0 S q its) room ∙ lt-ltb room (length (queried q ts)) more in
+            answered room (λ s. still_short C ts c room (record { selects = S.selects; passes = S.passes; short = short }) ∙ sym (still_short C ts c 0 S))
+
+        pub listed_at_length : u ≡ true → Decided b c room (Listed q) b'
+        listed_at_length f =
+            let fits = leb-true (length (queried q ts)) room (room_told ∙ f) in
+            subst (λ (w : List ℕ). Decided b c room (Listed q) w) (sym (refused_unchanged R)) (with_room_lem b c (refused_store R) 0 (short_stops R) q its room fits)

@@ -1,5 +1,5 @@
 -- What a call comes to before its list is written: the contract of decide.
-use Rattle.std.specs.Prelude.{List, [], ◌++◌, ◌≡◌, ℕ, ◌≤◌, length, drop, Result, Ok}
+use Rattle.std.specs.Prelude.{List, [], ◌++◌, ◌≡◌, ℕ, ◌≤◌, length, drop, Option, Some, None, Result, Ok}
 use Rattle.model.specs.declared.Answer.{Answer}
 use Rattle.model.specs.declared.Answer.TheVariants.{List as Counted}
 use Rattle.model.specs.declared.Call.{Call}
@@ -12,25 +12,23 @@ use Rattle.model.specs.Operators.{operator_of}
 use Rattle.model.specs.Steps.{fields_of}
 use Rattle.layouts.specs.Buffer.{tuples_of}
 use Rattle.entries.specs.declared.Query.{Query}
-use Rattle.entries.specs.declared.Query.TheVariants.{Names}
-use Rattle.entries.specs.declared.NamesQuery.TheVariants.{Spaces}
 use Rattle.entries.specs.Queries.{queried, Readable}
 use Rattle.listings.specs.Lists.{query_of}
 use Rattle.pairs.specs.declared.Decision.{Decision}
 use Rattle.pairs.specs.declared.Decision.TheVariants.{Answered, Listed}
 use Rattle.pairs.specs.InPairs.{CallInPairs}
 
--- the query of an S operator; what stands here for others has no effect
-unfoldable pub operator_query : Operator → Fields → Query
-operator_query (Create o) f = Names Spaces
-operator_query (Bind o) f = Names Spaces
-operator_query (Values o) f = Names Spaces
-operator_query (Exists o) f = Names Spaces
-operator_query (Destroy r) f = Names Spaces
-operator_query (Lists l) f = query_of l f
+-- the query of an S operator; none for others
+unfoldable pub operator_query : Operator → Fields → Option Query
+operator_query (Create o) f = None
+operator_query (Bind o) f = None
+operator_query (Values o) f = None
+operator_query (Exists o) f = None
+operator_query (Destroy r) f = None
+operator_query (Lists l) f = Some (query_of l f)
 
 -- that of a call
-unfoldable pub query_for : Call → Query
+unfoldable pub query_for : Call → Option Query
 query_for c = operator_query (operator_of c.operator) (fields_of c)
 
 -- what is listed, read from the buffer that the call leaves
@@ -51,8 +49,3 @@ pub record Decided (b : List ℕ) (c : Call) (room : ℕ) (o : Decision) (b' : L
   pub fits : length (decided_list b' o) ≤ room
   -- with the entries in the first places of a list of that length, and the rest as it was, it is the call in pairs
   pub call : (l : List Pair) → length l ≡ room → CallInPairs b l c (decided_answer b' o) b' (decided_list b' o ++ drop (length (decided_list b' o)) l)
-
--- the answer, where so many pairs were written
-unfoldable pub answer_with : Decision → ℕ → Result Answer Refusal
-answer_with (Answered a) k = a
-answer_with (Listed q) k = Ok (Counted k)

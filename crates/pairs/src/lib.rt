@@ -1,17 +1,16 @@
 #![tactic(auto)]
 // One call whose answer list is a lent list of pairs: the pairs are written straight to their places, one after the other.
-ghost use Rattle.std.specs.Prelude.{true, [], ◌≡◌, ◌≤◌, ◌-◌, leb, length};
+ghost use Rattle.std.specs.Prelude.{[], ◌≡◌, ◌≤◌, ◌-◌, leb, length, Some};
 ghost use Rattle.model.specs.OneCall.{OneCall};
 ghost use Rattle.layouts.specs.Buffer.{tuples_of};
 ghost use Rattle.layouts.specs.Stored.{stored};
-ghost use Rattle.entries.specs.Cursors.{entry_of, is_there};
 ghost use Rattle.entries.specs.Queries.{Readable, queried};
-ghost use Rattle.entries.specs.Lists.{Packable, GivenAs};
+ghost use Rattle.entries.specs.Lists.{query_list, Reached};
 ghost use Rattle.pairs.specs.InPairs.{CallInPairs};
-ghost use Rattle.pairs.specs.Decisions.{operator_query, query_for, decided_list, answer_with, Decided};
-ghost use Rattle.pairs.specs.WrittenPairs.{Listable, written_before, Standing, PairWritten, PairsWritten};
+ghost use Rattle.pairs.specs.Decisions.{operator_query, query_for, Decided};
+ghost use Rattle.pairs.specs.WrittenPairs.{PairWritten, PairsWritten};
 
-use entries::{NamesQuery, Progress, Query};
+use entries::{Entry, Progress, Query};
 use model::{Answer, Call, Fields, Operator, Pair, Refusal};
 
 // The number of the first operator that lists pairs, and of the first one behind those of pairs.
@@ -35,26 +34,26 @@ fn ask(store: &mut [u32], call: Call) -> Result<Answer, Refusal>
     calls::execute(store, call, &mut nowhere)
 }
 
-// The query of an S operator.
+// The query of an S operator; none for others.
 #[tactic(auto, unfolding(crate::specs::Decisions::operator_query))]
-fn query_in(op: Operator, f: Fields) -> Query
+fn query_in(op: Operator, f: Fields) -> Option<Query>
     ensures { result ≡ operator_query op f }
 {
     match op {
-        Operator::List(l) => listings::query_of(l, f),
-        _ => Query::Names(NamesQuery::Spaces),
+        Operator::List(l) => Some(listings::query_of(l, f)),
+        _ => None,
     }
 }
 
-// The query of a call that lists; of others, that of all spaces, without effect.
+// The query of a call that lists; none for others.
 #[tactic(auto, using(crate::proofs::Decisions::query_told, crate::proofs::Decisions::few_told))]
-fn query_for(call: Call) -> Query
+fn query_for(call: Call) -> Option<Query>
     ensures { result ≡ query_for call }
 {
     let o = call.operator;
     let f = operators::fields_of(call);
     if o < FIRST_LISTING {
-        return Query::Names(NamesQuery::Spaces);
+        return None;
     }
     if o < FIRST_OTHER {
         return query_in(operators::pair_listing(o), f);
@@ -81,35 +80,13 @@ fn decide(store: &mut [u32], call: Call, room: usize) -> Decision
     if answer.err() != Some(Refusal::ListTooShort) {
         return Decision::Answered(answer);
     }
-    let q = query_for(call);
+    let Some(q) = query_for(call) else {
+        return Decision::Answered(answer);
+    };
     if has_room(store, q, room) {
         return Decision::Listed(q);
     }
     Decision::Answered(answer)
-}
-
-// The first pair of a list, or its end.
-fn first_pair(b: &[u32], d: Decision) -> Progress
-    requires { Listable b.now d }
-    ensures standing { Standing b.now d result }
-    ensures written { written_before result ≡ 0 }
-{
-    match d {
-        Decision::Answered(_) => entries::lists::nothing(),
-        Decision::Listed(q) => entries::lists::next_entry(b, q, entries::lists::begin(b, 0, q)),
-    }
-}
-
-// The next pair of a list, or its end.
-fn next_pair(b: &[u32], d: Decision, p: Progress) -> Progress
-    requires { Listable b.now d × Standing b.now d p × (is_there (entry_of p.given) ≡ true) }
-    ensures standing { Standing b.now d result }
-    ensures written { written_before result ≡ p.done }
-{
-    match d {
-        Decision::Answered(_) => entries::lists::nothing(),
-        Decision::Listed(q) => entries::lists::next_entry(b, q, p),
-    }
 }
 
 // The place of the pair that was given last.
@@ -122,44 +99,34 @@ fn place_of(p: Progress) -> usize
 
 // Pair j + 1 written to its place, and the next one found.
 // Then the first j + 1 places hold the j + 1 least pairs, and all others what they held.
-#[tactic(auto, using(crate::proofs::WrittenPairs::some_done, crate::proofs::WrittenPairs::pair_written), unfolding(entries::specs::Cursors::entry_of, entries::specs::Cursors::is_there))]
-fn write_pair(b: &[u32], d: Decision, p: Progress, list: &mut [Pair]) -> Progress
-    requires { Listable b.now d × Standing b.now d p × (is_there (entry_of p.given) ≡ true) × (p.done ≤ length list.old) }
-    ensures { PairWritten b.now d p list.old result list.new }
+#[tactic(auto, using(crate::proofs::WrittenPairs::some_done, entries::proofs::Listed::given_packs))]
+fn write_pair(b: &[u32], q: Query, p: Progress, given: Entry, list: &mut [Pair]) -> Progress
+    requires { Readable b.now × Reached b.now q p × (p.given ≡ Some given) × (p.done ≤ length list.old) }
+    ensures { PairWritten b.now q p list.old result list.new }
 {
-    list[place_of(p)] = entries::lists::pair_given(p);
-    next_pair(b, d, p)
+    list[place_of(p)] = entries::lists::pair_of(given);
+    entries::lists::next_entry(b, q, p)
 }
 
 // All pairs written to the first places of the list, and their number; the rest stays.
-#[tactic(auto, unfolding(crate::specs::Decisions::decided_list))]
-fn write_pairs(b: &[u32], d: Decision, list: &mut [Pair]) -> usize
-    requires { Listable b.now d × (length (decided_list b.now d) ≤ length list.old) }
-    ensures { PairsWritten (decided_list b.now d) list.old result list.new }
+fn write_pairs(b: &[u32], q: Query, list: &mut [Pair]) -> usize
+    requires { Readable b.now × (length (query_list b.now q) ≤ length list.old) }
+    ensures { PairsWritten (query_list b.now q) list.old result list.new }
 {
-    let mut p = first_pair(b, d);
-    while entries::lists::is_given(p) {
-        p = write_pair(b, d, p, list);
+    let begun = entries::lists::begin(b, 0, q);
+    let mut p = entries::lists::next_entry(b, q, begun);
+    while let Some(given) = p.given {
+        p = write_pair(b, q, p, given, list);
     }
     p.done
-}
-
-// The answer, where so many pairs were written.
-#[tactic(auto, unfolding(crate::specs::Decisions::answer_with))]
-fn answer_with(d: Decision, k: usize) -> Result<Answer, Refusal>
-    ensures { result ≡ answer_with d k }
-{
-    match d {
-        Decision::Answered(a) => a,
-        Decision::Listed(_) => Ok(Answer::List(k)),
-    }
 }
 
 // One call on any buffer, with any numbers as operator and names and any list of pairs.
 pub fn execute_pairs(store: &mut [u32], call: Call, list: &mut [Pair]) -> Result<Answer, Refusal>
     ensures { CallInPairs store.old list.old call result store.new list.new }
 {
-    let d = decide(store, call, list.len());
-    let k = write_pairs(store, d, list);
-    answer_with(d, k)
+    match decide(store, call, list.len()) {
+        Decision::Answered(a) => a,
+        Decision::Listed(q) => Ok(Answer::List(write_pairs(store, q, list))),
+    }
 }

@@ -1,7 +1,11 @@
-use Rattle.pairs.proofs.Executed.{executed}
+use Rattle.pairs.proofs.Executed.{executed_answered, listed_readable, listed_fits, executed_listed}
 use Rattle.pairs.proofs.execute_pairs.Goals as goal
 
-pub returns : goal.returns
-returns c =
-    executed c.args.store.now c.args.call c.decide-d.result c.decide-d.new.store c.args.list.now c.decide-d.ensures c.write_pairs-k.result
-    c.write_pairs-k.new.list c.answer_with.result c.write_pairs-k.ensures c.answer_with.ensures
+pub returns-in-Answered : goal.returns-in-Answered
+returns-in-Answered c = search executed_answered
+
+pub write_pairs-requires : goal.write_pairs-requires
+write_pairs-requires c = (search listed_readable, search listed_fits)
+
+pub returns-in-Listed : goal.returns-in-Listed
+returns-in-Listed c = search executed_listed

@@ -1,31 +1,25 @@
-use mathlib.Core.Path.{◌≡◌, sym, ◌∙◌}
-use mathlib.Core.Bool.{true}
-use Rattle.entries.specs.Cursors.{entry_of, is_there}
-use Rattle.pairs.proofs.WrittenPairs.{all_pairs, turn_enough, turn_wrote, turn_falls}
+use Rattle.chain.proofs.Hints.{no_hint}
+use Rattle.pairs.proofs.WrittenPairs.{readable_linked, begun_reached, standing_start, turn_reached, turn_enough, turn_again, turn_falls, all_pairs}
+use borrow.Author.Rules.{rules}
 use Rattle.pairs.proofs.write_pairs.Goals as goal
 
+pub begin-begun-requires : goal.begin-begun-requires
+begin-begun-requires c = (search readable_linked, search no_hint)
+
+pub next_entry-p-requires : goal.next_entry-p-requires
+next_entry-p-requires c = (search rules, search begun_reached)
+
+pub loop-p-init : goal.loop-p-init
+loop-p-init c = search standing_start
+
 pub write_pair-p-requires : goal.write_pair-p-requires
-write_pair-p-requires c =
-    let there : is_there (entry_of c.loop-d.p.given) ≡ true = sym c.is_given.ensures ∙ c.loop-d-test.true in (
-      c.requires.0,
-      c.loop-d.invariant.0,
-      there,
-      turn_enough c.args.b.now c.args.d c.args.list.now c.loop-d.list c.loop-d.p c.loop-d.invariant.0 c.loop-d.invariant.1 there c.requires.1,
-    )
+write_pair-p-requires c = (search rules, search turn_reached, search rules, search turn_enough)
 
-pub loop-d-smaller : goal.loop-d-smaller
-loop-d-smaller c =
-    let there : is_there (entry_of c.loop-d.p.given) ≡ true = sym c.is_given.ensures ∙ c.loop-d-test.true in
-    turn_falls c.args.b.now c.args.d c.args.list.now c.loop-d.list c.loop-d.p c.loop-d.invariant.0 c.loop-d.invariant.1 there _ _ c.write_pair-p.ensures
+pub loop-p-smaller : goal.loop-p-smaller
+loop-p-smaller c = search turn_falls
 
-pub loop-d-preserved : goal.loop-d-preserved
-loop-d-preserved c =
-    let there : is_there (entry_of c.loop-d.p.given) ≡ true = sym c.is_given.ensures ∙ c.loop-d-test.true in (
-      c.write_pair-p.ensures.standing,
-      turn_wrote c.args.b.now c.args.d c.args.list.now c.loop-d.list c.loop-d.p c.loop-d.invariant.0 c.loop-d.invariant.1 there _ _ c.write_pair-p.ensures,
-    )
+pub loop-p-preserved : goal.loop-p-preserved
+loop-p-preserved c = search turn_again
 
 pub returns : goal.returns
-returns c =
-    all_pairs c.args.b.now c.args.d c.args.list.now c.loop-d.list c.loop-d.p c.loop-d.invariant.0 c.loop-d.invariant.1
-    (sym c.is_given.ensures ∙ c.loop-d-test.false)
+returns c = search all_pairs

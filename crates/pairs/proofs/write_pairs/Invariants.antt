@@ -1,11 +1,11 @@
-use Rattle.pairs.specs.Decisions.{decided_list}
-use Rattle.pairs.specs.WrittenPairs.{Standing, FirstPairs, written_before}
-use Rattle.pairs.proofs.WrittenPairs.{turns_left}
+use Prim.Native.Nat.{◌-◌}
+use lib.ListN.{length}
+use Rattle.entries.specs.Lists.{query_list}
+use Rattle.pairs.proofs.WrittenPairs.{Standing, written_before}
 use Rattle.pairs.proofs.write_pairs.Given as goal
 
--- the list stands before a pair, or at its end, and the pairs before that are written
-abbrev pub invariant-loop-d : goal.invariant-loop-d
-invariant-loop-d l = Standing l.b l.d l.p × FirstPairs (decided_list l.b l.d) (written_before l.p) l.initial.list l.list
+abbrev pub invariant-loop-p : goal.invariant-loop-p
+invariant-loop-p l = Standing l.b l.q l.initial.list l.list l.p
 
-abbrev pub decreases-loop-d : goal.decreases-loop-d
-decreases-loop-d l = turns_left (decided_list l.b l.d) l.p
+abbrev pub decreases-loop-p : goal.decreases-loop-p
+decreases-loop-p l = length (query_list l.b l.q) - written_before l.p
