@@ -25,9 +25,10 @@ use Rattle.model.specs.Machine.{Outcome, step, idle, outcome_of, machine}
 use Rattle.model.specs.OneCall.{answer_of, list_after, OnStore, OneCall}
 use Rattle.layouts.specs.Stored.{stored}
 use Rattle.model.proofs.Bools.{and_left, and_right, not_yes, not_no}
-use Rattle.model.proofs.Steps.{Passed, passed, agrees, agree, n_named, s_named, after_rules}
+use Rattle.model.proofs.Steps.{Passed, passed, agrees, agree, n_named, g_named, m_named, s_named, after_rules}
 use Rattle.model.proofs.Refusals.{stopped, idle_form}
 use Rattle.edit.proofs.Built.{store_tuples, edited_store}
+use Rattle.listings.proofs.Stores.{names_asked}
 use Rattle.removals.specs.Collected.{NamesIn}
 use Rattle.calls.specs.Perform.{ReadyFor, Ready, Performed}
 use Rattle.refusals.specs.declared.Admitted.{Admitted}
@@ -96,12 +97,13 @@ idle_known b l k x a t e T y X A =
 
 names_in : (r : Removal) (c : Call) → selects_nothing c ≡ false → zero_name c ≡ false → destroys_universe c ≡ false → agrees (Destroy r) c.operator ≡ true
     → NamesIn r (fields_of c)
-names_in (Removal.P d) c h e f a = tt
+names_in (Removal.P d) c h e f a =
+    (g_named c e (and_left (reads_of c.operator).g _ a), m_named c e (and_right (reads_of c.operator).g _ a))
 names_in (Removal.G d) c h e f a = tt
-names_in (Removal.GG d) c h e f a = tt
-names_in (Removal.GN d) c h e f a = tt
+names_in (Removal.GG d) c h e f a = g_named c e a
+names_in (Removal.GN d) c h e f a = m_named c e a
 names_in (Removal.N d) c h e f a = tt
-names_in (Removal.NG d) c h e f a = tt
+names_in (Removal.NG d) c h e f a = g_named c e a
 names_in Removal.UN c h e f a = n_named c e a
 names_in Removal.US c h e f a =
     s_named c h e f (and_left (reads_of c.operator).s _ a) (and_right (reads_of c.operator).s _ a)
@@ -121,8 +123,10 @@ ready_for b c room P = go (operator_of c.operator) refl
         record {
           named = names_in r c P.selects P.names P.universe (ap (λ (op : Operator). agrees op c.operator) (sym e) ∙ agree c P.operator);
         }
-    go (Lists l) e =
-        ltb-false room _ (sym (ap (λ (op : Operator). ltb room (length (would_list op (fields_of c) (tuples_of b)))) e) ∙ P.list)
+    go (Lists l) e = (
+      names_asked l c P.operator P.names e,
+      ltb-false room _ (sym (ap (λ (op : Operator). ltb room (length (would_list op (fields_of c) (tuples_of b)))) e) ∙ P.list),
+    )
 
 -- ---- a call that is looked up
 

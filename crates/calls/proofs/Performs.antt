@@ -23,6 +23,7 @@ use Rattle.model.proofs.Tuples.{length_add_all}
 use Rattle.model.proofs.Steps.{length_destroyed}
 use Rattle.entries.specs.Queries.{written_pairs}
 use Rattle.steps.specs.Objects.{Room, Bound}
+use Rattle.listings.specs.Lists.{NamesAsked}
 use Rattle.removals.specs.Collected.{NamesRead}
 use Rattle.calls.specs.Perform.{ReadyFor, Ready, Performed}
 
@@ -38,8 +39,11 @@ module _ (op : Operator) (f : Fields) (b : List ℕ) (room : ℕ) (h : Ready op 
   pub ready_destroy : (r : Removal) → op ≡ Destroy r → NamesRead r f
   ready_destroy r e = ready_of e
 
+  pub ready_names : (l : Listing) → op ≡ Lists l → NamesAsked l f
+  ready_names l e = (ready_of e).0
+
   pub ready_room : (l : Listing) → op ≡ Lists l → length (listed l f (tuples_of b)) ≤ room
-  ready_room l e = ready_of e
+  ready_room l e = (ready_of e).1
 
 -- ---- an operator's step
 

@@ -8,6 +8,7 @@ use Rattle.layouts.specs.Buffer.{tuples_of}
 use Rattle.model.specs.Steps.{created, listed, reply, after}
 use Rattle.model.specs.OneCall.{answer_of, list_after, writes}
 use Rattle.chain.specs.Links.{Edited}
+use Rattle.listings.specs.Lists.{NamesAsked}
 use Rattle.removals.specs.Collected.{NamesRead}
 use Rattle.steps.specs.Objects.{Room}
 
@@ -18,7 +19,7 @@ ReadyFor (Bind o) f b room = Unit {0}
 ReadyFor (Values o) f b room = Unit {0}
 ReadyFor (Exists o) f b room = Unit {0}
 ReadyFor (Destroy r) f b room = NamesRead r f
-ReadyFor (Lists l) f b room = length (listed l f (tuples_of b)) ≤ room
+ReadyFor (Lists l) f b room = NamesAsked l f × (length (listed l f (tuples_of b)) ≤ room)
 
 pub record Ready (op : Operator) (f : Fields) (b : List ℕ) (room : ℕ) : Type 0 where
   pub ready : ReadyFor op f b room

@@ -1,19 +1,19 @@
 -- What the order of two keys says of their parts.
-use mathlib.Core.Bool.{true, false≢true}
-use mathlib.Core.Logic.{◌⊎◌, inl, inr, ⊎_elim}
-use mathlib.Core.Path.{◌≡◌, refl, sym, ap, ◌∙◌}
+use mathlib.Core.Bool.{true, ◌||◌}
+use mathlib.Core.Logic.{◌⊎◌, inl, inr, ⊎_elim, ◌≢◌}
+use mathlib.Core.Path.{◌≡◌, refl, sym}
 use Prim.Native.Nat.{ℕ, ◌≤◌, ◌<◌, compare, Ordering}
 use native.Mathlib.Omega.{arith}
+use lib.Dec.{eqb}
 use borrow.Author.Tests.{eqb-true}
 use Rattle.model.specs.declared.Key.{Key}
 use Rattle.model.specs.declared.Pair.{Pair}
 use Rattle.model.specs.Ordered.{then_by}
 use Rattle.model.specs.Keys.{compare_keys}
 use Rattle.model.specs.Pairs.{edge_of, node_of}
-use Rattle.model.proofs.Bools.{and_left, and_right}
+use Rattle.model.proofs.Bools.{or_cases, and_left, and_right}
 use Rattle.model.proofs.Order.{lt≢gt, compare_eq, compare_lt}
-use Rattle.std.specs.Prelude.{Option, Some, None, is_some, is_none}
-use Rattle.taken.specs.Selections.{is_asked, passes}
+use Rattle.taken.specs.Selections.{passes}
 
 -- ---- parts of keys in order
 
@@ -44,24 +44,16 @@ module _ (k j : Key) (e : compare_keys k j ≡ Ordering.lt) where
         (λ r. ⊎_elim inl (λ t. inr (t.0, compare_lt k.m j.m t.1)) (then_lt k.g j.g _ r.1))
         (then_lt k.n j.n _ after_s)
 
--- ---- what is asked for tells of a pair that passes
+-- ---- what a code that is not 0 tells of its key
 
--- some name is asked for
-pub asked : (g : Option ℕ) → is_some g ≡ true → (x : ℕ) × (g ≡ Some x)
-asked None h = absurd (false≢true h)
-asked (Some x) h = (x, refl)
+pub passes_edge : (g m : ℕ) (p : Pair) → passes g m p ≡ true → g ≢ 0 → edge_of p ≡ g
+unfolding passes
+passes_edge g m p e d =
+    ⊎_elim (λ z. absurd (d (eqb-true g 0 z))) (λ f. eqb-true (edge_of p) g f)
+    (or_cases (eqb g 0) (eqb (edge_of p) g) (and_left (eqb g 0 || eqb (edge_of p) g) _ e))
 
--- none is
-pub not_asked : (g : Option ℕ) → is_none g ≡ true → g ≡ None
-not_asked None h = refl
-not_asked (Some x) h = absurd (false≢true h)
-
-pub passes_edge : (g m : Option ℕ) (p : Pair) → passes g m p ≡ true → (x : ℕ) → g ≡ Some x → edge_of p ≡ x
-unfolding passes is_asked
-passes_edge g m p e x h =
-    eqb-true (edge_of p) x (ap (λ (y : Option ℕ). is_asked y (edge_of p)) (sym h) ∙ and_left (is_asked g (edge_of p)) _ e)
-
-pub passes_node : (g m : Option ℕ) (p : Pair) → passes g m p ≡ true → (x : ℕ) → m ≡ Some x → node_of p ≡ x
-unfolding passes is_asked
-passes_node g m p e x h =
-    eqb-true (node_of p) x (ap (λ (y : Option ℕ). is_asked y (node_of p)) (sym h) ∙ and_right (is_asked g (edge_of p)) _ e)
+pub passes_node : (g m : ℕ) (p : Pair) → passes g m p ≡ true → m ≢ 0 → node_of p ≡ m
+unfolding passes
+passes_node g m p e d =
+    ⊎_elim (λ z. absurd (d (eqb-true m 0 z))) (λ f. eqb-true (node_of p) m f)
+    (or_cases (eqb m 0) (eqb (node_of p) m) (and_right (eqb g 0 || eqb (edge_of p) g) _ e))

@@ -8,7 +8,6 @@ use native.Mathlib.Omega.{arith}
 use lib.Dec.{eqb, leb, ltb}
 use borrow.Author.Tests.{leb-true, le-ltb}
 use lib.ListN.{length}
-use Rattle.std.specs.Prelude.{Option, Some, None}
 use Rattle.model.specs.declared.Fields.{Fields}
 use Rattle.model.specs.declared.Direction.{Direction}
 use Rattle.model.specs.declared.Direction.TheVariants.{Outpointing, Inpointing, Adjacent}
@@ -36,7 +35,7 @@ use Rattle.located.specs.Located.{NearIn}
 use Rattle.chain.specs.Links.{Hint}
 use Rattle.chain.proofs.Hints.{no_hint}
 use Rattle.taken.proofs.Passes.{passes_any, passes_edge, passes_node}
-use Rattle.listings.specs.Lists.{pairs_hint, list_hint, pair_query, query_of}
+use Rattle.listings.specs.Lists.{pairs_hint, list_hint, pair_query, query_of, NamesAsked}
 
 -- ---- sorting again
 
@@ -141,27 +140,27 @@ unfolding only
 only_all [] = refl
 only_all (p ∷ ps) = ap (λ (rs : List Pair). p ∷ rs) (only_all ps)
 
-any_passes : (ps : List Pair) → only (passes None None) ps ≡ ps
-any_passes ps = same_only (passes None None) (λ (p : Pair). true) ps passes_any ∙ only_all ps
+any_passes : (ps : List Pair) → only (passes 0 0) ps ≡ ps
+any_passes ps = same_only (passes 0 0) (λ (p : Pair). true) ps passes_any ∙ only_all ps
 
 whole_pairs : (ps : List Pair) → map (part_of Both) ps ≡ ps
 unfolding part_of
 whole_pairs [] = refl
 whole_pairs (p ∷ ps) = ap (λ (rs : List Pair). p ∷ rs) (whole_pairs ps)
 
-pairs_listed : (d : Direction) (s n : ℕ) (ts : Tuples) → queried (Pairs (pair_query d s n None None Both)) ts ≡ pairs_of d s n ts
+pairs_listed : (d : Direction) (s n : ℕ) (ts : Tuples) → queried (Pairs (pair_query d s n 0 0 Both)) ts ≡ pairs_of d s n ts
 unfolding pairs_of
 pairs_listed d s n ts =
-    pairs_queried (pair_query d s n None None Both) ts
-    ∙ ap ascending (whole_pairs (only (passes None None) (pairs_of d s n ts)) ∙ any_passes (pairs_of d s n ts))
+    pairs_queried (pair_query d s n 0 0 Both) ts
+    ∙ ap ascending (whole_pairs (only (passes 0 0) (pairs_of d s n ts)) ∙ any_passes (pairs_of d s n ts))
     ∙ sorted_twice _
 
-edges_listed : (d : Direction) (s n : ℕ) (g m : Option ℕ) (ts : Tuples)
+edges_listed : (d : Direction) (s n g m : ℕ) (ts : Tuples)
     → queried (Pairs (pair_query d s n g m Edge)) ts ≡ edge_names (only (passes g m) (pairs_of d s n ts))
 unfolding edge_names part_of
 edges_listed d s n g m ts = pairs_queried (pair_query d s n g m Edge) ts
 
-nodes_listed : (d : Direction) (s n : ℕ) (g m : Option ℕ) (ts : Tuples)
+nodes_listed : (d : Direction) (s n g m : ℕ) (ts : Tuples)
     → queried (Pairs (pair_query d s n g m Node)) ts ≡ node_names (only (passes g m) (pairs_of d s n ts))
 unfolding node_names part_of
 nodes_listed d s n g m ts = pairs_queried (pair_query d s n g m Node) ts
@@ -171,39 +170,39 @@ gather_first : (f : Key → List Pair) (ts : Tuples) → gather (λ (k : Key). f
 gather_first f ts = λ i. gather (λ (k : Key). append-nil (f k) i) ts
 
 -- the theorem: a query lists what its operator does
-pub asked_listed : (l : Listing) (f : Fields) (ts : Tuples) → queried (query_of l f) ts ≡ listed l f ts
+pub asked_listed : (l : Listing) (f : Fields) (ts : Tuples) → NamesAsked l f → queried (query_of l f) ts ≡ listed l f ts
 unfolding query_of listed queried nodes_in spaces_in spaces_with first_at name_at second_at
-asked_listed (Listing.P d) f ts = pairs_listed d f.s f.n ts
-asked_listed (Listing.G d) f ts =
-    edges_listed d f.s f.n None None ts ∙ ap edge_names (any_passes (pairs_of d f.s f.n ts))
-asked_listed (Listing.GN d) f ts =
-    edges_listed d f.s f.n None (Some f.m) ts
-    ∙ ap edge_names (same_only (passes None (Some f.m)) _ (pairs_of d f.s f.n ts) (passes_node f.m))
-asked_listed (Listing.N d) f ts =
-    nodes_listed d f.s f.n None None ts ∙ ap node_names (any_passes (pairs_of d f.s f.n ts))
-asked_listed (Listing.NG d) f ts =
-    nodes_listed d f.s f.n (Some f.g) None ts
-    ∙ ap node_names (same_only (passes (Some f.g) None) _ (pairs_of d f.s f.n ts) (passes_edge f.g))
-asked_listed Listing.UN f ts = ap ascending (gather_first (first_at (Names (Nodes f.s))) ts)
-asked_listed Listing.US f ts = ap ascending (gather_first (first_at (Names Spaces)) ts)
-asked_listed Listing.USn f ts = ap ascending (gather_first (first_at (Names (SpacesOf f.n))) ts)
+asked_listed (Listing.P d) f ts h = pairs_listed d f.s f.n ts
+asked_listed (Listing.G d) f ts h =
+    edges_listed d f.s f.n 0 0 ts ∙ ap edge_names (any_passes (pairs_of d f.s f.n ts))
+asked_listed (Listing.GN d) f ts h =
+    edges_listed d f.s f.n 0 f.m ts
+    ∙ ap edge_names (same_only (passes 0 f.m) _ (pairs_of d f.s f.n ts) (passes_node f.m h))
+asked_listed (Listing.N d) f ts h =
+    nodes_listed d f.s f.n 0 0 ts ∙ ap node_names (any_passes (pairs_of d f.s f.n ts))
+asked_listed (Listing.NG d) f ts h =
+    nodes_listed d f.s f.n f.g 0 ts
+    ∙ ap node_names (same_only (passes f.g 0) _ (pairs_of d f.s f.n ts) (passes_edge f.g h))
+asked_listed Listing.UN f ts h = ap ascending (gather_first (first_at (Names (Nodes f.s))) ts)
+asked_listed Listing.US f ts h = ap ascending (gather_first (first_at (Names Spaces)) ts)
+asked_listed Listing.USn f ts h = ap ascending (gather_first (first_at (Names (SpacesOf f.n))) ts)
 
 -- ---- the list of the query that a function learnt
 
-told_listed : (l : Listing) (f : Fields) (q : Query) (ts : Tuples) → q ≡ query_of l f → queried q ts ≡ listed l f ts
-told_listed l f q ts e = ap (λ (x : Query). queried x ts) e ∙ asked_listed l f ts
+told_listed : (l : Listing) (f : Fields) (q : Query) (ts : Tuples) → NamesAsked l f → q ≡ query_of l f → queried q ts ≡ listed l f ts
+told_listed l f q ts h e = ap (λ (x : Query). queried x ts) e ∙ asked_listed l f ts h
 
-pub told_count : (l : Listing) (f : Fields) (q : Query) (ts : Tuples) (k : ℕ) → q ≡ query_of l f → k ≡ length (queried q ts)
+pub told_count : (l : Listing) (f : Fields) (q : Query) (ts : Tuples) (k : ℕ) → NamesAsked l f → q ≡ query_of l f → k ≡ length (queried q ts)
     → k ≡ length (listed l f ts)
-told_count l f q ts k e K = K ∙ ap (λ (ps : List Pair). length ps) (told_listed l f q ts e)
+told_count l f q ts k h e K = K ∙ ap (λ (ps : List Pair). length ps) (told_listed l f q ts h e)
 
-pub told_room : (l : Listing) (f : Fields) (q : Query) (ts : Tuples) (room : ℕ) → q ≡ query_of l f
+pub told_room : (l : Listing) (f : Fields) (q : Query) (ts : Tuples) (room : ℕ) → NamesAsked l f → q ≡ query_of l f
     → length (listed l f ts) ≤ room → length (queried q ts) ≤ room
-told_room l f q ts room e = subst (λ (ps : List Pair). length ps ≤ room) (sym (told_listed l f q ts e))
+told_room l f q ts room h e = subst (λ (ps : List Pair). length ps ≤ room) (sym (told_listed l f q ts h e))
 
-pub told_written : (l : Listing) (f : Fields) (q : Query) (ts : Tuples) (list list' : List ℕ) → q ≡ query_of l f
+pub told_written : (l : Listing) (f : Fields) (q : Query) (ts : Tuples) (list list' : List ℕ) → NamesAsked l f → q ≡ query_of l f
     → list' ≡ written_pairs (queried q ts) list → list' ≡ written_pairs (listed l f ts) list
-told_written l f q ts list list' e W = W ∙ ap (λ (ps : List Pair). written_pairs ps list) (told_listed l f q ts e)
+told_written l f q ts list list' h e W = W ∙ ap (λ (ps : List Pair). written_pairs ps list) (told_listed l f q ts h e)
 
 -- ---- what a function answers once it knows which operator it has
 

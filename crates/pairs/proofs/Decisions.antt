@@ -45,7 +45,7 @@ use Rattle.entries.specs.Queries.{queried, Readable}
 use Rattle.model.proofs.Counts.{listed_within}
 use Rattle.listings.specs.Lists.{query_of}
 use Rattle.listings.proofs.Asked.{asked_listed}
-use Rattle.listings.proofs.Stores.{store_readable}
+use Rattle.listings.proofs.Stores.{store_readable, names_asked}
 use Rattle.operators.specs.Known.{known_operator}
 use Rattle.operators.proofs.Known.{known_some}
 use Rattle.pairs.specs.declared.Decision.{Decision}
@@ -175,11 +175,13 @@ module _ (ts : Tuples) (c : Call) (room : ℕ) (S : OnlyShort ts c room) where
 
   has_query : (q : Query) → query_for c ≡ Some q → Queried ts c q
   has_query q K =
+      let known = first_passed _ _ S.passes in
+      let names = names_asked its_listing.0 c known.0 (first_passed _ _ known.1).0 its_listing.1 in
       let own : q ≡ query_of its_listing.0 (fields_of c) = let e = sym K ∙ its_query in cc in
       record {
         listing = its_listing.0;
         operator = its_listing.1;
-        same = ap (λ (x : Query). queried x ts) own ∙ asked_listed its_listing.0 (fields_of c) ts;
+        same = ap (λ (x : Query). queried x ts) own ∙ asked_listed its_listing.0 (fields_of c) ts names;
       }
 
   no_query : query_for c ≡ None → ⊥

@@ -2,7 +2,7 @@
 use mathlib.Core.Bool.{Bool, true, false, cond}
 use mathlib.Core.List.{List, [], ◌∷◌, ◌++◌}
 use mathlib.Core.Option.{Option, none, some}
-use mathlib.Core.Path.{◌≡◌, refl, sym, ap, ap₂, ◌∙◌}
+use mathlib.Core.Path.{◌≡◌, refl, sym, ap, ap₂, ◌∙◌, subst}
 use Prim.Native.Nat.{ℕ, suc, ◌+◌, ◌-◌, ◌≤◌}
 use native.Mathlib.Omega.{arith}
 use lib.Dec.{ltb}
@@ -12,6 +12,7 @@ use Rattle.std.specs.Prelude.{Result, Ok, Err}
 use Rattle.model.specs.declared.Call.{Call}
 use Rattle.model.specs.declared.Decoded.{Decoded}
 use Rattle.model.specs.declared.Key.{Key}
+use Rattle.model.specs.declared.Listing.{Listing}
 use Rattle.model.specs.declared.Operator.{Operator}
 use Rattle.model.specs.declared.Direction.TheVariants.{Outpointing, Inpointing, Adjacent}
 use Rattle.model.specs.declared.Object.{Object}
@@ -28,7 +29,9 @@ use Rattle.model.proofs.Bools.{equal}
 use Rattle.layouts.proofs.Store.{tuples_fit}
 use Rattle.model.proofs.Refusals.{first_none, first_some, not_looked_up}
 use Rattle.chain.specs.Links.{Linked}
-use Rattle.refusals.specs.Checks.{checked, of_store}
+use Rattle.listings.specs.Lists.{NamesAsked}
+use Rattle.listings.proofs.Stores.{names_asked}
+use Rattle.refusals.specs.Checks.{checked, of_store, Unstopped}
 
 -- ---- the first condition that applies, one after the other
 
@@ -109,6 +112,12 @@ short_as d op ts room x K X = X ∙ ap (λ (o : Operator). ltb room (length (wou
 pub never_short : (d : Decoded) (op : Operator) (ts : Tuples) (room : ℕ) → d.operator ≡ op → would_list op d.fields ts ≡ [] → false ≡ list_short d ts room
 never_short d op ts room K e =
     short_as d op ts room false K (sym (ap (λ (ps : List Pair). ltb room (length ps)) e ∙ le-ltb room 0 (omega arith)))
+
+-- the names that an S operator asks for
+pub short_names : (d : Decoded) (l : Listing) → Unstopped d → d.operator ≡ Lists l → NamesAsked l d.fields
+short_names d l U K =
+    subst (λ (x : Decoded). NamesAsked l x.fields) (sym U.same)
+    (names_asked l U.call U.known U.named (sym (ap (λ (x : Decoded). x.operator) U.same) ∙ K))
 
 -- ---- 10
 

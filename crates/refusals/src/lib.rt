@@ -9,6 +9,7 @@ ghost use Rattle.model.specs.Steps.{listed, would_add};
 ghost use Rattle.model.specs.Refusals.{first, space_absent, node_absent, second_absent, worked_on, edge_absent, list_short, full, of_call};
 ghost use Rattle.layouts.specs.Buffer.{capacity_of, tuples_of, is_store};
 ghost use Rattle.chain.specs.Links.{Linked, Hint};
+ghost use Rattle.listings.specs.Lists.{NamesAsked};
 ghost use Rattle.located.specs.Located.{NearIn, Told};
 ghost use Rattle.refusals.specs.Checks.{checked, of_store, of_step};
 
@@ -113,7 +114,7 @@ fn edge_absent(b: &[u32], d: Decoded, near: Near) -> bool
 
 // Condition 9 for an S operator: the entries are counted only where the tuples could give more than the list holds.
 fn list_short(b: &[u32], near: Near, l: Listing, f: Fields, room: usize) -> bool
-    requires { (is_store b.now ≡ true) × NearIn b.now near }
+    requires { (is_store b.now ≡ true) × NearIn b.now near × NamesAsked l f }
     ensures { result ≡ ltb room (length (listed l f (tuples_of b.now))) }
 {
     if listings::surely_fits(b, room) {
@@ -124,10 +125,11 @@ fn list_short(b: &[u32], near: Near, l: Listing, f: Fields, room: usize) -> bool
 
 // Condition 9: the answer list is shorter than what the call would list; that is nothing but for S.
 #[tactic(auto, unfolding(model::specs::Refusals::list_short, model::specs::Steps::would_list))]
-fn is_short(b: &[u32], near: Near, d: Decoded, room: usize) -> bool
+fn is_short(b: &[u32], near: Near, a: Admitted, room: usize) -> bool
     requires { (is_store b.now ≡ true) × NearIn b.now near }
-    ensures { result ≡ list_short d (tuples_of b.now) room }
+    ensures { result ≡ list_short a.known.decoded (tuples_of b.now) room }
 {
+    let d = a.known.decoded;
     match d.operator {
         Operator::List(l) => list_short(b, near, l, d.fields, room),
         _ => false,
@@ -171,17 +173,23 @@ fn is_full(b: &[u32], near: Near, universe: Near, d: Decoded) -> bool
 
 // Conditions 8 to 10 on a store: the first that stops the call is the error.
 #[tactic(auto, unfolding(layouts::specs::Buffer::capacity_of, crate::specs::Checks::checked, model::specs::Refusals::first, layouts::specs::Buffer::is_store))]
-fn check_step(b: &[u32], d: Decoded, near: Near, universe: Near, room: usize) -> Result<(), Refusal>
+fn check_step(
+    b: &[u32],
+    a: Admitted,
+    near: Near,
+    universe: Near,
+    room: usize,
+) -> Result<(), Refusal>
     requires { (is_store b.now ≡ true) × NearIn b.now near × NearIn b.now universe }
-    ensures { result ≡ checked (first (of_step (capacity_of b.now) (tuples_of b.now) d room)) }
+    ensures { result ≡ checked (first (of_step (capacity_of b.now) (tuples_of b.now) a.known.decoded room)) }
 {
-    if edge_absent(b, d, near) {
+    if edge_absent(b, a.known.decoded, near) {
         return Err(Refusal::EdgeAbsent);
     }
-    if is_short(b, near, d, room) {
+    if is_short(b, near, a, room) {
         return Err(Refusal::ListTooShort);
     }
-    if is_full(b, near, universe, d) {
+    if is_full(b, near, universe, a.known.decoded) {
         return Err(Refusal::Full);
     }
     Ok(())
@@ -209,5 +217,5 @@ pub fn check_store(
     if second_absent(b, a, l) {
         return Err(Refusal::SecondAbsent);
     }
-    check_step(b, a.known.decoded, l.near, universe, room)
+    check_step(b, a, l.near, universe, room)
 }

@@ -26,7 +26,7 @@ use Rattle.entries.specs.declared.lists.TheConstants.{MOST_LISTED}
 use Rattle.entries.proofs.Counted.{entries_most}
 use Rattle.model.specs.declared.Fields.{Fields}
 use Rattle.steps.proofs.Named.{edited_twice}
-use Rattle.listings.specs.Lists.{query_of}
+use Rattle.listings.specs.Lists.{query_of, NamesAsked}
 use Rattle.listings.proofs.Asked.{asked_listed}
 use Rattle.removals.specs.Collected.{remove_each, Named, NodeEntry, NodesListed}
 
@@ -110,8 +110,8 @@ module _ (ps : List Pair) (l₀ l : List ℕ) (count : ℕ) (e : l ≡ written_p
   collected_removed {b} {b'} s h E =
       subst (Edited b b') (ap (λ (xs : List ℕ). remove_each s xs (tuples_of b)) collected ∙ each_node s ps (tuples_of b) h) E
 
-pub listed_most : {b : List ℕ} (l : Listing) (f : Fields) → Readable b → length (listed l f (tuples_of b)) ≤ MOST_LISTED
-listed_most {b} l f R = subst (λ (ps : List Pair). length ps ≤ MOST_LISTED) (asked_listed l f (tuples_of b)) (entries_most b (query_of l f) R)
+pub listed_most : {b : List ℕ} (l : Listing) (f : Fields) → Readable b → NamesAsked l f → length (listed l f (tuples_of b)) ≤ MOST_LISTED
+listed_most {b} l f R asked = subst (λ (ps : List Pair). length ps ≤ MOST_LISTED) (asked_listed l f (tuples_of b) asked) (entries_most b (query_of l f) R)
 
 -- ---- the nodes of pairs
 

@@ -1,10 +1,9 @@
--- One removal of edges, with what is asked for, is what each D operator takes (`destroyed`).
+-- One removal with 0 for "any" is what each D operator takes (`destroyed`).
 use mathlib.Core.Bool.{Bool}
 use mathlib.Core.Logic.{◌≢◌}
 use mathlib.Core.Path.{◌≡◌, sym, ap, ◌∙◌, subst}
 use mathlib.Core.List.{List}
 use Prim.Native.Nat.{ℕ}
-use Rattle.std.specs.Prelude.{Some, None}
 use Rattle.layouts.specs.Buffer.{tuples_of}
 use Rattle.chain.specs.Links.{Edited}
 use Rattle.model.specs.declared.Fields.{Fields}
@@ -38,6 +37,9 @@ module _ (r : Removal) (f : Fields) (h : NamesRead r f) where
   pub space_named : r ≡ Removal.US → f.s ≢ 0
   space_named e = names_of e
 
+  pub edge_named : (d : Direction) → r ≡ Removal.NG d → f.g ≢ 0
+  edge_named d e = names_of e
+
   module _ {b b' : List ℕ} where
     pub left_as : (x : Removal) → r ≡ x → Edited b b' (destroyed x f (tuples_of b)) → Edited b b' (destroyed r f (tuples_of b))
     left_as x e D = subst (λ (y : Removal). Edited b b' (destroyed y f (tuples_of b))) (sym e) D
@@ -48,22 +50,22 @@ module _ (r : Removal) (f : Fields) (h : NamesRead r f) where
     by_test d e x q E same D =
         subst (Edited b b') (ap (λ (y : EdgesOf). removed_by y (tuples_of b)) E ∙ same_test x.d x.s x.n (passes x.g x.m) q (tuples_of b) same) D
 
-    pub pair_removed : (d : Direction) (e : EdgesOf) → r ≡ Removal.P d → e ≡ edges_of d f (Some f.g) (Some f.m)
+    pub pair_removed : (d : Direction) (e : EdgesOf) → r ≡ Removal.P d → e ≡ edges_of d f f.g f.m
         → Edited b b' (removed_by e (tuples_of b)) → Edited b b' (destroyed r f (tuples_of b))
     unfolding destroyed
-    pair_removed d e is E D = left_as _ is (by_test d e (edges_of d f (Some f.g) (Some f.m)) _ E (passes_both f.g f.m) D)
+    pair_removed d e is E D = left_as _ is (by_test d e (edges_of d f f.g f.m) _ E (passes_both f.g f.m (names_of is).0 (names_of is).1) D)
 
-    pub edges_removed : (d : Direction) (e : EdgesOf) → r ≡ Removal.G d → e ≡ edges_of d f None None
+    pub edges_removed : (d : Direction) (e : EdgesOf) → r ≡ Removal.G d → e ≡ edges_of d f 0 0
         → Edited b b' (removed_by e (tuples_of b)) → Edited b b' (destroyed r f (tuples_of b))
     unfolding destroyed
-    edges_removed d e is E D = left_as _ is (by_test d e (edges_of d f None None) _ E passes_any D)
+    edges_removed d e is E D = left_as _ is (by_test d e (edges_of d f 0 0) _ E passes_any D)
 
-    pub named_removed : (d : Direction) (e : EdgesOf) → r ≡ Removal.GG d → e ≡ edges_of d f (Some f.g) None
+    pub named_removed : (d : Direction) (e : EdgesOf) → r ≡ Removal.GG d → e ≡ edges_of d f f.g 0
         → Edited b b' (removed_by e (tuples_of b)) → Edited b b' (destroyed r f (tuples_of b))
     unfolding destroyed
-    named_removed d e is E D = left_as _ is (by_test d e (edges_of d f (Some f.g) None) _ E (passes_edge f.g) D)
+    named_removed d e is E D = left_as _ is (by_test d e (edges_of d f f.g 0) _ E (passes_edge f.g (names_of is)) D)
 
-    pub between_removed : (d : Direction) (e : EdgesOf) → r ≡ Removal.GN d → e ≡ edges_of d f None (Some f.m)
+    pub between_removed : (d : Direction) (e : EdgesOf) → r ≡ Removal.GN d → e ≡ edges_of d f 0 f.m
         → Edited b b' (removed_by e (tuples_of b)) → Edited b b' (destroyed r f (tuples_of b))
     unfolding destroyed
-    between_removed d e is E D = left_as _ is (by_test d e (edges_of d f None (Some f.m)) _ E (passes_node f.m) D)
+    between_removed d e is E D = left_as _ is (by_test d e (edges_of d f 0 f.m) _ E (passes_node f.m (names_of is)) D)

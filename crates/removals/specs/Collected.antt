@@ -1,5 +1,5 @@
 -- The edges that a D operator means; nodes removed one after the other, from a list of their names as words.
-use Rattle.std.specs.Prelude.{Option, List, [], ◌∷◌, ◌≢◌, ◌≡◌, ℕ, ◌<◌, length, get_or}
+use Rattle.std.specs.Prelude.{List, [], ◌∷◌, ◌≢◌, ◌≡◌, ℕ, ◌<◌, length, get_or}
 use Rattle.model.specs.declared.Direction.{Direction}
 use Rattle.model.specs.declared.Fields.{Fields}
 use Rattle.model.specs.declared.Pair.{Pair}
@@ -9,8 +9,8 @@ use Rattle.model.specs.Pairs.{edge_of, node_of, EveryPair}
 use Rattle.model.specs.Tuples.{Tuples, remove}
 use Rattle.model.specs.Steps.{node_taken}
 
--- the edges that a D operator means: those of the pairs of node n with edge g and node m, where they are asked for
-abbrev pub edges_of : Direction → Fields → Option ℕ → Option ℕ → EdgesOf
+-- the edges that a D operator means: those of the pairs of node n with edge g and node m (0: any)
+abbrev pub edges_of : Direction → Fields → ℕ → ℕ → EdgesOf
 edges_of d f g m = record { d = d; s = f.s; n = f.n; g = g; m = m }
 
 -- "each is removed as by DUN" (`remove_nodes`, of words)
@@ -30,14 +30,14 @@ NodeEntry p = (edge_of p ≡ 0) × (node_of p ≢ 0)
 abbrev pub NodesListed : List Pair → Type 0
 NodesListed ps = EveryPair NodeEntry ps
 
--- the node or space that is removed whole has a name
+-- names that a removal reads are not 0
 abbrev pub NamesIn : Removal → Fields → Type 0
-NamesIn (Removal.P d) f = Unit {0}
+NamesIn (Removal.P d) f = (f.g ≢ 0) × (f.m ≢ 0)
 NamesIn (Removal.G d) f = Unit {0}
-NamesIn (Removal.GG d) f = Unit {0}
-NamesIn (Removal.GN d) f = Unit {0}
+NamesIn (Removal.GG d) f = f.g ≢ 0
+NamesIn (Removal.GN d) f = f.m ≢ 0
 NamesIn (Removal.N d) f = Unit {0}
-NamesIn (Removal.NG d) f = Unit {0}
+NamesIn (Removal.NG d) f = f.g ≢ 0
 NamesIn Removal.UN f = f.n ≢ 0
 NamesIn Removal.US f = f.s ≢ 0
 

@@ -10,13 +10,14 @@ ghost use Rattle.chain.specs.Links.{Linked, Hint, Edited};
 ghost use Rattle.taken.specs.Selections.{passes};
 ghost use Rattle.located.specs.Located.{NearIn};
 ghost use Rattle.entries.specs.Queries.{Readable};
+ghost use Rattle.listings.specs.Lists.{NamesAsked};
 ghost use Rattle.removals.specs.Collected.{edges_of, remove_each, NamesRead, Named, NodesListed};
 
 use located::Near;
 use model::{Direction, Fields, Listing, Removal};
 use taken::{EdgesOf, NodeOf, Selection};
 
-// Removes the edges of the pairs of node n in space s with edge g and node m, where they are asked for.
+// Removes the edges of the pairs of node n in space s with edge g and node m (0: any).
 fn remove_edges(b: &mut [u32], hint: usize, e: EdgesOf)
     requires { Linked b.old × Hint b.old hint }
     ensures { Edited b.old b.new (remove (edges_taken e.d e.s e.n (passes e.g e.m)) (tuples_of b.old)) }
@@ -42,8 +43,8 @@ fn remove_space(b: &mut [u32], hint: usize, s: u32)
     edit::sweep(b, hint, Selection::Space(s));
 }
 
-// The edges of the pairs of node n in the call's space with edge g and node m, where they are asked for.
-fn edges_of(d: Direction, f: Fields, g: Option<u32>, m: Option<u32>) -> EdgesOf
+// The edges of the pairs of node n in the call's space with edge g and node m (0: any).
+fn edges_of(d: Direction, f: Fields, g: u32, m: u32) -> EdgesOf
     ensures { result ≡ edges_of d f g m }
 {
     EdgesOf {
@@ -73,7 +74,7 @@ fn remove_each(b: &mut [u32], s: u32, nodes: &[u32])
 
 // Removes from the call's space the nodes that an S operator lists; they are at most two for each tuple.
 fn remove_listed(b: &mut [u32], near: Near, l: Listing, f: Fields)
-    requires { Readable b.old × NearIn b.old near × NodesListed (listed l f (tuples_of b.old)) }
+    requires { Readable b.old × NearIn b.old near × NamesAsked l f × NodesListed (listed l f (tuples_of b.old)) }
     ensures { Edited b.old b.new (remove_nodes f.s (listed l f (tuples_of b.old)) (tuples_of b.old)) }
 {
     let mut nodes: [u32; MOST_COLLECTED] = [0; MOST_COLLECTED];
@@ -81,17 +82,17 @@ fn remove_listed(b: &mut [u32], near: Near, l: Listing, f: Fields)
     remove_each(b, f.s, &nodes[..count]);
 }
 
-// D: removes what the operator names.
+// D: removes what the operator names. With g or m as 0 the edges are those with any edge or any node.
 #[tactic(auto, unfolding(model::specs::Steps::destroyed, layouts::specs::Buffer::is_store, model::specs::Steps::listed))]
 pub fn destroy(b: &mut [u32], near: Near, r: Removal, f: Fields)
     requires { (is_store b.old ≡ true) × NearIn b.old near × NamesRead r f }
     ensures { Edited b.old b.new (destroyed r f (tuples_of b.old)) }
 {
     match r {
-        Removal::P(d) => remove_edges(b, near.space, edges_of(d, f, Some(f.g), Some(f.m))),
-        Removal::G(d) => remove_edges(b, near.space, edges_of(d, f, None, None)),
-        Removal::GG(d) => remove_edges(b, near.space, edges_of(d, f, Some(f.g), None)),
-        Removal::GN(d) => remove_edges(b, near.space, edges_of(d, f, None, Some(f.m))),
+        Removal::P(d) => remove_edges(b, near.space, edges_of(d, f, f.g, f.m)),
+        Removal::G(d) => remove_edges(b, near.space, edges_of(d, f, 0, 0)),
+        Removal::GG(d) => remove_edges(b, near.space, edges_of(d, f, f.g, 0)),
+        Removal::GN(d) => remove_edges(b, near.space, edges_of(d, f, 0, f.m)),
         Removal::N(d) => remove_listed(b, near, Listing::N(d), f),
         Removal::NG(d) => remove_listed(b, near, Listing::NG(d), f),
         Removal::UN => remove_node(b, near.space, NodeOf { s: f.s, n: f.n }),

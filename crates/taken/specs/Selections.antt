@@ -1,5 +1,5 @@
 -- Which tuples a removal takes, as one value: what D operators 12 to 23, 49 and 55 remove in one walk.
-use Rattle.std.specs.Prelude.{Bool, true, false, Option, Some, None, cond, ◌&&◌, ◌||◌, ℕ, eqb, ltb}
+use Rattle.std.specs.Prelude.{Bool, false, cond, ◌&&◌, ◌||◌, ℕ, eqb, ltb}
 use Rattle.model.specs.declared.Direction.{Direction}
 use Rattle.model.specs.declared.Direction.TheVariants.{Outpointing, Inpointing, Adjacent}
 use Rattle.model.specs.declared.Key.{Key}
@@ -11,14 +11,9 @@ use Rattle.taken.specs.declared.Selection.{Selection}
 use Rattle.taken.specs.declared.Selection.TheVariants.{Edges, Node, Space}
 use Rattle.taken.specs.declared.Span.{Span}
 
--- is a name the one that is asked for; None asks for none in particular
-unfoldable pub is_asked : Option ℕ → ℕ → Bool
-is_asked None name = true
-is_asked (Some wanted) name = eqb name wanted
-
--- a pair with edge g and node m, where they are asked for
-unfoldable pub passes : Option ℕ → Option ℕ → Pair → Bool
-passes g m p = is_asked g (edge_of p) && is_asked m (node_of p)
+-- a pair with edge g and node m, where 0 asks for none in particular
+unfoldable pub passes : ℕ → ℕ → Pair → Bool
+passes g m p = (eqb g 0 || eqb (edge_of p) g) && (eqb m 0 || eqb (node_of p) m)
 
 unfoldable pub taken_by : Selection → Key → Bool
 taken_by (Edges e) k = edges_taken e.d e.s e.n (passes e.g e.m) k

@@ -3,19 +3,19 @@
 ghost use Rattle.std.specs.Prelude.{◌||◌, ◌≡◌, eqb};
 ghost use Rattle.model.specs.Pairs.{pair, out_pair, in_pair, pairs_at, any_pair};
 ghost use Rattle.model.specs.Steps.{reaches, edges_taken, node_taken};
-ghost use Rattle.taken.specs.Selections.{is_asked, passes, taken_by, from_node, span_of, beyond};
+ghost use Rattle.taken.specs.Selections.{passes, taken_by, from_node, span_of, beyond};
 
 use model::{Direction, Key};
 
-// The edges of pairs of node n in space s (0: in all spaces), with edge g and node m, where they are asked for.
-// By hand: s is 0 for UNIVERSE as in keys, and removing from UNIVERSE removes in all spaces. So it is below.
+// The edges of pairs of node n in space s (0: in all spaces), with edge g and node m (0: any).
+// By hand: g and m as those of a query of entries, where Options cost time; s is 0 for UNIVERSE as in keys, and removing from UNIVERSE removes in all spaces. So it is below.
 #[derive(Clone, Copy)]
 pub struct EdgesOf {
     pub d: Direction,
     pub s: u32,
     pub n: u32,
-    pub g: Option<u32>,
-    pub m: Option<u32>,
+    pub g: u32,
+    pub m: u32,
 }
 
 // Node n of space s (0: of all spaces), with its edges.
@@ -48,25 +48,17 @@ fn reaches_space(s: u32, k: Key) -> bool
     s == 0 || k.s == s
 }
 
-// Is a name the one that is asked for; none asks for any.
-#[tactic(auto, unfolding(crate::specs::Selections::is_asked))]
-fn is_asked(wanted: Option<u32>, name: u32) -> bool
-    ensures { result ≡ is_asked wanted name }
-{
-    wanted.is_none_or(|x| name == x)
-}
-
-// Is this the edge and node that are asked for.
+// Is this the edge and node that are asked for; 0, which is no name, asks for none in particular.
 #[tactic(auto, unfolding(crate::specs::Selections::passes))]
-pub fn passes_pair(g: Option<u32>, m: Option<u32>, edge: u32, node: u32) -> bool
+pub fn passes_pair(g: u32, m: u32, edge: u32, node: u32) -> bool
     ensures { result ≡ passes g m (pair edge node) }
 {
-    is_asked(g, edge) && is_asked(m, node)
+    (g == 0 || edge == g) && (m == 0 || node == m)
 }
 
 // Is the key an edge from node n that is asked for.
 #[tactic(auto, using(crate::proofs::Tests::any_out))]
-fn out_taken(n: u32, g: Option<u32>, m: Option<u32>, k: Key) -> bool
+fn out_taken(n: u32, g: u32, m: u32, k: Key) -> bool
     ensures { result ≡ any_pair (passes g m) (out_pair n k) }
 {
     k.g != 0 && k.n == n && passes_pair(g, m, k.g, k.m)
@@ -74,7 +66,7 @@ fn out_taken(n: u32, g: Option<u32>, m: Option<u32>, k: Key) -> bool
 
 // Is the key an edge to node n that is asked for.
 #[tactic(auto, using(crate::proofs::Tests::any_in))]
-fn in_taken(n: u32, g: Option<u32>, m: Option<u32>, k: Key) -> bool
+fn in_taken(n: u32, g: u32, m: u32, k: Key) -> bool
     ensures { result ≡ any_pair (passes g m) (in_pair n k) }
 {
     out_taken(n, g, m, words::reversed(k))

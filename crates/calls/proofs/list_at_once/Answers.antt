@@ -14,7 +14,7 @@ pub returns-then-not-surely_fits : goal.returns-then-not-surely_fits
 returns-then-not-surely_fits c = record { value = search roomless_count; list = search roomless_list }
 
 pub write_listed-k-requires : goal.write_listed-k-requires
-write_listed-k-requires c = (search store_readable, search (nowhere_near, store_linked), search room_enough)
+write_listed-k-requires c = (search store_readable, search (nowhere_near, store_linked), tt, search room_enough)
 
 pub returns-then-k-eq0 : goal.returns-then-k-eq0
 returns-then-k-eq0 c = record { value = search empty_count; list = search all_list }

@@ -1,6 +1,6 @@
 use Rattle.edit.proofs.Built.{store_linked}
 use Rattle.listings.proofs.Stores.{store_readable}
-use Rattle.removals.proofs.Removed.{pair_removed, edges_removed, named_removed, between_removed, node_named, space_named}
+use Rattle.removals.proofs.Removed.{pair_removed, edges_removed, named_removed, between_removed, node_named, space_named, edge_named}
 use Rattle.removals.proofs.Collects.{nodes_of_store, nodes_by_edge_of_store}
 use Rattle.removals.proofs.destroy.Goals as goal
 
@@ -29,10 +29,10 @@ pub remove_edges-requires-in-GN : goal.remove_edges-requires-in-GN
 remove_edges-requires-in-GN c = search store_linked
 
 pub remove_listed-requires : goal.remove_listed-requires
-remove_listed-requires c = (search store_readable, search, search nodes_of_store)
+remove_listed-requires c = (search store_readable, search, tt, search nodes_of_store)
 
 pub remove_listed-requires-in-NG : goal.remove_listed-requires-in-NG
-remove_listed-requires-in-NG c = (search store_readable, search, search nodes_by_edge_of_store)
+remove_listed-requires-in-NG c = (search store_readable, search, search edge_named, search nodes_by_edge_of_store)
 
 pub remove_node-requires : goal.remove_node-requires
 remove_node-requires c = (search store_linked, search, search node_named)

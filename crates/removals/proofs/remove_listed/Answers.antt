@@ -2,7 +2,7 @@ use Rattle.removals.proofs.Collects.{listed_most, collected_fits, collected_coun
 use Rattle.removals.proofs.remove_listed.Goals as goal
 
 pub write_listed-count-requires : goal.write_listed-count-requires
-write_listed-count-requires c = (search, search, search listed_most)
+write_listed-count-requires c = (search, search, search, search listed_most)
 
 pub slice_bounds-nodes-end : goal.slice_bounds-nodes-end
 slice_bounds-nodes-end c = search collected_fits

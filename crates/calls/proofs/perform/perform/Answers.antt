@@ -1,6 +1,6 @@
 use Rattle.listings.proofs.Stores.{store_readable}
 use Rattle.edit.proofs.Built.{store_linked}
-use Rattle.calls.proofs.Performs.{ready_create, ready_destroy, ready_room, create_grows, create_performed, bind_performed, value_performed, exists_performed, destroy_shrinks, destroy_performed, list_performed}
+use Rattle.calls.proofs.Performs.{ready_create, ready_destroy, ready_names, ready_room, create_grows, create_performed, bind_performed, value_performed, exists_performed, destroy_shrinks, destroy_performed, list_performed}
 use Rattle.calls.proofs.perform.perform.Goals as goal
 
 pub tuple_count-before-requires : goal.tuple_count-before-requires
@@ -31,7 +31,7 @@ pub overflow_sub-result-in-Destroy : goal.overflow_sub-result-in-Destroy
 overflow_sub-result-in-Destroy c = search destroy_shrinks
 
 pub write_listed-requires : goal.write_listed-requires
-write_listed-requires c = (search store_readable, search, search ready_room)
+write_listed-requires c = (search store_readable, search, search ready_names, search ready_room)
 
 pub returns-in-Create : goal.returns-in-Create
 returns-in-Create c = search create_performed
