@@ -31,7 +31,7 @@ use Rattle.edit.proofs.Built.{store_tuples, edited_store}
 use Rattle.listings.proofs.Stores.{names_asked}
 use Rattle.removals.specs.Collected.{NamesIn}
 use Rattle.calls.specs.Perform.{ReadyFor, Ready, Performed}
-use Rattle.refusals.specs.declared.Admitted.{Admitted}
+use Rattle.refusals.specs.declared.NamedCall.{NamedCall}
 use Rattle.refusals.specs.Checks.{checked, of_store}
 use Rattle.refusals.proofs.Stops.{call_stops, nothing_passes, all_pass, store_stops}
 
@@ -65,17 +65,17 @@ call_refused b l c condition e R = refused b l c condition e (call_stops (capaci
 
 -- ---- with nothing as the space
 
-pub idle_known : (b l : List ℕ) (k : Admitted) (x : ℕ) (a : Answer) (t : Bool) → is_store b ≡ true
-    → t ≡ selects_nothing k.known.call → t ≡ true → x ≡ first_argument k.known.decoded → Ok a ≡ answer_of (idle_reply k.known.decoded.operator x)
-    → OnStore stored b l k.known.call (Ok a) b l
+pub idle_known : (b l : List ℕ) (k : NamedCall) (x : ℕ) (a : Answer) (t : Bool) → is_store b ≡ true → first (of_call k.read.call) ≡ none
+    → t ≡ selects_nothing k.read.call → t ≡ true → x ≡ first_argument k.read.decoded → Ok a ≡ answer_of (idle_reply k.read.decoded.operator x)
+    → OnStore stored b l k.read.call (Ok a) b l
 unfolding machine outcome_of
-idle_known b l k x a t e T y X A =
-    let c : Call = k.known.call in
-    let D = k.known.told in
+idle_known b l k x a t e p T y X A =
+    let c : Call = k.read.call in
+    let D = k.read.told in
     let C : ℕ = capacity_of b in
     let ts : Tuples = tuples_of b in
     let N = sym T ∙ y in
-    let pass = nothing_passes C ts c (length l) k.passed N in
+    let pass = nothing_passes C ts c (length l) p N in
     let M : machine C ts c (length l) ≡ idle c ts =
     ap (λ (r : Option Refusal). outcome_of r ts c) pass ∙ ap (λ (u : Bool). cond u (idle c ts) (step c ts)) N in
     record {
@@ -130,21 +130,21 @@ ready_for b c room P = go (operator_of c.operator) refl
 
 -- ---- a call that is looked up
 
-module _ (b l : List ℕ) (k : Admitted) (N : selects_nothing k.known.call ≡ false) where
+module _ (b l : List ℕ) (k : NamedCall) (p : first (of_call k.read.call) ≡ none) (N : selects_nothing k.read.call ≡ false) where
   abbrev c : Call
-  c = k.known.call
+  c = k.read.call
 
   abbrev d : Decoded
-  d = k.known.decoded
+  d = k.read.decoded
 
   D : d ≡ decoded c
-  D = k.known.told
+  D = k.read.told
 
   abbrev check : Decoded → Result (Unit {0}) Refusal
   check x = checked (first (of_store (capacity_of b) (tuples_of b) x (length l)))
 
   passes_all : Ok tt ≡ check d → refusal_of (capacity_of b) (tuples_of b) c (length l) ≡ none
-  passes_all R = all_pass (capacity_of b) (tuples_of b) c (length l) k.passed N (R ∙ ap check D)
+  passes_all R = all_pass (capacity_of b) (tuples_of b) c (length l) p N (R ∙ ap check D)
 
   pub ready : Ok tt ≡ check d → Ready d.operator d.fields b (length l)
   ready R =
@@ -152,7 +152,7 @@ module _ (b l : List ℕ) (k : Admitted) (N : selects_nothing k.known.call ≡ f
       (record { ready = ready_for b c (length l) (passed _ _ c (length l) N (passes_all R)) })
 
   pub refused_known : (condition : Refusal) → is_store b ≡ true → Err condition ≡ check d → OnStore stored b l c (Err condition) b l
-  refused_known condition e R = refused b l c condition e (store_stops (capacity_of b) (tuples_of b) c (length l) condition k.passed N (R ∙ ap check D))
+  refused_known condition e R = refused b l c condition e (store_stops (capacity_of b) (tuples_of b) c (length l) condition p N (R ∙ ap check D))
 
   pub performed_known : (b' l' : List ℕ) (x : ℕ) (a : Answer) → is_store b ≡ true → Ok tt ≡ check d → x ≡ first_argument d
       → Performed d.operator x d.fields b l a b' l' → OnStore stored b l c (Ok a) b' l'
@@ -170,7 +170,7 @@ module _ (b l : List ℕ) (k : Admitted) (N : selects_nothing k.known.call ≡ f
       record {
         answer = E.answer ∙ sym (ap (λ o. answer_of o.answer) M);
         list = E.list ∙ sym (ap (λ o. list_after o.answer l) M);
-        store = edited_store b b' _ E.edited (after_rules (operator_of c.operator) C ts c (length l) (store_tuples b e) k.known.fit Q (agree c Q.operator));
+        store = edited_store b b' _ E.edited (after_rules (operator_of c.operator) C ts c (length l) (store_tuples b e) k.read.fit Q (agree c Q.operator));
         state = E.edited.tuples ∙ sym (ap (λ o. o.state) M);
         size = E.edited.size;
         past = E.edited.past;
@@ -187,8 +187,8 @@ pub decoded_fields : (c : Call) (d : Decoded) → d ≡ decoded c → d.fields �
 decoded_fields c d D = ap (λ (x : Decoded). x.fields) D
 
 -- what holds of the admitted call holds of the call
-pub as_called : (b l b' l' : List ℕ) (c : Call) (k : Admitted) (r : Result Answer Refusal) → k.known.call ≡ c
-    → OnStore stored b l k.known.call r b' l' → OnStore stored b l c r b' l'
+pub as_called : (b l b' l' : List ℕ) (c : Call) (k : NamedCall) (r : Result Answer Refusal) → k.read.call ≡ c
+    → OnStore stored b l k.read.call r b' l' → OnStore stored b l c r b' l'
 as_called b l b' l' c k r e O = subst (λ (x : Call). OnStore stored b l x r b' l') e O
 
 -- ---- any buffer

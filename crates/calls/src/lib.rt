@@ -4,7 +4,8 @@
 mod perform;
 
 ghost use Rattle.std.specs.Prelude.{true, false, ◌≡◌, length};
-ghost use Rattle.model.specs.Refusals.{selects_nothing};
+ghost use Rattle.std.proofs.Math.Option.{none};
+ghost use Rattle.model.specs.Refusals.{selects_nothing, first, of_call};
 ghost use Rattle.model.specs.OneCall.{OnStore, OneCall};
 ghost use Rattle.layouts.specs.Stored.{stored};
 ghost use Rattle.entries.specs.Queries.{written_pairs};
@@ -12,7 +13,7 @@ ghost use Rattle.calls.specs.AtOnce.{listed_at_once, some_count};
 
 use located::Near;
 use model::{Answer, Call, Direction, Fields, Listing, Refusal};
-use refusals::Admitted;
+use refusals::NamedCall;
 
 // SIN, whose entries each show that its node is there.
 const SIN: u32 = 40;
@@ -31,6 +32,7 @@ fn list_at_once(b: &[u32], number: u32, f: Fields, list: &mut [u32]) -> Option<u
     if !listings::surely_fits(b, list.len()) {
         return None;
     }
+    // By hand: tried as `Near::default()`, of which no proof outside its crate learned what it is.
     let nowhere = Near {
         space: 0,
         node: 0,
@@ -43,19 +45,19 @@ fn list_at_once(b: &[u32], number: u32, f: Fields, list: &mut [u32]) -> Option<u
     Some(k)
 }
 
-// A call on a store that is admitted, and whose space is looked up.
+// A call on a store that no condition on the call alone stops, and whose space is looked up.
 #[tactic(auto, unfolding(model::specs::Refusals::first, model::specs::Refusals::of_call, model::specs::Refusals::selects_nothing))]
-fn look_up(store: &mut [u32], a: Admitted, list: &mut [u32]) -> Result<Answer, Refusal>
-    requires { (stored.is_store store.old ≡ true) × (selects_nothing a.known.call ≡ false) }
-    ensures { OnStore stored store.old list.old a.known.call result store.new list.new }
+fn look_up(store: &mut [u32], a: NamedCall, list: &mut [u32]) -> Result<Answer, Refusal>
+    requires { (stored.is_store store.old ≡ true) × (first (of_call a.read.call) ≡ none) × (selects_nothing a.read.call ≡ false) }
+    ensures { OnStore stored store.old list.old a.read.call result store.new list.new }
 {
-    let d = a.known.decoded;
+    let d = a.read.decoded;
     let above = located::locate_universe(store, d);
     let l = located::locate(store, above, d);
     let near = l.near;
     let universe = located::also_in_universe(near, above, d.fields.s);
     refusals::check_store(store, a, l, universe, list.len())?;
-    let name = a.known.first_argument();
+    let name = a.read.first_argument();
     Ok(perform::perform(store, near, universe, d.operator, d.fields, name, list))
 }
 
@@ -65,12 +67,12 @@ pub fn execute_known(store: &mut [u32], call: Call, list: &mut [u32]) -> Result<
     requires { stored.is_store store.old ≡ true }
     ensures { OnStore stored store.old list.old call result store.new list.new }
 {
-    let a = Admitted::of(call)?;
-    let d = a.known.decoded;
-    if a.known.selects_nothing() {
-        return Ok(perform::idle(d.operator, a.known.first_argument()));
+    let a = NamedCall::admit(call)?;
+    let d = a.read.decoded;
+    if a.read.selects_nothing() {
+        return Ok(perform::idle(d.operator, a.read.first_argument()));
     }
-    if let Some(k) = list_at_once(store, a.known.call.operator, d.fields, list) {
+    if let Some(k) = list_at_once(store, a.read.call.operator, d.fields, list) {
         return Ok(Answer::List(k));
     }
     look_up(store, a, list)

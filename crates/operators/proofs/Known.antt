@@ -1,4 +1,4 @@
--- A number's operator, where it has one, and the call that is known by it.
+-- A number's operator, where it has one, and the call that is decoded by it.
 use mathlib.Core.Bool.{Bool, true, false, cond, not}
 use mathlib.Core.Path.{◌≡◌, refl, sym, ap, ◌∙◌}
 use Prim.Native.Nat.{ℕ, ◌≤◌, ◌<◌}

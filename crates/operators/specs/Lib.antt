@@ -1,3 +1,3 @@
 pub mod Directions
 pub mod Known
-pub mod KnownCalls
+pub mod DecodedCalls

@@ -241,22 +241,21 @@ pub fn fields_of(c: Call) -> Fields
     }
 }
 
-// A call whose number is an operator's, and what the store reads of it.
+// A call, and what the store reads of it.
 #[derive(Clone, Copy)]
-pub struct KnownCall {
+pub struct DecodedCall {
     pub call: Call,
     pub decoded: Decoded,
-    pub ghost known: { no_operator call ≡ false },
     pub ghost told: { decoded ≡ decoded_call call },
     pub ghost fit: { FieldsFit (fields_of call) },
 }
 
-impl KnownCall {
-    ghost use Rattle.operators.specs.KnownCalls.{call_known};
+impl DecodedCall {
+    ghost use Rattle.operators.specs.DecodedCalls.{call_decoded};
 
     // The call, decoded; none where its number is no operator's: condition 2.
-    pub fn of(call: Call) -> Option<KnownCall>
-        ensures { call_known result ≡ cond (no_operator call) None (Some call) }
+    pub fn of(call: Call) -> Option<DecodedCall>
+        ensures { call_decoded result ≡ cond (no_operator call) None (Some call) }
     {
         let operator = operator_of(call.operator)?;
         let row = row_of(call.operator);
@@ -266,7 +265,7 @@ impl KnownCall {
             operator,
             fields,
         };
-        Some(KnownCall { call, decoded })
+        Some(DecodedCall { call, decoded })
     }
 
     // Is the space of the call read, and nothing.

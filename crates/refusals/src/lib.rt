@@ -3,10 +3,9 @@
 // An inner layer: what its functions require, their callers have shown; only the entry refuses.
 // By hand: facts about the lent words stand in no struct; chain says why.
 ghost use Rattle.std.specs.Prelude.{true, false, not, ◌≡◌, ◌-◌, ltb, length};
-ghost use Rattle.std.proofs.Math.Option.{none};
 ghost use Rattle.model.specs.Tuples.{present, any_present, missing};
 ghost use Rattle.model.specs.Steps.{listed, would_add};
-ghost use Rattle.model.specs.Refusals.{first, space_absent, node_absent, second_absent, worked_on, edge_absent, list_short, full, of_call};
+ghost use Rattle.model.specs.Refusals.{first, no_operator, zero_name, space_absent, node_absent, second_absent, worked_on, edge_absent, list_short, full, of_call};
 ghost use Rattle.layouts.specs.Buffer.{capacity_of, tuples_of, is_store};
 ghost use Rattle.chain.specs.Links.{Linked, Hint};
 ghost use Rattle.listings.specs.Lists.{NamesAsked};
@@ -15,35 +14,36 @@ ghost use Rattle.refusals.specs.Checks.{checked, of_store, of_step};
 
 use located::{Located, Near};
 use model::{Call, Decoded, Fields, Key, Listing, Operator, Refusal};
-use operators::KnownCall;
+use operators::DecodedCall;
 
-// A call that no condition on the call alone stops.
+// A call that conditions 2 and 3 do not stop: its number is an operator's, and no name that is read is 0.
 #[derive(Clone, Copy)]
-pub struct Admitted {
-    pub known: KnownCall,
-    pub ghost passed: { first (of_call known.call) ≡ none },
+pub struct NamedCall {
+    pub read: DecodedCall,
+    pub ghost known: { no_operator read.call ≡ false },
+    pub ghost named: { zero_name read.call ≡ false },
 }
 
-impl Admitted {
+impl NamedCall {
     ghost use Rattle.refusals.specs.Admissions.{call_admitted, admitted};
 
     // Conditions 2, 3, 12 and 4, whatever the store holds: the first that stops the call is the error.
-    pub fn of(call: Call) -> Result<Admitted, Refusal>
+    pub fn admit(call: Call) -> Result<NamedCall, Refusal>
         ensures { call_admitted result ≡ admitted call (first (of_call call)) }
     {
-        let Some(known) = KnownCall::of(call) else {
+        let Some(read) = DecodedCall::of(call) else {
             return Err(Refusal::NoOperator);
         };
-        if known.zero_name() {
+        if read.zero_name() {
             return Err(Refusal::ZeroName);
         }
-        if known.lacks_space() {
+        if read.lacks_space() {
             return Err(Refusal::NoSelection);
         }
-        if known.destroys_universe() {
+        if read.destroys_universe() {
             return Err(Refusal::UniverseDestroyed);
         }
-        Ok(Admitted { known })
+        Ok(NamedCall { read })
     }
 }
 
@@ -57,20 +57,20 @@ fn key_absent(b: &[u32], hint: usize, k: Key) -> bool
 
 // Condition 5: s is absent.
 #[tactic(auto, unfolding(model::specs::Refusals::space_absent))]
-fn space_absent(b: &[u32], a: Admitted, l: Located) -> bool
-    requires { Told b.now a.known.decoded l }
-    ensures { result ≡ space_absent a.known.decoded (tuples_of b.now) }
+fn space_absent(b: &[u32], a: NamedCall, l: Located) -> bool
+    requires { Told b.now a.read.decoded l }
+    ensures { result ≡ space_absent a.read.decoded (tuples_of b.now) }
 {
-    a.known.decoded.row.asks.space && !l.space
+    a.read.decoded.row.asks.space && !l.space
 }
 
 // Condition 6: n is absent from s, or, for 57, from 0. Asked where condition 5 does not apply.
 #[tactic(auto, unfolding(model::specs::Refusals::node_absent))]
-fn node_absent(b: &[u32], a: Admitted, l: Located) -> bool
-    requires { Linked b.now × Told b.now a.known.decoded l × (space_absent a.known.decoded (tuples_of b.now) ≡ false) }
-    ensures { result ≡ node_absent a.known.decoded (tuples_of b.now) }
+fn node_absent(b: &[u32], a: NamedCall, l: Located) -> bool
+    requires { Linked b.now × Told b.now a.read.decoded l × (space_absent a.read.decoded (tuples_of b.now) ≡ false) }
+    ensures { result ≡ node_absent a.read.decoded (tuples_of b.now) }
 {
-    let d = a.known.decoded;
+    let d = a.read.decoded;
     if d.row.asks.universe {
         return key_absent(b, 0, words::node_key(0, d.fields.n));
     }
@@ -82,11 +82,11 @@ fn node_absent(b: &[u32], a: Admitted, l: Located) -> bool
 
 // Condition 7: m, where it is read, is absent from s. Asked where condition 5 does not apply.
 #[tactic(auto, using(crate::proofs::Absent::second_read, crate::proofs::Admissions::unstopped), unfolding(model::specs::Refusals::second_absent))]
-fn second_absent(b: &[u32], a: Admitted, l: Located) -> bool
-    requires { Told b.now a.known.decoded l × (space_absent a.known.decoded (tuples_of b.now) ≡ false) }
-    ensures { result ≡ second_absent a.known.decoded (tuples_of b.now) }
+fn second_absent(b: &[u32], a: NamedCall, l: Located) -> bool
+    requires { Told b.now a.read.decoded l × (space_absent a.read.decoded (tuples_of b.now) ≡ false) }
+    ensures { result ≡ second_absent a.read.decoded (tuples_of b.now) }
 {
-    a.known.decoded.row.reads.m && !l.second
+    a.read.decoded.row.reads.m && !l.second
 }
 
 // Is nothing present of what C, B, V and X work on.
@@ -125,11 +125,11 @@ fn list_short(b: &[u32], near: Near, l: Listing, f: Fields, room: usize) -> bool
 
 // Condition 9: the answer list is shorter than what the call would list; that is nothing but for S.
 #[tactic(auto, unfolding(model::specs::Refusals::list_short, model::specs::Steps::would_list))]
-fn is_short(b: &[u32], near: Near, a: Admitted, room: usize) -> bool
+fn is_short(b: &[u32], near: Near, a: NamedCall, room: usize) -> bool
     requires { (is_store b.now ≡ true) × NearIn b.now near }
-    ensures { result ≡ list_short a.known.decoded (tuples_of b.now) room }
+    ensures { result ≡ list_short a.read.decoded (tuples_of b.now) room }
 {
-    let d = a.known.decoded;
+    let d = a.read.decoded;
     match d.operator {
         Operator::List(l) => list_short(b, near, l, d.fields, room),
         _ => false,
@@ -175,21 +175,21 @@ fn is_full(b: &[u32], near: Near, universe: Near, d: Decoded) -> bool
 #[tactic(auto, unfolding(layouts::specs::Buffer::capacity_of, crate::specs::Checks::checked, model::specs::Refusals::first, layouts::specs::Buffer::is_store))]
 fn check_step(
     b: &[u32],
-    a: Admitted,
+    a: NamedCall,
     near: Near,
     universe: Near,
     room: usize,
 ) -> Result<(), Refusal>
     requires { (is_store b.now ≡ true) × NearIn b.now near × NearIn b.now universe }
-    ensures { result ≡ checked (first (of_step (capacity_of b.now) (tuples_of b.now) a.known.decoded room)) }
+    ensures { result ≡ checked (first (of_step (capacity_of b.now) (tuples_of b.now) a.read.decoded room)) }
 {
-    if edge_absent(b, a.known.decoded, near) {
+    if edge_absent(b, a.read.decoded, near) {
         return Err(Refusal::EdgeAbsent);
     }
     if is_short(b, near, a, room) {
         return Err(Refusal::ListTooShort);
     }
-    if is_full(b, near, universe, a.known.decoded) {
+    if is_full(b, near, universe, a.read.decoded) {
         return Err(Refusal::Full);
     }
     Ok(())
@@ -200,13 +200,13 @@ fn check_step(
 #[tactic(auto, unfolding(layouts::specs::Buffer::capacity_of, crate::specs::Checks::checked, model::specs::Refusals::first, layouts::specs::Buffer::is_store))]
 pub fn check_store(
     b: &[u32],
-    a: Admitted,
+    a: NamedCall,
     l: Located,
     universe: Near,
     room: usize,
 ) -> Result<(), Refusal>
-    requires { (is_store b.now ≡ true) × Told b.now a.known.decoded l × NearIn b.now universe }
-    ensures { result ≡ checked (first (of_store (capacity_of b.now) (tuples_of b.now) a.known.decoded room)) }
+    requires { (is_store b.now ≡ true) × Told b.now a.read.decoded l × NearIn b.now universe }
+    ensures { result ≡ checked (first (of_store (capacity_of b.now) (tuples_of b.now) a.read.decoded room)) }
 {
     if space_absent(b, a, l) {
         return Err(Refusal::SpaceAbsent);
