@@ -2,7 +2,7 @@
 // The used and free chains of the buffer.
 // An inner layer: what its functions require, their callers have shown; only the entry refuses.
 // By hand: that the chains are linked (`Linked`), as other facts about lent words and records of them (`Hint`), is required of the words and stands in no struct.
-// A clause would read `chains.words.now` for each `b.now`; and a struct that is lent words to be written would have to say in each contract that they are still the same,
+// A clause would read `chains.words.now` for each `b.now`, to be rid of one fact that is required; and a struct that is lent words to be written would have to say in each contract that they are still the same,
 // as `Adds .lent` does for the line of `print`, or would be made anew for each search. So it is in the crates above.
 ghost use Rattle.std.specs.Prelude.{◌≡◌, ◌+◌, ◌≤◌, ◌<◌};
 ghost use Rattle.model.specs.Tuples.{present, value_at};

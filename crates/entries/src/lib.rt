@@ -26,7 +26,7 @@ pub enum Part {
 }
 
 // The pairs of node n in space s, with edge g and node m (0: any).
-// By hand: 0 for any, and no Option, with which lists took 1.1 to 1.8 of the time; what asks for a name shows that it is not 0 (`NamesAsked` of listings).
+// By hand: 0 for any, and no Option, with which lists of edges to a node took 1.13 to 1.35 of the time; what asks for a name shows that it is not 0 (`NamesAsked` of listings).
 #[derive(Clone, Copy)]
 pub struct PairQuery {
     pub d: Direction,

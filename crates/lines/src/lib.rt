@@ -36,6 +36,7 @@ pub enum Argument {
 
 // The line that begins at a place of the script, as that part of it: up to the line feed, or to the end.
 // It is public for the crate above, which proves that the place is within the script.
+// By hand: a place beside the script, the form that the specification names.
 pub fn line_at(script: &[u8], from: usize) -> &[u8]
     requires { from ≤ length script.now }
     ensures { result.now ≡ before line_feed (drop from script.now) }

@@ -217,6 +217,7 @@ fn name_word(x: u16) -> u32
 }
 
 // The name of a space; 0 for UNIVERSE, and for nothing, without effect: no tuple and no answer is made with it.
+// By hand: no Option, since fields are numbers in which UNIVERSE is 0.
 #[tactic(auto, unfolding(model::specs::Steps::space_number))]
 fn space_name(s: Space) -> u16
     ensures { result ≡ space_number s }

@@ -122,6 +122,7 @@ fn write_pairs(b: &[u32], q: Query, list: &mut [Pair]) -> usize
 }
 
 // One call on any buffer, with any numbers as operator and names and any list of pairs.
+// By hand: beside `execute`, since the specification names both forms by place, words in the core and pair structs in an outer function.
 pub fn execute_pairs(store: &mut [u32], call: Call, list: &mut [Pair]) -> Result<Answer, Refusal>
     ensures { CallInPairs store.old list.old call result store.new list.new }
 {

@@ -47,7 +47,7 @@ fn edge_mark(i: usize) -> u32
     (i as u32) * NAME_COUNT
 }
 
-// The record of an edge tuple's mark; 0, as in a link word, for no mark and for the mark of a node.
+// The record of an edge tuple's mark; 0, which is no record, for no mark and for the mark of a node.
 #[tactic(auto, unfolding(crate::specs::Presence::edge_record))]
 fn edge_record(w: u32) -> usize
     ensures { result ≡ edge_record w }

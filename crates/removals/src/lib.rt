@@ -82,6 +82,7 @@ fn remove_listed(b: &mut [u32], near: Near, l: Listing, f: Fields)
     remove_each(b, f.s, &nodes[..count]);
 }
 
+// By hand: a match on the removal; removals are a closed set, and closures for them would be no shorter.
 // D: removes what the operator names. With g or m as 0 the edges are those with any edge or any node.
 #[tactic(auto, unfolding(model::specs::Steps::destroyed, layouts::specs::Buffer::is_store, model::specs::Steps::listed))]
 pub fn destroy(b: &mut [u32], near: Near, r: Removal, f: Fields)

@@ -1,6 +1,7 @@
 #![tactic(auto)]
 // A script run line by line on a store that is known to be one; what it prints goes to lent bytes.
 // An inner layer: what its functions require, their callers have shown; only the entry refuses.
+// By hand: store and list are lent to be written, and stand in no struct (`RunReady`); chain says why.
 ghost use Rattle.std.specs.Prelude.{◌≡◌, ◌≤◌, leb, length};
 ghost use Rattle.model.specs.declared.Refusal.TheVariants.{Unreadable};
 ghost use Rattle.model.specs.Steps.{refusal};

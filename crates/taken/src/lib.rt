@@ -8,7 +8,7 @@ ghost use Rattle.taken.specs.Selections.{passes, taken_by, from_node, span_of, b
 use model::{Direction, Key};
 
 // The edges of pairs of node n in space s (0: in all spaces), with edge g and node m (0: any).
-// By hand: g and m as those of a query of entries, where Options cost time; s is 0 for UNIVERSE as in keys, and removing from UNIVERSE removes in all spaces. So it is below.
+// By hand: g and m as those of a query of entries, where Options cost time, since one test serves both (`passes_pair`); s is 0 for UNIVERSE as in keys, and removing from UNIVERSE removes in all spaces. So it is below.
 #[derive(Clone, Copy)]
 pub struct EdgesOf {
     pub d: Direction,
