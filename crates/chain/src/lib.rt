@@ -149,6 +149,7 @@ pub fn has(b: &[u32], hint: usize, k: Key) -> bool
 }
 
 // The value at a key; NIL where the key is missing.
+// By hand: NIL as in the definition, and no Option.
 pub fn value_at(b: &[u32], hint: usize, k: Key) -> u32
     requires { Linked b.now × Hint b.now hint }
     ensures { result ≡ value_at k (tuples_of b.now) }

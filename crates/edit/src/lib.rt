@@ -24,6 +24,7 @@ pub fn tuple_count(b: &[u32]) -> u32
 }
 
 // Is a key present, by the record at its place.
+// By hand: beside `chain::find`, which answers with the record.
 pub fn held_at(b: &[u32], k: Key, at: usize) -> bool
     requires { Linked b.now × (at ≡ (place_in (key_at b.now) k 0 (used_of b.now)).at) }
     ensures { result ≡ present k (tuples_of b.now) }

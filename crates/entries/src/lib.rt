@@ -79,6 +79,7 @@ pub struct Entry {
 
 // A stream of entries: the one that it stands before, and where the walk for those behind it goes on.
 // Where pairs are found edge by edge, the walk has met this least edge behind the present one.
+// By hand: 0 is no record in its place, as in the link words.
 #[derive(Clone, Copy)]
 pub struct Stream {
     pub at: usize,

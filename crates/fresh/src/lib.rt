@@ -8,6 +8,7 @@ ghost use Rattle.fresh.specs.Prepare.{headed, universe_in, chained, prepared_buf
 use model::{NIL, Refusal};
 
 // The free record after record i in ascending order; 0 after the last.
+// By hand: 0 is no record, as in the link word that it is written to.
 #[tactic(auto, unfolding(layouts::specs::Buffer::follower))]
 fn follower_of(c: usize, i: usize) -> usize
     requires { i ≤ most_index }
@@ -20,6 +21,7 @@ fn follower_of(c: usize, i: usize) -> usize
 }
 
 // Words 0 to 3 of a store that holds UNIVERSE alone.
+// By hand: c beside the buffer, here and below, since the definitions are over any c.
 #[tactic(auto, using(crate::proofs::Preparing::heads_put, layouts::proofs::Prepared::follower_most))]
 fn put_heads(b: &mut [u32], c: usize)
     requires { (head_words ≤ length b.old) × (c ≤ 2048) }

@@ -38,6 +38,7 @@ pub fn argument_in(rest: &[u8], most: u32) -> (Argument, &[u8])
 }
 
 // A field that is read; one that is not has no argument, and is 0.
+// By hand: a number and no Option, since a field that is not read may be any.
 pub fn field_in(read: bool, rest: &[u8], most: u32) -> (Argument, &[u8])
     ensures argument { result.0 ≡ field_of read most (words_behind rest.now) }
     ensures rest { words_behind result.1.now ≡ left_by read (words_behind rest.now) }

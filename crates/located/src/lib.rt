@@ -72,6 +72,7 @@ fn seek_node(b: &[u32], hint: usize, s: u32, n: u32) -> Sought
 }
 
 // A space without its nodes.
+// By hand: this and the two below are one definition each.
 fn space_alone(before: usize, there: bool) -> Located
     ensures { result ≡ located_space before there }
 {

@@ -141,6 +141,7 @@ impl Marks {
     }
 
     // Is one of the marks from a place on wanted: they are looked at up to one that is 0.
+    // By hand: beside `put`, which writes at the first place that is free.
     fn shows<F: Fn(u32) -> bool>(&self, from: usize, is_wanted: F) -> bool
         requires { (from < mark_count) × ((j : ℕ) → F.pre is_wanted (get_or self.now.words j 0)) }
         ensures { LooksFor (F.post is_wanted) self.now.words from result }

@@ -8,6 +8,7 @@ ghost use Rattle.presence.specs.Presence.{Walkable, tuples_from, Seekable, is_at
 use model::Key;
 
 // Does record i have this key.
+// By hand: beside `edit::held_at`, since here the chain is not known to be linked.
 #[tactic(auto, unfolding(layouts::specs::Buffer::capacity_of, crate::specs::Presence::is_at))]
 pub fn is_at(b: &[u32], i: usize, k: Key) -> bool
     requires { Walkable b.now × (i ≤ capacity_of b.now) }

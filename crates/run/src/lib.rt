@@ -65,6 +65,7 @@ pub struct AnswerWords {
 }
 
 // A word as a name. Names have 16 bits: a greater number is no name and stands for 0, which is refused where the name is read.
+// By hand: no Option, since C has no names of 16 bits, and one that is none is refused as 0 is.
 #[tactic(auto, unfolding(crate::specs::Words::name_in))]
 fn name_in(w: u32) -> u16
     ensures { result ≡ name_in w }

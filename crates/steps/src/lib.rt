@@ -99,6 +99,7 @@ pub fn value_of(b: &[u32], near: Near, o: Object, f: Fields) -> u32
 }
 
 // X: is there what the call names.
+// By hand: the first key and then the reversed one, here and below; what is done with them differs, and a closure for it would be longer.
 pub fn exists(b: &[u32], near: Near, o: Object, f: Fields) -> bool
     requires { Linked b.now × NearIn b.now near }
     ensures { result ≡ any_present (object_keys o f.s f) (tuples_of b.now) }

@@ -8,6 +8,7 @@ ghost use Rattle.verify.specs.Checks.{heads_fit, walked_on, walked_from, stepped
 use words::capacity;
 
 // A walk of a chain over at most C records.
+// By hand: 0 is no record in its places, as in the link words that it reads.
 #[derive(Clone, Copy)]
 pub struct Walk {
     // The record that comes next; 0 where the chain has ended.
