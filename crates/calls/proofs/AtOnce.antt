@@ -137,14 +137,14 @@ module _ (C : ℕ) (ts : Tuples) (c : Call) (room : ℕ) (e : c.operator ≡ 40)
       (not_absent (row_of c.operator).asks.universe (present (node_key 0 f.n) ts) T.also)
 
   none_applies : leb (length ts) room ≡ true → length ts ≤ C → There f.s f.n ts
-      → Ok tt ≡ checked (first (of_store C ts (decoded c) room))
+      → Ok (tt {0}) ≡ checked (tt {0}) (first (of_store C ts (decoded c) room))
   unfolding of_store of_tuples
   none_applies fits h T =
-      passes _ _ false _ (Ok tt) (sym (space_there_lem T)) refl
-      (passes _ _ false _ (Ok tt) (sym (node_there_lem T)) refl
-      (passes _ _ false _ (Ok tt) (sym second_unread) refl
-      (passes _ _ false _ (Ok tt) (sym edge_unasked) refl
-      (passes _ _ false _ (Ok tt) (sym (roomy fits)) refl (passes _ _ false _ (Ok tt) (sym (nothing_added h)) refl nothing_left)))))
+      passes _ _ _ false _ (Ok (tt {0})) (sym (space_there_lem T)) refl
+      (passes _ _ _ false _ (Ok (tt {0})) (sym (node_there_lem T)) refl
+      (passes _ _ _ false _ (Ok (tt {0})) (sym second_unread) refl
+      (passes _ _ _ false _ (Ok (tt {0})) (sym edge_unasked) refl
+      (passes _ _ _ false _ (Ok (tt {0})) (sym (roomy fits)) refl (passes _ _ _ false _ (Ok (tt {0})) (sym (nothing_added h)) refl (nothing_left _))))))
 
 -- ---- the call
 

@@ -60,7 +60,7 @@ refused b l c condition e stops =
     }
 
 -- by a condition on the call alone
-pub call_refused : (b l : List ℕ) (c : Call) (condition : Refusal) → is_store b ≡ true → Err condition ≡ checked (first (of_call c)) → OnStore stored b l c (Err condition) b l
+pub call_refused : (b l : List ℕ) (c : Call) (condition : Refusal) → is_store b ≡ true → Err condition ≡ checked c (first (of_call c)) → OnStore stored b l c (Err condition) b l
 call_refused b l c condition e R = refused b l c condition e (call_stops (capacity_of b) (tuples_of b) c (length l) condition R)
 
 -- ---- with nothing as the space
@@ -141,7 +141,7 @@ module _ (b l : List ℕ) (k : NamedCall) (p : first (of_call k.read.call) ≡ n
   D = k.read.told
 
   abbrev check : Decoded → Result (Unit {0}) Refusal
-  check x = checked (first (of_store (capacity_of b) (tuples_of b) x (length l)))
+  check x = checked (tt {0}) (first (of_store (capacity_of b) (tuples_of b) x (length l)))
 
   passes_all : Ok tt ≡ check d → refusal_of (capacity_of b) (tuples_of b) c (length l) ≡ none
   passes_all R = all_pass (capacity_of b) (tuples_of b) c (length l) p N (R ∙ ap check D)
@@ -180,9 +180,6 @@ module _ (b l : List ℕ) (k : NamedCall) (p : first (of_call k.read.call) ≡ n
       }
 
 -- what the rest of the call requires
-pub looked_up_selects : (c : Call) (t : Bool) → t ≡ selects_nothing c → t ≡ false → selects_nothing c ≡ false
-looked_up_selects c t T e = sym T ∙ e
-
 pub decoded_fields : (c : Call) (d : Decoded) → d ≡ decoded c → d.fields ≡ fields_of c
 decoded_fields c d D = ap (λ (x : Decoded). x.fields) D
 

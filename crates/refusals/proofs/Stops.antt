@@ -36,48 +36,45 @@ use Rattle.refusals.specs.Checks.{checked, of_store, Unstopped}
 -- ---- the first condition that applies, one after the other
 
 -- a condition that applies stops the call, whatever comes after it
-pub stops : (condition : Refusal) (applies x : Bool) (xs : List Stop) → x ≡ applies → x ≡ true → Err condition ≡ checked (first (stop condition applies ∷ xs))
+pub stops : {A : Type 0} (y : A) (condition : Refusal) (applies x : Bool) (xs : List Stop) → x ≡ applies → x ≡ true
+    → Err condition ≡ checked y (first (stop condition applies ∷ xs))
 unfolding checked first
-stops condition applies x xs X e = ap (λ (b : Bool). checked (cond b (some condition) (first xs))) (sym e ∙ X)
+stops y condition applies x xs X e = ap (λ (b : Bool). checked y (cond b (some condition) (first xs))) (sym e ∙ X)
 
 -- one that does not leaves it to the rest
-pub passes : (condition : Refusal) (applies x : Bool) (xs : List Stop) (r : Result (Unit {0}) Refusal) → x ≡ applies → x ≡ false → r ≡ checked (first xs)
-    → r ≡ checked (first (stop condition applies ∷ xs))
+pub passes : {A : Type 0} (y : A) (condition : Refusal) (applies x : Bool) (xs : List Stop) (r : Result A Refusal) → x ≡ applies → x ≡ false
+    → r ≡ checked y (first xs) → r ≡ checked y (first (stop condition applies ∷ xs))
 unfolding checked first
-passes condition applies x xs r X e R = R ∙ ap (λ (b : Bool). checked (cond b (some condition) (first xs))) (sym e ∙ X)
+passes y condition applies x xs r X e R = R ∙ ap (λ (b : Bool). checked y (cond b (some condition) (first xs))) (sym e ∙ X)
 
 -- what was tested of a condition
 pub tested : (applies x t : Bool) → x ≡ applies → x ≡ t → applies ≡ t
 tested applies x t X e = sym X ∙ e
 
-pub nothing_left : Ok tt ≡ checked (first [])
+pub nothing_left : {A : Type 0} (y : A) → Ok y ≡ checked y (first [])
 unfolding checked first
-nothing_left = refl
+nothing_left y = refl
 
 -- ---- what the answer says
 
--- no error says that no condition applies
-none_applied : (x : Option Refusal) → Ok tt ≡ checked x → x ≡ none
+-- no error says that no condition applies, and what the result is
+pub none_applied : {A : Type 0} (y z : A) (x : Option Refusal) → Ok z ≡ checked y x → (z ≡ y) × (x ≡ none)
 unfolding checked
-none_applied none e = refl
-none_applied (some condition) e = cc
+none_applied y z none e = (cc, refl)
+none_applied y z (some condition) e = cc
 
 -- an error says which one stops the call
-one_applied : (x : Option Refusal) (condition : Refusal) → Err condition ≡ checked x → x ≡ some condition
+one_applied : {A : Type 0} (y : A) (x : Option Refusal) (condition : Refusal) → Err condition ≡ checked y x → x ≡ some condition
 unfolding checked
-one_applied none condition e = cc
-one_applied (some other) condition e = cc
+one_applied y none condition e = cc
+one_applied y (some other) condition e = cc
 
 -- ---- the conditions in two parts
 
--- no condition on the call applies
-pub call_passes : (c : Call) → Ok tt ≡ checked (first (of_call c)) → first (of_call c) ≡ none
-call_passes c e = none_applied (first (of_call c)) e
-
 -- a condition on the call stops it
-pub call_stops : (C : ℕ) (ts : Tuples) (c : Call) (room : ℕ) (condition : Refusal) → Err condition ≡ checked (first (of_call c)) → refusal_of C ts c room ≡ some condition
+pub call_stops : (C : ℕ) (ts : Tuples) (c : Call) (room : ℕ) (condition : Refusal) → Err condition ≡ checked c (first (of_call c)) → refusal_of C ts c room ≡ some condition
 unfolding refusal_of earlier of_call
-call_stops C ts c room condition e = first_some (of_call c) _ condition (one_applied (first (of_call c)) condition e)
+call_stops C ts c room condition e = first_some (of_call c) _ condition (one_applied c (first (of_call c)) condition e)
 
 -- where none does, and the space is looked up, those on what the store holds decide
 pub store_decides : (C : ℕ) (ts : Tuples) (c : Call) (room : ℕ) → first (of_call c) ≡ none → selects_nothing c ≡ false
@@ -94,12 +91,12 @@ nothing_passes C ts c room p e = not_looked_up C ts c room e ∙ p
 
 -- a call that passes all
 pub all_pass : (C : ℕ) (ts : Tuples) (c : Call) (room : ℕ) → first (of_call c) ≡ none → selects_nothing c ≡ false
-    → Ok tt ≡ checked (first (of_store C ts (decoded c) room)) → refusal_of C ts c room ≡ none
-all_pass C ts c room p e R = store_decides C ts c room p e ∙ none_applied (first (of_store C ts (decoded c) room)) R
+    → Ok (tt {0}) ≡ checked (tt {0}) (first (of_store C ts (decoded c) room)) → refusal_of C ts c room ≡ none
+all_pass C ts c room p e R = store_decides C ts c room p e ∙ (none_applied (tt {0}) (tt {0}) (first (of_store C ts (decoded c) room)) R).1
 
 pub store_stops : (C : ℕ) (ts : Tuples) (c : Call) (room : ℕ) (condition : Refusal) → first (of_call c) ≡ none → selects_nothing c ≡ false
-    → Err condition ≡ checked (first (of_store C ts (decoded c) room)) → refusal_of C ts c room ≡ some condition
-store_stops C ts c room condition p e R = store_decides C ts c room p e ∙ one_applied (first (of_store C ts (decoded c) room)) condition R
+    → Err condition ≡ checked (tt {0}) (first (of_store C ts (decoded c) room)) → refusal_of C ts c room ≡ some condition
+store_stops C ts c room condition p e R = store_decides C ts c room p e ∙ one_applied (tt {0}) (first (of_store C ts (decoded c) room)) condition R
 
 -- ---- 9
 

@@ -9,10 +9,10 @@ use Rattle.model.specs.Tuples.{Tuples}
 use Rattle.model.specs.Steps.{decoded}
 use Rattle.model.specs.Refusals.{Stop, stop, no_operator, zero_name, edge_absent, list_short, full, of_tuples}
 
--- the condition that stops a call is the error
-unfoldable pub checked : Option Refusal → Result (Unit {0}) Refusal
-checked none = Ok tt
-checked (some condition) = Err condition
+-- the condition that stops a call is the error; where none does, y is the result
+unfoldable pub checked : {A : Type 0} → A → Option Refusal → Result A Refusal
+checked y none = Ok y
+checked y (some condition) = Err condition
 
 -- conditions 5 to 10, in their order
 unfoldable pub of_store : ℕ → Tuples → Decoded → ℕ → List Stop

@@ -25,11 +25,11 @@ pub struct NamedCall {
 }
 
 impl NamedCall {
-    ghost use Rattle.refusals.specs.Admissions.{call_admitted, admitted};
+    ghost use Rattle.refusals.specs.Admissions.{call_admitted};
 
     // Conditions 2, 3, 12 and 4, whatever the store holds: the first that stops the call is the error.
     pub fn admit(call: Call) -> Result<NamedCall, Refusal>
-        ensures { call_admitted result ≡ admitted call (first (of_call call)) }
+        ensures { call_admitted result ≡ checked call (first (of_call call)) }
     {
         let Some(read) = DecodedCall::of(call) else {
             return Err(Refusal::NoOperator);
@@ -181,7 +181,7 @@ fn check_step(
     room: usize,
 ) -> Result<(), Refusal>
     requires { (is_store b.now ≡ true) × NearIn b.now near × NearIn b.now universe }
-    ensures { result ≡ checked (first (of_step (capacity_of b.now) (tuples_of b.now) a.read.decoded room)) }
+    ensures { result ≡ checked tt (first (of_step (capacity_of b.now) (tuples_of b.now) a.read.decoded room)) }
 {
     if edge_absent(b, a.read.decoded, near) {
         return Err(Refusal::EdgeAbsent);
@@ -206,7 +206,7 @@ pub fn check_store(
     room: usize,
 ) -> Result<(), Refusal>
     requires { (is_store b.now ≡ true) × Told b.now a.read.decoded l × NearIn b.now universe }
-    ensures { result ≡ checked (first (of_store (capacity_of b.now) (tuples_of b.now) a.read.decoded room)) }
+    ensures { result ≡ checked tt (first (of_store (capacity_of b.now) (tuples_of b.now) a.read.decoded room)) }
 {
     if space_absent(b, a, l) {
         return Err(Refusal::SpaceAbsent);
