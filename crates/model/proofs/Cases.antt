@@ -1,5 +1,6 @@
 -- Cases (a) to (j) of document 01 (specs/Cases.antt), by computation.
 use mathlib.Core.Path.{refl}
+use Rattle.model.specs.Numbered.{refusal_in}
 use Rattle.model.specs.Ordered.{holds, put}
 use Rattle.model.specs.Keys.{compare_keys}
 use Rattle.model.specs.Tuples.{any_present, value_at, add_all, missing, assign, assign_all, remove}
@@ -28,7 +29,7 @@ computed_steps = tt
 
 -- .. the conditions ..
 unfoldable computed_conditions : Unit {0}
-unfolding first zero_space is_universe is_nothing selects_nothing no_operator zero_name lacks_space destroys_universe space_absent node_absent second_absent worked_on edge_absent list_short full of_call of_tuples
+unfolding refusal_in first zero_space is_universe is_nothing selects_nothing no_operator zero_name lacks_space destroys_universe space_absent node_absent second_absent worked_on edge_absent list_short full of_call of_tuples
 computed_conditions = tt
 
 -- .. and the machine

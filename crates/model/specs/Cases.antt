@@ -4,7 +4,7 @@ use Rattle.std.specs.Prelude.{false, List, [], ◌∷◌, ◌≡◌, ℕ, length
 use Rattle.model.specs.declared.Space.{Space}
 use Rattle.model.specs.declared.Space.TheVariants.{Universe, Numbered}
 use Rattle.model.specs.declared.Key.{Key}
-use Rattle.model.specs.declared.Refusal.TheVariants.{NoOperator, ZeroName, UniverseDestroyed, SpaceAbsent, NodeAbsent, SecondAbsent, EdgeAbsent, ListTooShort, Full}
+use Rattle.model.specs.Numbered.{refusal_in}
 use Rattle.model.specs.Keys.{Value, NIL, Tuple, space_key, node_key, edge_key}
 use Rattle.model.specs.Tuples.{fresh}
 use Rattle.model.specs.Pairs.{pair}
@@ -66,17 +66,21 @@ with_room room (calling r) = calling (record { call = r.call; room = room })
 abbrev pub new : Key → Tuple
 new k = record { key = k; value = NIL }
 
+-- a refusal, by the number that is answered
+abbrev pub refused : ℕ → Reply
+refused number = refusal (refusal_in number)
+
 -- the state after a list of calls from a fresh store of C records
 abbrev pub state_after : ℕ → List Request → State
 state_after C rs = final C fresh rs
 
 pub record Cases : Type 0 where
   -- C = 1, CUN 1: 10
-  pub a : answers 1 fresh (CUN 1 Universe ∷ []) ≡ refusal Full ∷ []
+  pub a : answers 1 fresh (CUN 1 Universe ∷ []) ≡ refused 10 ∷ []
   -- C = 2, CUN 1, DUN 1, CUS 9: the last returns 9
   pub b : answers 2 fresh (CUN 1 Universe ∷ DUN 1 Universe ∷ CUS (numbered 9) ∷ []) ≡ added 1 1 ∷ removed 1 1 ∷ added 9 1 ∷ []
   -- C = 3, CUS 9, CUN 1 9: 10, two tuples remain
-  pub c : answers 3 fresh (CUS (numbered 9) ∷ CUN 1 (numbered 9) ∷ []) ≡ added 9 1 ∷ refusal Full ∷ []
+  pub c : answers 3 fresh (CUS (numbered 9) ∷ CUN 1 (numbered 9) ∷ []) ≡ added 9 1 ∷ refused 10 ∷ []
   pub c_remain : length (state_after 3 (CUS (numbered 9) ∷ CUN 1 (numbered 9) ∷ [])) ≡ 2
   -- the same, C = 4: returns 1
   pub d : answers 4 fresh (CUS (numbered 9) ∷ CUN 1 (numbered 9) ∷ []) ≡ added 9 1 ∷ added 1 2 ∷ []
@@ -106,7 +110,7 @@ pub record Cases : Type 0 where
   -- CUS on UNIVERSE: 0
   pub i : answers 2048 fresh (CUS Universe ∷ []) ≡ added 0 0 ∷ []
   -- a list of length 0 and k = 0: answered; k = 1: 9
-  pub j : answers 2048 fresh (with_room 0 (SUN Universe) ∷ CUN 1 Universe ∷ with_room 0 (SUN Universe) ∷ []) ≡ pairs 0 [] ∷ added 1 1 ∷ refusal ListTooShort ∷ []
+  pub j : answers 2048 fresh (with_room 0 (SUN Universe) ∷ CUN 1 Universe ∷ with_room 0 (SUN Universe) ∷ []) ≡ pairs 0 [] ∷ added 1 1 ∷ refused 9 ∷ []
 
 -- ---- the table of script lines, left columns first, then right; by request 2 "the C and D lines gain" the number, "as `= 1 -3` for `DUN 1`"
 
@@ -138,16 +142,16 @@ script_replies =
     ∷ pairs 0 []
     ∷ pairs 2 (pair 0 1 ∷ pair 0 2 ∷ [])
     ∷ added 1 1
-    ∷ refusal SecondAbsent
+    ∷ refused 7
     ∷ added 1 1
     ∷ name 1
     ∷ valued 60
-    ∷ refusal SecondAbsent
+    ∷ refused 7
     ∷ removed 1 3
     ∷ pairs 1 (pair 0 2 ∷ [])
     ∷ yes_no false
-    ∷ refusal UniverseDestroyed
-    ∷ refusal ZeroName
+    ∷ refused 4
+    ∷ refused 3
     ∷ []
 
 abbrev pub ScriptTable : Type 0
@@ -159,14 +163,14 @@ ScriptTable = answers 2048 fresh script_calls ≡ script_replies
 abbrev pub FirstWins : Type 0
 FirstWins =
     answers 1 fresh (call 58 0 0 0 Universe ∷ CUN 0 (numbered 9) ∷ COP 1 5 2 (numbered 9) ∷ COP 1 5 2 Universe ∷ [])
-    ≡ refusal NoOperator ∷ refusal ZeroName ∷ refusal SpaceAbsent ∷ refusal NodeAbsent ∷ []
+    ≡ refused 2 ∷ refused 3 ∷ refused 5 ∷ refused 6 ∷ []
 
 -- 7 and 8; 7 and 10 (the store is full)
 abbrev pub SecondNode : Type 0
-SecondNode = answers 2 fresh (CUN 1 Universe ∷ VOP 1 5 2 Universe ∷ COP 1 5 2 Universe ∷ []) ≡ added 1 1 ∷ refusal SecondAbsent ∷ refusal SecondAbsent ∷ []
+SecondNode = answers 2 fresh (CUN 1 Universe ∷ VOP 1 5 2 Universe ∷ COP 1 5 2 Universe ∷ []) ≡ added 1 1 ∷ refused 7 ∷ refused 7 ∷ []
 
 -- the examples' operators are those that they are named for: BOP sets no edge that points the other way, DON removes what an edge points to and not what it comes from
 abbrev pub OperatorsApart : Type 0
 OperatorsApart =
     answers 2048 fresh (CUN 1 Universe ∷ CUN 2 Universe ∷ COP 1 5 2 Universe ∷ BOP 2 5 1 60 Universe ∷ DON 2 Universe ∷ DON 1 Universe ∷ SUN Universe ∷ [])
-    ≡ added 1 1 ∷ added 2 1 ∷ added 1 1 ∷ refusal EdgeAbsent ∷ removed 2 0 ∷ removed 1 2 ∷ pairs 1 (pair 0 1 ∷ []) ∷ []
+    ≡ added 1 1 ∷ added 2 1 ∷ added 1 1 ∷ refused 8 ∷ removed 2 0 ∷ removed 1 2 ∷ pairs 1 (pair 0 1 ∷ []) ∷ []

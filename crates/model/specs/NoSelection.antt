@@ -4,7 +4,6 @@ use Rattle.std.specs.Prelude.{true, false, List, [], ◌∷◌, ◌++◌, ◌≡
 use Rattle.std.proofs.Math.Option.{Option, none, some}
 use Rattle.model.specs.declared.Call.{Call}
 use Rattle.model.specs.declared.Refusal.{Refusal}
-use Rattle.model.specs.declared.Refusal.TheVariants.{NoOperator, ZeroName, NodeAbsent, NoSelection as Unselected}
 use Rattle.model.specs.declared.Space.{Space}
 use Rattle.model.specs.declared.Space.TheVariants.{Universe, Nothing}
 use Rattle.model.specs.Tuples.{fresh}
@@ -14,7 +13,7 @@ use Rattle.model.specs.Refusals.{first, of_call}
 use Rattle.model.specs.Machine.{State, Request, answers, final}
 use Rattle.model.specs.Layouts.{Layout}
 use Rattle.model.specs.CallLists.{Exchange, requests, replies}
-use Rattle.model.specs.Cases.{call, call_with, numbered, COP, CAP, BOP, VOP, DON, CUN, XUN, DUN, SUN, CUS, DUS, with_room, state_after}
+use Rattle.model.specs.Cases.{call, call_with, numbered, COP, CAP, BOP, VOP, DON, CUN, XUN, DUN, SUN, CUS, DUS, with_room, refused, state_after}
 
 -- the refusal, where there is one
 unfoldable pub refusal_or : Reply → Option Refusal → Reply
@@ -69,13 +68,13 @@ pub record NoSelection : Type 0 where
       ∷ call 54 0 0 0 Nothing
       ∷ DUS Nothing
       ∷ [])
-      ≡ refusal Unselected ∷ refusal Unselected ∷ refusal Unselected ∷ refusal Unselected ∷ refusal Unselected ∷ refusal Unselected ∷ refusal Unselected ∷ refusal Unselected ∷ []
+      ≡ refused 12 ∷ refused 12 ∷ refused 12 ∷ refused 12 ∷ refused 12 ∷ refused 12 ∷ refused 12 ∷ refused 12 ∷ []
   -- "tested after 3": a name 0 that is read; 2 before both
-  pub p : answers 2048 fresh (VOP 1 0 2 Nothing ∷ CUN 0 Nothing ∷ XOP 1 5 0 Nothing ∷ call 58 0 0 0 Nothing ∷ []) ≡ refusal ZeroName ∷ refusal ZeroName ∷ refusal ZeroName ∷ refusal NoOperator ∷ []
+  pub p : answers 2048 fresh (VOP 1 0 2 Nothing ∷ CUN 0 Nothing ∷ XOP 1 5 0 Nothing ∷ call 58 0 0 0 Nothing ∷ []) ≡ refused 3 ∷ refused 3 ∷ refused 3 ∷ refused 2 ∷ []
   -- UNIVERSE, an empty numbered space and nothing are three: SUN, then COP 1 5 2, then VUS
   pub q_nodes : on_panel (SUN Universe ∷ SUN (numbered 9) ∷ SUN Nothing ∷ []) ≡ pairs 2 (pair 0 1 ∷ pair 0 2 ∷ []) ∷ pairs 0 [] ∷ pairs 0 [] ∷ []
-  pub q_edge : on_panel (COP 1 5 2 Universe ∷ COP 1 5 2 (numbered 9) ∷ COP 1 5 2 Nothing ∷ []) ≡ added 1 0 ∷ refusal NodeAbsent ∷ added 1 0 ∷ []
-  pub q_value : on_panel (call 53 0 0 0 Universe ∷ call 53 0 0 0 (numbered 9) ∷ call 53 0 0 0 Nothing ∷ []) ≡ valued 0 ∷ valued 0 ∷ refusal Unselected ∷ []
+  pub q_edge : on_panel (COP 1 5 2 Universe ∷ COP 1 5 2 (numbered 9) ∷ COP 1 5 2 Nothing ∷ []) ≡ added 1 0 ∷ refused 6 ∷ added 1 0 ∷ []
+  pub q_value : on_panel (call 53 0 0 0 Universe ∷ call 53 0 0 0 (numbered 9) ∷ call 53 0 0 0 Nothing ∷ []) ≡ valued 0 ∷ valued 0 ∷ refused 12 ∷ []
   -- an edge is there as it points, and with nothing not at all
   pub q_exists : on_panel (XOP 1 5 2 Universe ∷ XOP 2 5 1 Universe ∷ XOP 1 5 2 Nothing ∷ []) ≡ yes_no true ∷ yes_no false ∷ yes_no false ∷ []
   -- SUS does not read its space: nothing there has no effect

@@ -18,7 +18,7 @@ number_of Full = 10
 number_of Unreadable = 11
 number_of NoSelection = 12
 
--- the condition of a number; a number that none of the others has is read as 12, and nothing rests on that
+-- the condition of a number; any other number is read as 11, which no call answers, so that what a call answers tells the number
 unfoldable pub refusal_in : ℕ → Refusal
 refusal_in number =
     cond (eqb number 1) NotAStore
@@ -28,4 +28,4 @@ refusal_in number =
     (cond (eqb number 5) SpaceAbsent
     (cond (eqb number 6) NodeAbsent
     (cond (eqb number 7) SecondAbsent
-    (cond (eqb number 8) EdgeAbsent (cond (eqb number 9) ListTooShort (cond (eqb number 10) Full (cond (eqb number 11) Unreadable NoSelection))))))))))
+    (cond (eqb number 8) EdgeAbsent (cond (eqb number 9) ListTooShort (cond (eqb number 10) Full (cond (eqb number 11) Unreadable (cond (eqb number 12) NoSelection Unreadable)))))))))))

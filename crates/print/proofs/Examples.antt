@@ -3,7 +3,7 @@ use mathlib.Core.Bool.{true, false}
 use mathlib.Core.List.{[], ◌∷◌}
 use mathlib.Core.Path.{◌≡◌, refl}
 use Rattle.model.specs.Pairs.{pair}
-use Rattle.model.specs.declared.Refusal.TheVariants.{SecondAbsent}
+use Rattle.model.specs.declared.Refusal.TheVariants.{SecondAbsent, Unreadable}
 use Rattle.model.specs.Numbered.{number_of}
 use Rattle.model.specs.Steps.{refusal, name, added, removed, valued, yes_no, pairs}
 use Rattle.text.specs.Bytes.{line_feed, blank, hyphen, plus_sign, equals_sign, colon, I, L, N, R, T, «V»}
@@ -31,6 +31,8 @@ pub record Examples : Type 0 where
       ≡ L ∷ blank ∷ 50 ∷ blank ∷ 48 ∷ colon ∷ 49 ∷ blank ∷ 48 ∷ colon ∷ 50 ∷ line_feed ∷ []
   -- "COP 1 5 2 9": "R 7"
   pub a_refusal : answer_line (refusal SecondAbsent) ≡ R ∷ blank ∷ 55 ∷ line_feed ∷ []
+  -- a line that does not read as a call: "R 11"
+  pub an_unreadable_line : answer_line (refusal Unreadable) ≡ R ∷ blank ∷ 49 ∷ 49 ∷ line_feed ∷ []
   -- an entry's edge comes first
   pub an_entry : entry_text (pair 5 12) ≡ blank ∷ 53 ∷ colon ∷ 49 ∷ 50 ∷ []
   -- the largest name and the largest value
@@ -52,6 +54,7 @@ examples =
       no_entries = refl;
       two_entries = refl;
       a_refusal = refl;
+      an_unreadable_line = refl;
       an_entry = refl;
       largest_name = refl;
       largest_value = refl;

@@ -4,7 +4,8 @@ use mathlib.Core.List.{List, [], ◌∷◌, ◌++◌}
 use mathlib.Core.Path.{◌≡◌, refl, sym, ap, ap₂, ◌∙◌}
 use Prim.Native.Nat.{ℕ, zero, suc, ◌+◌, ◌-◌, ◌*◌, ◌≤◌, ◌<◌}
 use native.Mathlib.Omega.{arith}
-use borrow.Author.Tests.{ne_eqb}
+use lib.Dec.{eqb}
+use borrow.Author.Tests.{ne_eqb, eqb-true}
 use lib.ListN.{length, take, drop, length-append}
 use lib.Seq.{take_at, drop_at, drop-drop}
 use mir.Val.{bool_byte}
@@ -14,7 +15,9 @@ use Rattle.model.specs.declared.Space.{Space}
 use Rattle.model.specs.declared.Answer.{Answer}
 use Rattle.model.specs.declared.Answer.TheVariants.{Name, Added, Removed, Value as Valued, YesNo, List as Listed}
 use Rattle.model.specs.declared.Refusal.{Refusal}
-use Rattle.model.proofs.Numbered.{number_back}
+use Rattle.model.specs.declared.Refusal.TheVariants.{Unreadable}
+use Rattle.model.specs.Numbered.{number_of, refusal_in}
+use Rattle.model.proofs.Numbered.{number_back, number_told}
 use Rattle.model.specs.Keys.{NIL}
 use Rattle.model.specs.Machine.{CallRequest}
 use Rattle.run.specs.declared.CallWords.{CallWords}
@@ -126,6 +129,31 @@ answer_back (Ok (Valued v)) = refl
 answer_back (Ok (YesNo true)) = refl
 answer_back (Ok (YesNo false)) = refl
 answer_back (Ok (Listed k)) = refl
+
+-- the condition of a refusal; of other answers that of a line, which no call answers
+abbrev condition_of : Result Answer Refusal → Refusal
+condition_of (Err condition) = condition
+condition_of (Ok a) = Unreadable
+
+-- words that are read as a refusal which stops calls are that refusal's: other words would not do
+module _ (w : AnswerWords) (c : Refusal) (apart : c ≡ Unreadable → ⊥) where
+  pub refusal_words : answer_in w ≡ Err c → (w.kind ≡ 0) × (w.first ≡ number_of c)
+  unfolding answer_in
+  refusal_words read = go (eqb w.kind 0) (eqb w.kind 1) (eqb w.kind 2) (eqb w.kind 3) (eqb w.kind 4) (eqb w.kind 6) refl read
+    where
+      go : (b₀ b₁ b₂ b₃ b₄ b₆ : Bool) → eqb w.kind 0 ≡ b₀
+          → cond b₀ (Err (refusal_in w.first))
+          (cond b₁ (Ok (Name w.first))
+          (cond b₂ (Ok (Valued w.first))
+          (cond b₃ (Ok (YesNo (eqb w.first 1))) (cond b₄ (Ok (Listed w.first)) (cond b₆ (Ok (Added w.first w.second)) (Ok (Removed w.first w.second))))))) ≡ Err c
+          → (w.kind ≡ 0) × (w.first ≡ number_of c)
+      go true b₁ b₂ b₃ b₄ b₆ t e = (eqb-true w.kind 0 t, number_told w.first c apart (ap condition_of e))
+      go false true b₂ b₃ b₄ b₆ t e = absurd (apart (sym (ap condition_of e)))
+      go false false true b₃ b₄ b₆ t e = absurd (apart (sym (ap condition_of e)))
+      go false false false true b₄ b₆ t e = absurd (apart (sym (ap condition_of e)))
+      go false false false false true b₆ t e = absurd (apart (sym (ap condition_of e)))
+      go false false false false false true t e = absurd (apart (sym (ap condition_of e)))
+      go false false false false false false t e = absurd (apart (sym (ap condition_of e)))
 
 pub answer_written : (w : AnswerWords) (a : Result Answer Refusal) → w ≡ answer_words a → w.kind ∷ w.first ∷ w.second ∷ [] ≡ answer_list a
 answer_written w a e = ap (λ (x : AnswerWords). x.kind ∷ x.first ∷ x.second ∷ []) e

@@ -10,7 +10,8 @@ use gaffdamson_reference::machine::{Answer, Call, Key, Space, Value};
 use gaffdamson_reference::random::lists::Run;
 
 /// The files of the definitions that compute.
-const MODULES: [&str; 12] = [
+const MODULES: [&str; 13] = [
+    "Numbered",
     "Numbers",
     "Ordered",
     "Keys",
@@ -35,8 +36,9 @@ use Rattle.model.specs.declared.Space.TheVariants.{Universe, Numbered, Nothing}
 use Rattle.model.specs.Keys.{Tuple}
 use Rattle.model.specs.Tuples.{Tuples, fresh}
 use Rattle.model.specs.Pairs.{pair}
-use Rattle.model.specs.Steps.{Reply, refusal, name, added, removed, valued, yes_no, pairs}
+use Rattle.model.specs.Steps.{Reply, name, added, removed, valued, yes_no, pairs}
 use Rattle.model.specs.Machine.{Request, calling}
+use Rattle.model.specs.Cases.{refused}
 ";
 
 const ABBREVIATIONS: &str = "
@@ -192,7 +194,7 @@ fn written_call(call: &Call) -> String {
 
 fn written_answer(answer: &Answer) -> String {
     match answer {
-        Answer::Refusal(number) => format!("refusal {number}"),
+        Answer::Refusal(number) => format!("refused {number}"),
         Answer::Name(name) => format!("name {name}"),
         Answer::Added(name, count) => format!("added {name} {count}"),
         Answer::Removed(name, count) => format!("removed {name} {count}"),
