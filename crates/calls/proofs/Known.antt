@@ -21,7 +21,7 @@ use Rattle.model.specs.Tuples.{Tuples, missing}
 use Rattle.layouts.specs.Buffer.{capacity_of, tuples_of, is_store}
 use Rattle.model.specs.Steps.{Reply, fields_of, decoded, first_argument, would_list, would_add, idle_reply}
 use Rattle.model.specs.Refusals.{first, selects_nothing, zero_name, destroys_universe, list_short, full, of_call, refusal_of}
-use Rattle.model.specs.Machine.{Outcome, step, idle, outcome_of, machine}
+use Rattle.model.specs.Machine.{FieldsFit, Outcome, step, idle, outcome_of, machine}
 use Rattle.model.specs.OneCall.{answer_of, list_after, OnStore, OneCall}
 use Rattle.layouts.specs.Stored.{stored}
 use Rattle.model.proofs.Bools.{and_left, and_right, not_yes, not_no}
@@ -65,13 +65,11 @@ call_refused b l c condition e R = refused b l c condition e (call_stops (capaci
 
 -- ---- with nothing as the space
 
-pub idle_known : (b l : List ℕ) (k : NamedCall) (x : ℕ) (a : Answer) (t : Bool) → is_store b ≡ true → first (of_call k.read.call) ≡ none
-    → t ≡ selects_nothing k.read.call → t ≡ true → x ≡ first_argument k.read.decoded → Ok a ≡ answer_of (idle_reply k.read.decoded.operator x)
-    → OnStore stored b l k.read.call (Ok a) b l
+pub idle_known : (b l : List ℕ) (c : Call) (d : Decoded) (x : ℕ) (a : Result Answer Refusal) (t : Bool) → is_store b ≡ true → d ≡ decoded c
+    → first (of_call c) ≡ none → t ≡ selects_nothing c → t ≡ true → x ≡ first_argument (decoded c) → a ≡ answer_of (idle_reply d.operator x)
+    → OnStore stored b l c a b l
 unfolding machine outcome_of
-idle_known b l k x a t e p T y X A =
-    let c : Call = k.read.call in
-    let D = k.read.told in
+idle_known b l c d x a t e D p T y X A =
     let C : ℕ = capacity_of b in
     let ts : Tuples = tuples_of b in
     let N = sym T ∙ y in
@@ -81,7 +79,7 @@ idle_known b l k x a t e p T y X A =
     record {
       answer =
           A
-          ∙ (λ i. answer_of (idle_reply (D i).operator ((X ∙ ap first_argument D) i)))
+          ∙ (λ i. answer_of (idle_reply (D i).operator (X i)))
           ∙ sym (ap (λ (o : Outcome). answer_of o.answer) M);
       list = sym (idle_unwritten (decoded c).operator (first_argument (decoded c)) l) ∙ sym (ap (λ (o : Outcome). list_after o.answer l) M);
       store = e;
@@ -130,16 +128,7 @@ ready_for b c room P = go (operator_of c.operator) refl
 
 -- ---- a call that is looked up
 
-module _ (b l : List ℕ) (k : NamedCall) (p : first (of_call k.read.call) ≡ none) (N : selects_nothing k.read.call ≡ false) where
-  abbrev c : Call
-  c = k.read.call
-
-  abbrev d : Decoded
-  d = k.read.decoded
-
-  D : d ≡ decoded c
-  D = k.read.told
-
+module _ (b l : List ℕ) (c : Call) (d : Decoded) (D : d ≡ decoded c) (p : first (of_call c) ≡ none) (N : selects_nothing c ≡ false) where
   abbrev check : Decoded → Result (Unit {0}) Refusal
   check x = checked (tt {0}) (first (of_store (capacity_of b) (tuples_of b) x (length l)))
 
@@ -154,10 +143,10 @@ module _ (b l : List ℕ) (k : NamedCall) (p : first (of_call k.read.call) ≡ n
   pub refused_known : (condition : Refusal) → is_store b ≡ true → Err condition ≡ check d → OnStore stored b l c (Err condition) b l
   refused_known condition e R = refused b l c condition e (store_stops (capacity_of b) (tuples_of b) c (length l) condition p N (R ∙ ap check D))
 
-  pub performed_known : (b' l' : List ℕ) (x : ℕ) (a : Answer) → is_store b ≡ true → Ok tt ≡ check d → x ≡ first_argument d
+  pub performed_known : (b' l' : List ℕ) (x : ℕ) (a : Answer) → is_store b ≡ true → FieldsFit (fields_of c) → Ok tt ≡ check d → x ≡ first_argument (decoded c)
       → Performed d.operator x d.fields b l a b' l' → OnStore stored b l c (Ok a) b' l'
   unfolding machine outcome_of
-  performed_known b' l' x a e R X P =
+  performed_known b' l' x a e F R X P =
       let C : ℕ = capacity_of b in
       let ts : Tuples = tuples_of b in
       let pass = passes_all R in
@@ -166,11 +155,11 @@ module _ (b l : List ℕ) (k : NamedCall) (p : first (of_call k.read.call) ≡ n
       ap (λ (r : Option Refusal). outcome_of r ts c) pass ∙ ap (λ (t : Bool). cond t (idle c ts) (step c ts)) N in
       let E : Performed (decoded c).operator (first_argument (decoded c)) (decoded c).fields b l a b' l'
       = subst (λ (y : Decoded). Performed y.operator (first_argument (decoded c)) y.fields b l a b' l') D
-      (subst (λ (n : ℕ). Performed d.operator n d.fields b l a b' l') (X ∙ ap first_argument D) P) in
+      (subst (λ (n : ℕ). Performed d.operator n d.fields b l a b' l') X P) in
       record {
         answer = E.answer ∙ sym (ap (λ o. answer_of o.answer) M);
         list = E.list ∙ sym (ap (λ o. list_after o.answer l) M);
-        store = edited_store b b' _ E.edited (after_rules (operator_of c.operator) C ts c (length l) (store_tuples b e) k.read.fit Q (agree c Q.operator));
+        store = edited_store b b' _ E.edited (after_rules (operator_of c.operator) C ts c (length l) (store_tuples b e) F Q (agree c Q.operator));
         state = E.edited.tuples ∙ sym (ap (λ o. o.state) M);
         size = E.edited.size;
         past = E.edited.past;
@@ -182,6 +171,9 @@ module _ (b l : List ℕ) (k : NamedCall) (p : first (of_call k.read.call) ≡ n
 -- what the rest of the call requires
 pub decoded_fields : (c : Call) (d : Decoded) → d ≡ decoded c → d.fields ≡ fields_of c
 decoded_fields c d D = ap (λ (x : Decoded). x.fields) D
+
+pub decoded_first : (c : Call) (d : Decoded) (x : ℕ) → d ≡ decoded c → x ≡ first_argument d → x ≡ first_argument (decoded c)
+decoded_first c d x D X = X ∙ ap first_argument D
 
 -- what holds of the admitted call holds of the call
 pub as_called : (b l b' l' : List ℕ) (c : Call) (k : NamedCall) (r : Result Answer Refusal) → k.read.call ≡ c

@@ -56,7 +56,7 @@ fn look_up(store: &mut [u32], a: NamedCall, list: &mut [u32]) -> Result<Answer, 
     let l = located::locate(store, above, d);
     let near = l.near;
     let universe = located::also_in_universe(near, above, d.fields.s);
-    refusals::check_store(store, a, l, universe, list.len())?;
+    refusals::check_store(store, d, l, universe, list.len())?;
     let name = a.read.first_argument();
     Ok(perform::perform(store, near, universe, d.operator, d.fields, name, list))
 }

@@ -1,6 +1,8 @@
 -- The rows of the table of operators.
 use mathlib.Core.Path.{◌≡◌, refl, sym, ap, ◌∙◌}
 use Prim.Native.Nat.{ℕ, ◌-◌, ◌≤◌, ◌<◌}
+use native.Mathlib.Omega.{arith}
+use lib.ListN.{get_or-eq_default}
 use Rattle.model.specs.declared.Direction.{Direction}
 use Rattle.model.specs.declared.Listing.{Listing}
 use Rattle.model.specs.declared.Object.{Object}
@@ -85,3 +87,8 @@ pub row_42 : (o : ℕ) (d : Direction) → 42 ≤ o → o < 45 → d ≡ turn (o
 unfolding operator_of table turn
 row_42 o d h l e =
     ap (λ (d : Direction). Lists (Listing.NG d)) e ∙ sym (every operator_of (λ (o : ℕ). Lists (Listing.NG (turn (o - 42)))) 42 3 (refl, (refl, (refl, tt))) o h l)
+
+-- and what stands for a number above the last
+pub above_rows : (o : ℕ) → 58 ≤ o → Lists Listing.US ≡ operator_of o
+unfolding operator_of table
+above_rows o h = sym (get_or-eq_default table (Lists Listing.US) {n = o - 1} (omega (arith, h)))

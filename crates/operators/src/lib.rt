@@ -146,13 +146,13 @@ pub fn pair_listing(o: u32) -> Operator
     }
 }
 
-// From 45 on: the operators of nodes and spaces; none above 57.
-#[tactic(auto, unfolding(crate::specs::Known::known_operator, model::specs::Operators::operator_of, model::specs::Operators::table))]
-pub fn other_operator(o: u32) -> Option<Operator>
+// From 45 on: the operators of nodes and spaces. Above 57 the table has none, and what it gives there has no effect: condition 2 stops such a call.
+#[tactic(auto, unfolding(model::specs::Operators::operator_of, model::specs::Operators::table))]
+pub fn other_operator(o: u32) -> Operator
     requires { 45 ≤ o }
-    ensures { result ≡ known_operator o }
+    ensures { result ≡ operator_of o }
 {
-    let operator = match o {
+    match o {
         45 => Operator::Create(Object::UN),
         46 => Operator::Bind(Object::UN),
         47 => Operator::Value(Object::UN),
@@ -166,22 +166,52 @@ pub fn other_operator(o: u32) -> Option<Operator>
         55 => Operator::Destroy(Removal::US),
         56 => Operator::List(Listing::US),
         57 => Operator::List(Listing::USn),
-        _ => return None,
-    };
-    Some(operator)
+        _ => Operator::List(Listing::US),
+    }
 }
 
-// The operator of a number; none where it is not 1 to 57, which is condition 2.
-pub fn operator_of(o: u32) -> Option<Operator>
-    ensures { result ≡ known_operator o }
+// The operator of a number; what it is for 0 and above 57 has no effect, since condition 2 stops a call with such a number.
+#[tactic(auto, unfolding(model::specs::Operators::operator_of, model::specs::Operators::table))]
+pub fn operator_of(o: u32) -> Operator
+    ensures { result ≡ operator_of o }
 {
     match o {
-        0 => None,
-        1..=11 => Some(pair_operator(o)),
-        12..=29 => Some(pair_removal(o)),
-        30..=44 => Some(pair_listing(o)),
+        0 => Operator::Create(Object::P(Direction::Outpointing)),
+        1..=11 => pair_operator(o),
+        12..=29 => pair_removal(o),
+        30..=44 => pair_listing(o),
         _ => other_operator(o),
     }
+}
+
+// Is a number an operator's; where it is not, condition 2 stops the call.
+fn is_known(o: u32) -> bool
+    ensures { result ≡ within 1 57 o }
+{
+    is_within(1, 57, o)
+}
+
+// The operator of a number; none where it is not 1 to 57.
+#[tactic(auto, unfolding(crate::specs::Known::known_operator))]
+pub fn known_operator(o: u32) -> Option<Operator>
+    ensures { result ≡ known_operator o }
+{
+    if !is_known(o) {
+        return None;
+    }
+    Some(operator_of(o))
+}
+
+// The same for a number from 45 on: the rows of pairs are not looked through.
+#[tactic(auto, unfolding(crate::specs::Known::known_operator))]
+pub fn known_other(o: u32) -> Option<Operator>
+    requires { 45 ≤ o }
+    ensures { result ≡ known_operator o }
+{
+    if !is_known(o) {
+        return None;
+    }
+    Some(other_operator(o))
 }
 
 // Is the space a number, and that 0.
@@ -242,6 +272,74 @@ pub fn fields_of(c: Call) -> Fields
     }
 }
 
+// What the store reads of a call, where `row` and `operator` are those of its number.
+fn decode_as(c: Call, row: Row, operator: Operator) -> Decoded
+    requires { (row ≡ row_of c.operator) × (operator ≡ operator_of c.operator) }
+    ensures value { result ≡ decoded_call c }
+    ensures fit { FieldsFit (fields_of c) }
+{
+    let fields = fields_of(c);
+    Decoded {
+        row,
+        operator,
+        fields,
+    }
+}
+
+// The same of a call with any number.
+pub fn decode(c: Call, row: Row) -> Decoded
+    requires { row ≡ row_of c.operator }
+    ensures value { result ≡ decoded_call c }
+    ensures fit { FieldsFit (fields_of c) }
+{
+    decode_as(c, row, operator_of(c.operator))
+}
+
+// Is the space of the call read, and nothing.
+#[tactic(auto, unfolding(model::specs::Refusals::selects_nothing))]
+pub fn selects_nothing(c: Call, row: Row) -> bool
+    requires { row ≡ row_of c.operator }
+    ensures { result ≡ selects_nothing c }
+{
+    row.reads.s && is_nothing(c.s)
+}
+
+// Condition 3: a name that is read is 0.
+#[tactic(auto, unfolding(model::specs::Refusals::zero_name))]
+pub fn zero_name(c: Call, r: Reads) -> bool
+    requires { r ≡ reads_of c.operator }
+    ensures { result ≡ zero_name c }
+{
+    r.n && c.n.0 == 0 || r.g && c.g.0 == 0 || r.m && c.m.0 == 0 || r.s && zero_space(c.s)
+}
+
+// Condition 12: the operator asks for a selection, and there is none.
+#[tactic(auto, unfolding(model::specs::Refusals::lacks_space))]
+pub fn lacks_space(c: Call, asks: Asks, nothing: bool) -> bool
+    requires { (asks ≡ asks_of c.operator) × (nothing ≡ selects_nothing c) }
+    ensures { result ≡ lacks_space c }
+{
+    nothing && asks.selection
+}
+
+// Condition 4: the operator asks for a numbered space, and the space is UNIVERSE.
+#[tactic(auto, unfolding(model::specs::Refusals::destroys_universe))]
+pub fn destroys_universe(c: Call, asks: Asks) -> bool
+    requires { asks ≡ asks_of c.operator }
+    ensures { result ≡ destroys_universe c }
+{
+    asks.number && is_universe(c.s)
+}
+
+// What C, B and D return.
+#[tactic(auto, unfolding(model::specs::Steps::first_argument))]
+pub fn first_argument(c: Call, row: Row) -> u16
+    requires { row ≡ row_of c.operator }
+    ensures { result ≡ first_argument (decoded_call c) }
+{
+    if row.first { space_name(c.s) } else { c.n.0 }
+}
+
 // A call, and what the store reads of it.
 #[derive(Clone, Copy)]
 pub struct DecodedCall {
@@ -258,60 +356,44 @@ impl DecodedCall {
     pub fn of(call: Call) -> Option<DecodedCall>
         ensures { call_decoded result ≡ cond (no_operator call) None (Some call) }
     {
-        let operator = operator_of(call.operator)?;
+        let operator = known_operator(call.operator)?;
         let row = row_of(call.operator);
-        let fields = fields_of(call);
-        let decoded = Decoded {
-            row,
-            operator,
-            fields,
-        };
+        let decoded = decode_as(call, row, operator);
         Some(DecodedCall { call, decoded })
     }
 
     // Is the space of the call read, and nothing.
-    #[tactic(auto, unfolding(model::specs::Refusals::selects_nothing))]
     pub fn selects_nothing(self) -> bool
         ensures { result ≡ selects_nothing self.call }
     {
-        self.decoded.row.reads.s && is_nothing(self.call.s)
+        selects_nothing(self.call, self.decoded.row)
     }
 
     // Condition 3: a name that is read is 0.
-    #[tactic(auto, unfolding(model::specs::Refusals::zero_name))]
     pub fn zero_name(self) -> bool
         ensures { result ≡ zero_name self.call }
     {
-        let c = self.call;
-        let r = self.decoded.row.reads;
-        r.n && c.n.0 == 0 || r.g && c.g.0 == 0 || r.m && c.m.0 == 0 || r.s && zero_space(c.s)
+        zero_name(self.call, self.decoded.row.reads)
     }
 
     // Condition 12: the operator asks for a selection, and there is none.
-    #[tactic(auto, unfolding(model::specs::Refusals::lacks_space))]
     pub fn lacks_space(self) -> bool
         ensures { result ≡ lacks_space self.call }
     {
-        self.selects_nothing() && self.decoded.row.asks.selection
+        lacks_space(self.call, self.decoded.row.asks, self.selects_nothing())
     }
 
     // Condition 4: the operator asks for a numbered space, and the space is UNIVERSE.
-    #[tactic(auto, unfolding(model::specs::Refusals::destroys_universe))]
     pub fn destroys_universe(self) -> bool
         ensures { result ≡ destroys_universe self.call }
     {
-        self.decoded.row.asks.number && is_universe(self.call.s)
+        destroys_universe(self.call, self.decoded.row.asks)
     }
 
     // What C, B and D return.
-    #[tactic(auto, unfolding(model::specs::Steps::first_argument))]
     pub fn first_argument(self) -> u16
         ensures { result ≡ first_argument self.decoded }
     {
-        if self.decoded.row.first {
-            space_name(self.call.s)
-        } else {
-            self.call.n.0
-        }
+        first_argument(self.call, self.decoded.row)
     }
 }

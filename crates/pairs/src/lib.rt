@@ -58,7 +58,7 @@ fn query_for(call: Call) -> Option<Query>
     if o < FIRST_OTHER {
         return query_in(operators::pair_listing(o), f);
     }
-    query_in(operators::other_operator(o)?, f)
+    query_in(operators::known_other(o)?, f)
 }
 
 // Has a list of so many places room for the entries of a query: they are counted only where the tuples could give more.

@@ -28,6 +28,7 @@ use Rattle.model.specs.Refusals.{Stop, stop, first, selects_nothing, list_short,
 use Rattle.model.proofs.Bools.{equal}
 use Rattle.layouts.proofs.Store.{tuples_fit}
 use Rattle.model.proofs.Refusals.{first_none, first_some, not_looked_up}
+use Rattle.model.proofs.Steps.{first_passed}
 use Rattle.chain.specs.Links.{Linked}
 use Rattle.listings.specs.Lists.{NamesAsked}
 use Rattle.listings.proofs.Stores.{names_asked}
@@ -70,6 +71,13 @@ one_applied y none condition e = cc
 one_applied y (some other) condition e = cc
 
 -- ---- the conditions in two parts
+
+-- what is read of a call that passes
+pub unstopped : (c : Call) (d : Decoded) → d ≡ decoded c → first (of_call c) ≡ none → Unstopped d
+unfolding of_call
+unstopped c d e p =
+    let known = first_passed _ _ p in
+    record { call = c; same = e; known = known.0; named = (first_passed _ _ known.1).0 }
 
 -- a condition on the call stops it
 pub call_stops : (C : ℕ) (ts : Tuples) (c : Call) (room : ℕ) (condition : Refusal) → Err condition ≡ checked c (first (of_call c)) → refusal_of C ts c room ≡ some condition

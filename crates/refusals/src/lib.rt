@@ -10,7 +10,7 @@ ghost use Rattle.layouts.specs.Buffer.{capacity_of, tuples_of, is_store};
 ghost use Rattle.chain.specs.Links.{Linked, Hint};
 ghost use Rattle.listings.specs.Lists.{NamesAsked};
 ghost use Rattle.located.specs.Located.{NearIn, Told};
-ghost use Rattle.refusals.specs.Checks.{checked, of_store, of_step};
+ghost use Rattle.refusals.specs.Checks.{checked, of_store, of_step, Unstopped};
 
 use located::{Located, Near};
 use model::{Call, Decoded, Fields, Key, Listing, Operator, Refusal};
@@ -57,20 +57,19 @@ fn key_absent(b: &[u32], hint: usize, k: Key) -> bool
 
 // Condition 5: s is absent.
 #[tactic(auto, unfolding(model::specs::Refusals::space_absent))]
-fn space_absent(b: &[u32], a: NamedCall, l: Located) -> bool
-    requires { Told b.now a.read.decoded l }
-    ensures { result ≡ space_absent a.read.decoded (tuples_of b.now) }
+fn space_absent(b: &[u32], d: Decoded, l: Located) -> bool
+    requires { Told b.now d l × Unstopped d }
+    ensures { result ≡ space_absent d (tuples_of b.now) }
 {
-    a.read.decoded.row.asks.space && !l.space
+    d.row.asks.space && !l.space
 }
 
 // Condition 6: n is absent from s, or, for 57, from 0. Asked where condition 5 does not apply.
 #[tactic(auto, unfolding(model::specs::Refusals::node_absent))]
-fn node_absent(b: &[u32], a: NamedCall, l: Located) -> bool
-    requires { Linked b.now × Told b.now a.read.decoded l × (space_absent a.read.decoded (tuples_of b.now) ≡ false) }
-    ensures { result ≡ node_absent a.read.decoded (tuples_of b.now) }
+fn node_absent(b: &[u32], d: Decoded, l: Located) -> bool
+    requires { Linked b.now × Told b.now d l × Unstopped d × (space_absent d (tuples_of b.now) ≡ false) }
+    ensures { result ≡ node_absent d (tuples_of b.now) }
 {
-    let d = a.read.decoded;
     if d.row.asks.universe {
         return key_absent(b, 0, words::node_key(0, d.fields.n));
     }
@@ -81,12 +80,12 @@ fn node_absent(b: &[u32], a: NamedCall, l: Located) -> bool
 }
 
 // Condition 7: m, where it is read, is absent from s. Asked where condition 5 does not apply.
-#[tactic(auto, using(crate::proofs::Absent::second_read, crate::proofs::Admissions::unstopped), unfolding(model::specs::Refusals::second_absent))]
-fn second_absent(b: &[u32], a: NamedCall, l: Located) -> bool
-    requires { Told b.now a.read.decoded l × (space_absent a.read.decoded (tuples_of b.now) ≡ false) }
-    ensures { result ≡ second_absent a.read.decoded (tuples_of b.now) }
+#[tactic(auto, using(crate::proofs::Absent::second_read), unfolding(model::specs::Refusals::second_absent))]
+fn second_absent(b: &[u32], d: Decoded, l: Located) -> bool
+    requires { Told b.now d l × Unstopped d × (space_absent d (tuples_of b.now) ≡ false) }
+    ensures { result ≡ second_absent d (tuples_of b.now) }
 {
-    a.read.decoded.row.reads.m && !l.second
+    d.row.reads.m && !l.second
 }
 
 // Is nothing present of what C, B, V and X work on.
@@ -125,11 +124,10 @@ fn list_short(b: &[u32], near: Near, l: Listing, f: Fields, room: usize) -> bool
 
 // Condition 9: the answer list is shorter than what the call would list; that is nothing but for S.
 #[tactic(auto, unfolding(model::specs::Refusals::list_short, model::specs::Steps::would_list))]
-fn is_short(b: &[u32], near: Near, a: NamedCall, room: usize) -> bool
-    requires { (is_store b.now ≡ true) × NearIn b.now near }
-    ensures { result ≡ list_short a.read.decoded (tuples_of b.now) room }
+fn is_short(b: &[u32], near: Near, d: Decoded, room: usize) -> bool
+    requires { (is_store b.now ≡ true) × NearIn b.now near × Unstopped d }
+    ensures { result ≡ list_short d (tuples_of b.now) room }
 {
-    let d = a.read.decoded;
     match d.operator {
         Operator::List(l) => list_short(b, near, l, d.fields, room),
         _ => false,
@@ -173,23 +171,17 @@ fn is_full(b: &[u32], near: Near, universe: Near, d: Decoded) -> bool
 
 // Conditions 8 to 10 on a store: the first that stops the call is the error.
 #[tactic(auto, unfolding(layouts::specs::Buffer::capacity_of, crate::specs::Checks::checked, model::specs::Refusals::first, layouts::specs::Buffer::is_store))]
-fn check_step(
-    b: &[u32],
-    a: NamedCall,
-    near: Near,
-    universe: Near,
-    room: usize,
-) -> Result<(), Refusal>
-    requires { (is_store b.now ≡ true) × NearIn b.now near × NearIn b.now universe }
-    ensures { result ≡ checked tt (first (of_step (capacity_of b.now) (tuples_of b.now) a.read.decoded room)) }
+fn check_step(b: &[u32], d: Decoded, near: Near, universe: Near, room: usize) -> Result<(), Refusal>
+    requires { (is_store b.now ≡ true) × NearIn b.now near × NearIn b.now universe × Unstopped d }
+    ensures { result ≡ checked tt (first (of_step (capacity_of b.now) (tuples_of b.now) d room)) }
 {
-    if edge_absent(b, a.read.decoded, near) {
+    if edge_absent(b, d, near) {
         return Err(Refusal::EdgeAbsent);
     }
-    if is_short(b, near, a, room) {
+    if is_short(b, near, d, room) {
         return Err(Refusal::ListTooShort);
     }
-    if is_full(b, near, universe, a.read.decoded) {
+    if is_full(b, near, universe, d) {
         return Err(Refusal::Full);
     }
     Ok(())
@@ -200,22 +192,22 @@ fn check_step(
 #[tactic(auto, unfolding(layouts::specs::Buffer::capacity_of, crate::specs::Checks::checked, model::specs::Refusals::first, layouts::specs::Buffer::is_store))]
 pub fn check_store(
     b: &[u32],
-    a: NamedCall,
+    d: Decoded,
     l: Located,
     universe: Near,
     room: usize,
 ) -> Result<(), Refusal>
-    requires { (is_store b.now ≡ true) × Told b.now a.read.decoded l × NearIn b.now universe }
-    ensures { result ≡ checked tt (first (of_store (capacity_of b.now) (tuples_of b.now) a.read.decoded room)) }
+    requires { (is_store b.now ≡ true) × Told b.now d l × NearIn b.now universe × Unstopped d }
+    ensures { result ≡ checked tt (first (of_store (capacity_of b.now) (tuples_of b.now) d room)) }
 {
-    if space_absent(b, a, l) {
+    if space_absent(b, d, l) {
         return Err(Refusal::SpaceAbsent);
     }
-    if node_absent(b, a, l) {
+    if node_absent(b, d, l) {
         return Err(Refusal::NodeAbsent);
     }
-    if second_absent(b, a, l) {
+    if second_absent(b, d, l) {
         return Err(Refusal::SecondAbsent);
     }
-    check_step(b, a, l.near, universe, room)
+    check_step(b, d, l.near, universe, room)
 }

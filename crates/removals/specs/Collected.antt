@@ -1,5 +1,5 @@
--- The edges that a D operator means; nodes removed one after the other, from a list of their names as words.
-use Rattle.std.specs.Prelude.{List, [], ◌∷◌, ◌≢◌, ◌≡◌, ℕ, ◌<◌, length, get_or}
+-- The edges that a D operator means; nodes removed one after the other, from a list of their names as words; what a removal requires.
+use Rattle.std.specs.Prelude.{true, List, [], ◌∷◌, ◌≢◌, ◌≡◌, ℕ, ◌<◌, length, get_or}
 use Rattle.model.specs.declared.Direction.{Direction}
 use Rattle.model.specs.declared.Fields.{Fields}
 use Rattle.model.specs.declared.Pair.{Pair}
@@ -7,7 +7,9 @@ use Rattle.model.specs.declared.Removal.{Removal}
 use Rattle.taken.specs.declared.EdgesOf.{EdgesOf}
 use Rattle.model.specs.Pairs.{edge_of, node_of, EveryPair}
 use Rattle.model.specs.Tuples.{Tuples, remove}
+use Rattle.layouts.specs.Buffer.{is_store}
 use Rattle.model.specs.Steps.{node_taken}
+use Rattle.chain.specs.Links.{Linked}
 
 -- the edges that a D operator means: those of the pairs of node n with edge g and node m (0: any)
 abbrev pub edges_of : Direction → Fields → ℕ → ℕ → EdgesOf
@@ -43,3 +45,17 @@ NamesIn Removal.US f = f.s ≢ 0
 
 pub record NamesRead (r : Removal) (f : Fields) : Type 0 where
   pub named : NamesIn r f
+
+-- the words that a removal works on: a store where nodes are collected, and for the others records that are linked as those of a store
+abbrev pub WordsOf : Removal → List ℕ → Type 0
+WordsOf (Removal.P d) b = Linked b
+WordsOf (Removal.G d) b = Linked b
+WordsOf (Removal.GG d) b = Linked b
+WordsOf (Removal.GN d) b = Linked b
+WordsOf (Removal.N d) b = is_store b ≡ true
+WordsOf (Removal.NG d) b = is_store b ≡ true
+WordsOf Removal.UN b = Linked b
+WordsOf Removal.US b = Linked b
+
+pub record Removable (r : Removal) (b : List ℕ) : Type 0 where
+  pub words : WordsOf r b

@@ -2,16 +2,16 @@
 // What the D operators remove from a store.
 // An inner layer: what its functions require, their callers have shown; only the entry refuses.
 // By hand: facts about the lent words stand in no struct; chain says why.
-ghost use Rattle.std.specs.Prelude.{◌≢◌, ◌≡◌, true};
+ghost use Rattle.std.specs.Prelude.{◌≢◌, ◌≡◌};
 ghost use Rattle.model.specs.Tuples.{remove};
-ghost use Rattle.layouts.specs.Buffer.{tuples_of, is_store};
+ghost use Rattle.layouts.specs.Buffer.{tuples_of};
 ghost use Rattle.model.specs.Steps.{edges_taken, node_taken, space_taken, destroyed, listed, remove_nodes};
 ghost use Rattle.chain.specs.Links.{Linked, Hint, Edited};
 ghost use Rattle.taken.specs.Selections.{passes};
 ghost use Rattle.located.specs.Located.{NearIn};
 ghost use Rattle.entries.specs.Queries.{Readable};
 ghost use Rattle.listings.specs.Lists.{NamesAsked};
-ghost use Rattle.removals.specs.Collected.{edges_of, remove_each, NamesRead, Named, NodesListed};
+ghost use Rattle.removals.specs.Collected.{edges_of, remove_each, NamesRead, Removable, Named, NodesListed};
 
 use located::Near;
 use model::{Direction, Fields, Listing, Removal};
@@ -83,10 +83,10 @@ fn remove_listed(b: &mut [u32], near: Near, l: Listing, f: Fields)
 }
 
 // By hand: a match on the removal; removals are a closed set, and closures for them would be no shorter.
-// D: removes what the operator names. With g or m as 0 the edges are those with any edge or any node.
-#[tactic(auto, unfolding(model::specs::Steps::destroyed, layouts::specs::Buffer::is_store, model::specs::Steps::listed))]
+// D: removes what the operator names. With g or m as 0 the edges are those with any edge or any node. Only D 24–29 ask for a store.
+#[tactic(auto, unfolding(model::specs::Steps::destroyed, model::specs::Steps::listed))]
 pub fn destroy(b: &mut [u32], near: Near, r: Removal, f: Fields)
-    requires { (is_store b.old ≡ true) × NearIn b.old near × NamesRead r f }
+    requires { Removable r b.old × NearIn b.old near × NamesRead r f }
     ensures { Edited b.old b.new (destroyed r f (tuples_of b.old)) }
 {
     match r {

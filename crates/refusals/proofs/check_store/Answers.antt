@@ -9,7 +9,7 @@ unfolding of_store of_tuples
 returns-then-space_absent c = search stops
 
 pub node_absent-requires : goal.node_absent-requires
-node_absent-requires c = (search store_linked, search, search tested)
+node_absent-requires c = (search store_linked, search, search, search tested)
 
 pub returns-then-node_absent : goal.returns-then-node_absent
 unfolding of_store of_tuples

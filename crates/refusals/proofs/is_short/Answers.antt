@@ -1,6 +1,5 @@
 use Rattle.refusals.proofs.Stops.{short_names}
-use Rattle.refusals.proofs.Admissions.{unstopped}
 use Rattle.refusals.proofs.is_short.Goals as goal
 
 pub list_short-requires : goal.list_short-requires
-list_short-requires c = (search, search, search (short_names, unstopped))
+list_short-requires c = (search, search, search short_names)

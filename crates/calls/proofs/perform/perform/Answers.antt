@@ -1,5 +1,6 @@
 use Rattle.listings.proofs.Stores.{store_readable}
 use Rattle.edit.proofs.Built.{store_linked}
+use Rattle.removals.proofs.Removed.{store_removable}
 use Rattle.calls.proofs.Performs.{ready_create, ready_destroy, ready_names, ready_room, create_grows, create_performed, bind_performed, value_performed, exists_performed, destroy_shrinks, destroy_performed, list_performed}
 use Rattle.calls.proofs.perform.perform.Goals as goal
 
@@ -25,7 +26,7 @@ pub tuple_count-before-requires-in-Destroy : goal.tuple_count-before-requires-in
 tuple_count-before-requires-in-Destroy c = search store_linked
 
 pub destroy-requires : goal.destroy-requires
-destroy-requires c = (search, search, search ready_destroy)
+destroy-requires c = (search store_removable, search, search ready_destroy)
 
 pub overflow_sub-result-in-Destroy : goal.overflow_sub-result-in-Destroy
 overflow_sub-result-in-Destroy c = search destroy_shrinks
