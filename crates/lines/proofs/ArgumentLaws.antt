@@ -102,6 +102,9 @@ field_fits false most ws x a f g =
 abbrev pub NoNumber : Argument → Type 0
 NoNumber a = (x : ℕ) → a ≡ Number x → ⊥
 
+pub no_number : (a : Argument) → NoNumber a → (x : ℕ) → a ≡ Number x → ⊥
+no_number a n = n
+
 -- U is no number
 u_no_number : (most : ℕ) (w : Text) → same_text w (U ∷ []) ≡ true → read_number most w ≡ None
 unfolding read_number plain_digits is_digit

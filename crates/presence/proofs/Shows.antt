@@ -12,7 +12,7 @@ use borrow.Author.Tests.{eqb-true, eqb-false, eq-eqb, ne_eqb, leb-true}
 use Rattle.model.specs.declared.Key.{Key}
 use Rattle.model.specs.Keys.{most_name, node_key}
 use Rattle.model.specs.Tuples.{Tuples, present}
-use Rattle.layouts.specs.Buffer.{key_at, tuples_of}
+use Rattle.layouts.specs.Buffer.{capacity_of, key_at, tuples_of}
 use Rattle.model.specs.Numbers.{every_up_to}
 use Rattle.model.specs.Rules.{small_key, no_edge_without_node, edge_has_end}
 use Rattle.model.proofs.Bools.{and_left, and_right, not_yes, failed, clash}
@@ -86,6 +86,11 @@ module _ (ts : Tuples) (k : Key) where
 pub none_kept_lem : (b : List ℕ) (kept : KeptRecords) → kept ≡ none_kept → KeptHold b kept
 none_kept_lem b kept e =
     subst (KeptHold b) (sym e) (record { size = length-replicate {A = ℕ} kept_count 0; few = omega arith; named = λ j h. absurd (omega arith) })
+
+-- a kept record is a record with a good key
+pub kept_record : (b : List ℕ) (kept : KeptRecords) (j i : ℕ) → KeptHold b kept → j < kept.count → i ≡ get_or kept.records j 0
+    → (i ≢ 0) × (i ≤ capacity_of b) × (good_key (key_at b i) ≡ true)
+kept_record b kept j i K h e = subst (λ (x : ℕ). (x ≢ 0) × (x ≤ capacity_of b) × (good_key (key_at b x) ≡ true)) (sym e) (K.named j h)
 
 -- the second ends of the first so many kept records are there
 pub record EndsThere (b : List ℕ) (kept : KeptRecords) (tried : ℕ) : Type 0 where

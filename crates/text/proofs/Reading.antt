@@ -9,12 +9,12 @@ use native.Mathlib.Numerals.{add-one, one-add}
 use lib.Dec.{eqb, leb}
 use lib.ListN.{length, get_or, take, drop, length-drop}
 use lib.Seq.{drop-cons}
-use borrow.Author.Tests.{eqb-true, leb-true}
+use borrow.Author.Tests.{eqb-true, le-leb, leb-true}
 use Rattle.std.specs.List.{position_or_len}
 use Rattle.std.specs.Str.{bytes_eq}
 use Rattle.std.proofs.lemmas.List.Recursion.{is_position_or_len}
 use Rattle.text.specs.Bytes.{Text, before, same_text}
-use Rattle.text.specs.Numerals.{digit_zero, plain_digits, number_after, read_number}
+use Rattle.text.specs.Numerals.{digit_zero, is_digit, plain_digits, number_after, read_number}
 
 -- the rest of a text from a place in it on
 pub rest : (t : Text) (at : ℕ) → at < length t → drop at t ≡ get_or t at 0 ∷ drop (at + 1) t
@@ -81,6 +81,11 @@ same_bytes (a ∷ x) [] = refl
 same_bytes (a ∷ x) (b ∷ y) = ap (λ (t : Bool). eqb a b && t) (same_bytes x y)
 
 -- the numbers of digits
+
+-- the digits are the digit 0 and the next nine bytes
+pub digit_yes : (b : ℕ) → digit_zero ≤ b → b ≤ digit_zero + 9 → is_digit b ≡ true
+unfolding is_digit
+digit_yes b h l = rw (le-leb digit_zero b h, le-leb b (digit_zero + 9) l)
 
 -- further digits never make a number less
 pub grows : (t : Text) (a : ℕ) → a ≤ number_after a t
