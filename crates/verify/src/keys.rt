@@ -26,7 +26,10 @@ fn key_small(k: Key) -> bool
 fn key_shaped(k: Key) -> bool
     ensures { result ≡ shaped_key k }
 {
-    (k.n != 0 || k.g == 0) && (k.g == 0) == (k.m == 0)
+    if k.g == 0 {
+        return k.m == 0;
+    }
+    k.n != 0 && k.m != 0
 }
 
 // Is a key one that a store may hold.
@@ -42,7 +45,7 @@ fn key_good(k: Key) -> bool
 fn key_follows(key: Key, k: Key) -> bool
     ensures { result ≡ key_follows key k }
 {
-    words::key_below(key, k) && key_good(k)
+    key_good(k) && words::key_below(key, k)
 }
 
 // What the walk of the used chain finds, where the chain ends and its keys are right.
