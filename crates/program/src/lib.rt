@@ -49,6 +49,22 @@ fn read_full<R: Read>(input: &mut R, bytes: &mut [u8]) -> (usize, io::Result<()>
     (done, Ok(()))
 }
 
+// Writes the bytes, up to the first write that fails or takes none.
+// By hand: `write_all` goes on after a write that was interrupted, for ever if each one is.
+fn write_full<W: Write>(output: &mut W, bytes: &[u8]) -> io::Result<()>
+    ensures { OnOk result (Appends (W.contents output.old) (W.contents output.new) bytes.now) }
+{
+    let mut done = 0;
+    while done < bytes.len() {
+        match output.write(&bytes[done..]) {
+            Ok(0) => return Err(io::Error::from(io::ErrorKind::WriteZero)),
+            Ok(count) => done += count,
+            Err(error) => return Err(error),
+        }
+    }
+    Ok(())
+}
+
 // Runs the lines of a script and writes what they print, block by block; a block whose write fails is passed over.
 #[tactic(auto, unfolding(lines::specs::Lines::lines_of, script::specs::Scripts::lines_output))]
 fn run_lines<W: Write>(
@@ -66,7 +82,7 @@ fn run_lines<W: Write>(
     let mut written = Ok(());
     while !rest.is_empty() {
         let block = script::run_block(store, list, rest, &mut out);
-        written = written.and(output.write_all(&out[..block.length]));
+        written = written.and(write_full(output, &out[..block.length]));
         rest = &rest[block.consumed..];
     }
     written
@@ -89,7 +105,7 @@ fn refuse<W: Write>(output: &mut W) -> io::Result<()>
 {
     let mut out: [u8; OUTPUT_BYTES] = [0; OUTPUT_BYTES];
     let length = script::refuse_input(&mut out);
-    output.write_all(&out[..length])
+    write_full(output, &out[..length])
 }
 
 // Runs an input as a script, or refuses it.
@@ -171,6 +187,28 @@ mod tests {
         }
     }
 
+    // Is interrupted at its first write, and then takes everything, and counts it.
+    #[derive(Drop)]
+    struct InterruptedWriter {
+        interrupted: bool,
+        count: usize,
+    }
+
+    impl Write for InterruptedWriter {
+        fn write(&mut self, buf: &[u8]) -> io::Result<usize> {
+            if !self.interrupted {
+                self.interrupted = true;
+                return Err(io::Error::from(io::ErrorKind::Interrupted));
+            }
+            self.count = self.count.saturating_add(buf.len());
+            Ok(buf.len())
+        }
+
+        fn flush(&mut self) -> io::Result<()> {
+            Ok(())
+        }
+    }
+
     // What was read before the failure is answered: `= 1 +1` and a line feed.
     #[test]
     fn read_fails(rt: HostRuntime) {
@@ -189,5 +227,18 @@ mod tests {
         assert!(rt; ended.read.is_ok());
         assert!(rt; ended.write.is_err());
         assert_eq!(rt; output.first, Some(b'='));
+    }
+
+    // Each empty line is answered by `! 11` and a line feed. The block of the first 8,191 lines is given up, and that of the other 1,809 is written.
+    #[test]
+    fn write_interrupted(rt: HostRuntime) {
+        let mut output = InterruptedWriter {
+            interrupted: false,
+            count: 0,
+        };
+        let ended = run(&mut [b'\n'; 10000].as_slice(), &mut output);
+        assert!(rt; ended.read.is_ok());
+        assert!(rt; ended.write.is_err());
+        assert_eq!(rt; output.count, 9045);
     }
 }

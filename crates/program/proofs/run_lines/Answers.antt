@@ -15,7 +15,7 @@ loop-rest-preserved g c =
     let left = take_all _ _ (omega (arith, length-drop c.run_block-block.result.consumed c.loop-rest.rest.now)) in (
       next_block _ _ _ _ _ _ _ _ _ _ _ _ before.0 block left,
       sized,
-      both_good _ _ _ c.and-written.ensures (λ held more. block_written _ _ _ _ _ _ _ _ _ _ _ _ _ _ held block left more) before.2 c.write_all.ensures.bytes,
+      both_good _ _ _ c.and-written.ensures (λ held more. block_written _ _ _ _ _ _ _ _ _ _ _ _ _ _ held block left more) before.2 c.write_full.ensures,
     )
 
 pub returns-clause-ran : goal.returns-clause-ran
