@@ -64,6 +64,7 @@ impl Line<'_> {
     }
 
     // Writes a sign, a blank and a number.
+    #[inline(always)]
     fn put_signed(&mut self, sign: u8, x: u32)
         requires { Room (signed sign x) self.old }
         ensures { Adds (signed sign x) self.old self.new }
