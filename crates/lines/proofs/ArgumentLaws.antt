@@ -102,6 +102,7 @@ field_fits false most ws x a f g =
 abbrev pub NoNumber : Argument → Type 0
 NoNumber a = (x : ℕ) → a ≡ Number x → ⊥
 
+-- and that is what it says of each number
 pub no_number : (a : Argument) → NoNumber a → (x : ℕ) → a ≡ Number x → ⊥
 no_number a n = n
 

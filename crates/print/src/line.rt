@@ -28,7 +28,7 @@ pub struct Line<'a> {
     pub at: usize,
 }
 
-// What an entry is made of is always built into its callers: as calls, a line of many entries takes a third longer.
+// What an entry is made of is always built into its callers: as calls, a line of many entries takes a third longer. So is a sign with its number: as a call, a script of short lines takes a quarter longer.
 impl Line<'_> {
     // Writes one byte.
     #[inline(always)]

@@ -229,7 +229,7 @@ mod tests {
         assert_eq!(rt; output.first, Some(b'='));
     }
 
-    // Each empty line is answered by `! 11` and a line feed. The block of the first 8,191 lines is given up, and that of the other 1,809 is written.
+    // Each empty line is answered by `R 11` and a line feed. The block of the first 8,191 lines is given up, and that of the other 1,809 is written.
     #[test]
     fn write_interrupted(rt: HostRuntime) {
         let mut output = InterruptedWriter {

@@ -5,7 +5,7 @@ use mathlib.Core.Path.{◌≡◌, sym, ap, ◌∙◌, subst}
 use mathlib.Core.List.{List}
 use Prim.Native.Nat.{ℕ}
 use Rattle.layouts.specs.Buffer.{tuples_of, is_store}
-use Rattle.chain.specs.Links.{Linked, Edited}
+use Rattle.chain.specs.Links.{Edited}
 use Rattle.edit.proofs.Built.{store_linked}
 use Rattle.model.specs.declared.Fields.{Fields}
 use Rattle.model.specs.declared.Direction.{Direction}
@@ -16,7 +16,7 @@ use Rattle.model.specs.Steps.{edges_taken, destroyed}
 use Rattle.taken.specs.Selections.{passes}
 use Rattle.taken.proofs.Passes.{passes_any, passes_edge, passes_node, passes_both}
 use Rattle.taken.specs.declared.EdgesOf.{EdgesOf}
-use Rattle.removals.specs.Collected.{edges_of, NamesIn, NamesRead, WordsOf, Removable}
+use Rattle.removals.specs.Collected.{edges_of, NamesIn, NamesRead, Removable}
 
 -- the same test of pairs, the same tuples left
 same_test : (d : Direction) (s n : ℕ) (p q : Pair → Bool) (ts : Tuples) → ((x : Pair) → p x ≡ q x)
@@ -71,34 +71,6 @@ module _ (r : Removal) (f : Fields) (h : NamesRead r f) where
     unfolding destroyed
     between_removed d e is E D = left_as _ is (by_test d e (edges_of d f 0 f.m) _ E (passes_node f.m (names_of is)) D)
 
--- ---- the words that a removal works on
-
 -- a store serves for every removal
 pub store_removable : (r : Removal) (b : List ℕ) → is_store b ≡ true → Removable r b
-store_removable (Removal.P d) b e = record { words = store_linked b e }
-store_removable (Removal.G d) b e = record { words = store_linked b e }
-store_removable (Removal.GG d) b e = record { words = store_linked b e }
-store_removable (Removal.GN d) b e = record { words = store_linked b e }
-store_removable (Removal.N d) b e = record { words = e }
-store_removable (Removal.NG d) b e = record { words = e }
-store_removable Removal.UN b e = record { words = store_linked b e }
-store_removable Removal.US b e = record { words = store_linked b e }
-
--- each works on linked records
-pub removable_linked : (r : Removal) (b : List ℕ) → Removable r b → Linked b
-removable_linked (Removal.P d) b h = h.words
-removable_linked (Removal.G d) b h = h.words
-removable_linked (Removal.GG d) b h = h.words
-removable_linked (Removal.GN d) b h = h.words
-removable_linked (Removal.N d) b h = store_linked b h.words
-removable_linked (Removal.NG d) b h = store_linked b h.words
-removable_linked Removal.UN b h = h.words
-removable_linked Removal.US b h = h.words
-
--- .. and those that collect nodes on a store
-module _ (r : Removal) (b : List ℕ) (h : Removable r b) (d : Direction) where
-  pub store_of_nodes : r ≡ Removal.N d → is_store b ≡ true
-  store_of_nodes e = subst (λ (y : Removal). WordsOf y b) e h.words
-
-  pub store_of_named_nodes : r ≡ Removal.NG d → is_store b ≡ true
-  store_of_named_nodes e = subst (λ (y : Removal). WordsOf y b) e h.words
+store_removable r b e = record { linked = store_linked b e; nodes = λ d i. e; named_nodes = λ d i. e }

@@ -46,16 +46,8 @@ NamesIn Removal.US f = f.s ≢ 0
 pub record NamesRead (r : Removal) (f : Fields) : Type 0 where
   pub named : NamesIn r f
 
--- the words that a removal works on: a store where nodes are collected, and for the others records that are linked as those of a store
-abbrev pub WordsOf : Removal → List ℕ → Type 0
-WordsOf (Removal.P d) b = Linked b
-WordsOf (Removal.G d) b = Linked b
-WordsOf (Removal.GG d) b = Linked b
-WordsOf (Removal.GN d) b = Linked b
-WordsOf (Removal.N d) b = is_store b ≡ true
-WordsOf (Removal.NG d) b = is_store b ≡ true
-WordsOf Removal.UN b = Linked b
-WordsOf Removal.US b = Linked b
-
+-- the words that a removal works on: linked records, and where nodes are collected, by any pair or by the edge's name, a store
 pub record Removable (r : Removal) (b : List ℕ) : Type 0 where
-  pub words : WordsOf r b
+  pub linked : Linked b
+  pub nodes : (d : Direction) → r ≡ Removal.N d → is_store b ≡ true
+  pub named_nodes : (d : Direction) → r ≡ Removal.NG d → is_store b ≡ true
