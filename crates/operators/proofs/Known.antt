@@ -20,6 +20,11 @@ known_some o op h l e =
     ap Some e
     ∙ sym (ap (λ (t : Bool). cond t (Some (operator_of o)) None) (and_both (leb 1 o) (leb o 57) (le-leb 1 o h) (le-leb o 57 (omega (arith, l)))))
 
+-- and 0 has none
+pub zero_none : (o : ℕ) → o ≡ 0 → None ≡ known_operator o
+unfolding known_operator
+zero_none o e = sym (ap (λ (x : ℕ). cond (within 1 57 x) (Some (operator_of x)) None) e)
+
 -- a call whose number has none
 pub not_known : (c : Call) (x : Option Operator) → x ≡ known_operator c.operator → x ≡ None → None ≡ cond (no_operator c) None (Some c)
 unfolding known_operator no_operator
